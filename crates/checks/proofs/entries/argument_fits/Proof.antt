@@ -1,0 +1,50 @@
+-- `checks::entries::argument_fits` meets its contract, test by test. Assumes nothing.
+use borrow.Author.Needs.{needs}
+use borrow.Author.Tests.{le-leb, lt-leb}
+use Rattle.checks.specs.Good.{argumentFits}
+use Rattle.checks.proofs.entries.argument_fits.Statement.{statement}
+use Rattle.checks.proofs.entries.argument_fits.Tie as tie
+
+kind-of-requires : tie.Need-kind-of-requires
+kind-of-requires c κs = search needs
+
+word-requires : tie.Need-word-requires
+word-requires c κs = search needs
+
+lowest-argument-requires : tie.Need-lowest-argument-requires
+lowest-argument-requires c κs = search needs
+
+returns : tie.Need-returns
+unfolding argumentFits
+returns c =
+    rw (
+      ← c .before .before .before .kind-of .ensures,
+      ← c .before .before .word .ensures,
+      ← c .before .lowest-argument .ensures,
+      lt-leb _ _ (c .if1 .taken),
+    )
+
+highest-argument-requires : tie.Need-highest-argument-requires
+highest-argument-requires c κs = search needs
+
+returns-2 : tie.Need-returns-2
+unfolding argumentFits
+returns-2 c =
+    rw (
+      ← c .before .before .before .before .kind-of .ensures,
+      ← c .before .before .before .word .ensures,
+      ← c .before .before .lowest-argument .ensures,
+      ← c .highest-argument .ensures,
+      le-leb _ _ (c .before .if1 .left),
+    )
+
+pub argument-fits-spec : {M : Type 1} → statement M
+argument-fits-spec =
+    tie.close
+    (tie.spec
+    kind-of-requires
+    word-requires
+    lowest-argument-requires
+    returns
+    highest-argument-requires
+    returns-2)

@@ -1,0 +1,46 @@
+-- `checks::entries::check_table` meets its contract: the length first, then the lowest bad entry. Assumes nothing.
+use mathlib.Core.Path.{sym, _∙_}
+use lib.ListN.{length}
+use borrow.Author.Needs.{needs}
+use borrow.Author.Tests.{not-true, not-false}
+use Rattle.checks.specs.Checked.{tableChecked}
+use Rattle.checks.proofs.Good.{tableLengthFits-plain}
+use Rattle.checks.proofs.entries.check_table.Statement.{statement}
+use Rattle.checks.proofs.entries.check_table.Tie as tie
+
+table-length-fits-requires : tie.Need-table-length-fits-requires
+table-length-fits-requires c κs = search needs
+
+returns : tie.Need-returns
+unfolding tableChecked
+returns c =
+    rw (← c .before .table-length-fits .ensures, not-true (c .before .table-length-fits .result) (c .if1 .taken))
+
+lowest-bad-entry-requires : tie.Need-lowest-bad-entry-requires
+lowest-bad-entry-requires c κs =
+    tableLengthFits-plain
+    (length (c .before .before .before .args .table .now)) .0
+    (sym (c .before .table-length-fits .ensures) ∙ not-false _ (c .if1 .left)) .most
+
+answered-requires : tie.Need-answered-requires
+answered-requires c κs = search needs
+
+returns-2 : tie.Need-returns-2
+unfolding tableChecked
+returns-2 c =
+    rw (
+      ← c .before .before .before .table-length-fits .ensures,
+      not-false (c .before .before .before .table-length-fits .result) (c .before .before .if1 .left),
+      ← c .before .lowest-bad-entry .ensures,
+    )
+    (c .answered .ensures)
+
+pub check-table-spec : {M : Type 1} → statement M
+check-table-spec =
+    tie.close
+    (tie.spec
+    table-length-fits-requires
+    returns
+    lowest-bad-entry-requires
+    answered-requires
+    returns-2)

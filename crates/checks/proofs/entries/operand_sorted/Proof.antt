@@ -1,0 +1,60 @@
+-- `checks::entries::operand_sorted` meets its contract: CALL is its own case. Assumes nothing.
+use borrow.Author.Needs.{needs}
+use borrow.Author.Tests.{eq-eqb, ne-eqb}
+use Rattle.checks.specs.Good.{operandSorted}
+use Rattle.checks.proofs.entries.operand_sorted.Statement.{statement}
+use Rattle.checks.proofs.entries.operand_sorted.Tie as tie
+
+kind-of-requires : tie.Need-kind-of-requires
+kind-of-requires c κs = search needs
+
+held-requires : tie.Need-held-requires
+held-requires c κs = search needs
+
+kind-of-requires-2 : tie.Need-kind-of-requires-2
+kind-of-requires-2 c κs = search needs
+
+returns : tie.Need-returns
+unfolding operandSorted
+returns c =
+    rw (
+      ← c .before .before .before .kind-of .ensures,
+      eq-eqb _ _ (c .if1 .taken),
+      ← c .before .before .held .ensures,
+      ← c .before .kind-of2 .ensures,
+    )
+
+sort-of-requires : tie.Need-sort-of-requires
+sort-of-requires c κs = search needs
+
+takes-requires : tie.Need-takes-requires
+takes-requires c κs = search needs
+
+same-requires : tie.Need-same-requires
+same-requires c κs = search needs
+
+returns-2 : tie.Need-returns-2
+unfolding operandSorted
+returns-2 c =
+    rw (
+      ← c .before .before .before .before .before .before .kind-of .ensures,
+      ne-eqb _ _ (c .before .before .before .if1 .left),
+      ← c .before .before .before .before .before .held .ensures,
+      ← c .before .before .before .before .kind-of2 .ensures,
+      ← c .before .before .sort-of .ensures,
+      ← c .before .takes .ensures,
+    )
+    (c .same .ensures)
+
+pub operand-sorted-spec : {M : Type 1} → statement M
+operand-sorted-spec =
+    tie.close
+    (tie.spec
+    kind-of-requires
+    held-requires
+    kind-of-requires-2
+    returns
+    sort-of-requires
+    takes-requires
+    same-requires
+    returns-2)

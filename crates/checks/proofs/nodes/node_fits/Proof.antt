@@ -1,0 +1,70 @@
+-- `checks::nodes::node_fits` meets its contract, test by test. Assumes nothing.
+use borrow.Author.Needs.{needs}
+use borrow.Author.Tests.{le-leb, lt-leb, not-true, not-false}
+use Rattle.checks.specs.Good.{goodNode}
+use Rattle.checks.proofs.nodes.node_fits.Statement.{statement}
+use Rattle.checks.proofs.nodes.node_fits.Tie as tie
+
+word-requires : tie.Need-word-requires
+word-requires c κs = search needs
+
+returns : tie.Need-returns
+unfolding goodNode
+returns c = rw (← c .before .word .ensures, lt-leb _ _ (c .if1 .taken))
+
+word-requires-2 : tie.Need-word-requires-2
+word-requires-2 c κs = search needs
+
+returns-2 : tie.Need-returns-2
+unfolding goodNode
+returns-2 c =
+    rw (
+      ← c .before .before .before .word .ensures,
+      le-leb _ _ (c .before .before .if1 .left),
+      ← c .before .word2 .ensures,
+      lt-leb _ _ (c .if2 .taken),
+    )
+
+children-below-requires : tie.Need-children-below-requires
+children-below-requires c κs = search needs
+
+returns-3 : tie.Need-returns-3
+unfolding goodNode
+returns-3 c =
+    rw (
+      ← c .before .before .before .before .before .word .ensures,
+      le-leb _ _ (c .before .before .before .before .if1 .left),
+      ← c .before .before .before .word2 .ensures,
+      le-leb _ _ (c .before .before .if2 .left),
+      ← c .before .children-below .ensures,
+      not-true (c .before .children-below .result) (c .if3 .taken),
+    )
+
+unused-zero-requires : tie.Need-unused-zero-requires
+unused-zero-requires c κs = search needs
+
+returns-4 : tie.Need-returns-4
+unfolding goodNode
+returns-4 c =
+    rw (
+      ← c .before .before .before .before .before .before .word .ensures,
+      le-leb _ _ (c .before .before .before .before .before .if1 .left),
+      ← c .before .before .before .before .word2 .ensures,
+      le-leb _ _ (c .before .before .before .if2 .left),
+      ← c .before .before .children-below .ensures,
+      not-false (c .before .before .children-below .result) (c .before .if3 .left),
+    )
+    (c .unused-zero .ensures)
+
+pub node-fits-spec : {M : Type 1} → statement M
+node-fits-spec =
+    tie.close
+    (tie.spec
+    word-requires
+    returns
+    word-requires-2
+    returns-2
+    children-below-requires
+    returns-3
+    unused-zero-requires
+    returns-4)

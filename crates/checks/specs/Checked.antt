@@ -1,0 +1,43 @@
+-- What the two checks answer, on every table and every store.
+use mathlib.Core.Bool.{Bool, _&&_}
+use mathlib.Core.Option.{Option, none, some}
+use mathlib.Core.List.{List}
+use Prim.Native.Nat.{ℕ, _%_}
+use lib.Dec.{leb, ltb, eqb}
+use lib.ListN.{length}
+use Rattle.words.specs.Tests.{if_then_else_, rejected}
+use Rattle.words.specs.Words.{rows}
+use Rattle.checks.specs.Good.{goodEntry, goodNode}
+use Rattle.checks.specs.declared.Checked.{Checked}
+use Rattle.checks.specs.declared.Found.{Found}
+use Rattle.checks.specs.declared.Found.the-variants.{At, Nothing}
+
+-- an answer with its place
+abbrev pub checked : ℕ → ℕ → Checked
+checked a p = record { answer = a; place = p }
+
+-- answer a with the place that was found; nothing found is answer 0 with place 0
+abbrev pub found : ℕ → Option ℕ → Checked
+found a none = checked 0 0
+found a (some k) = checked a k
+
+-- the place that a search ended at
+abbrev pub placeOf : Found → Option ℕ
+placeOf (At k) = some k
+placeOf Nothing = none
+
+-- the table is not empty, a multiple of 8, and at most 32,768 words
+unfoldable pub tableLengthFits : ℕ → Bool
+tableLengthFits n = ltb 0 n && (eqb (n % 8) 0 && leb n 32768)
+
+-- the store is a multiple of 8 and at most 1,048,576 words
+unfoldable pub storeLengthFits : ℕ → Bool
+storeLengthFits n = eqb (n % 8) 0 && leb n 1048576
+
+-- the table check: 2 for a bad length, 3 with the lowest bad entry
+unfoldable pub tableChecked : List ℕ → Checked
+tableChecked t = if tableLengthFits (length t) then found 3 (rejected (goodEntry t) 0 (rows t)) else checked 2 0
+
+-- the store check: 2 for a bad length or a mark above the store's nodes, 4 with the lowest bad node below the mark
+unfoldable pub storeChecked : List ℕ → ℕ → Checked
+storeChecked s mark = if storeLengthFits (length s) && leb mark (rows s) then found 4 (rejected (goodNode s) 0 mark) else checked 2 0

@@ -1,0 +1,69 @@
+-- What the two checks promise, as types. Each is proved in proofs/Promises.antt under its name.
+use mathlib.Core.Path.{_≡_}
+use mathlib.Core.Bool.{Bool, true, false}
+use mathlib.Core.Logic.{_↔_}
+use mathlib.Core.List.{List}
+use Prim.Native.Nat.{ℕ, _≤_, _<_}
+use lib.ListN.{length}
+use Rattle.words.specs.Words.{rows}
+use Rattle.checks.specs.declared.Checked.{Checked}
+use Rattle.checks.specs.Good.{goodEntry, goodNode}
+use Rattle.checks.specs.Plain.{TableLength, StoreLength, Entry, Node}
+use Rattle.checks.specs.Checked.{checked, tableChecked, storeChecked}
+
+-- every number below n is good
+abbrev pub AllGood : (ℕ → Bool) → ℕ → Type 0
+AllGood good n = (k : ℕ) → k < n → good k ≡ true
+
+-- p is the lowest number below n that is not good
+pub record Lowest (good : ℕ → Bool) (n p : ℕ) : Type 0 where
+  pub inside : p < n
+  pub bad : good p ≡ false
+  pub before : AllGood good p
+
+-- answer 0: the length fits, and every entry is good
+abbrev pub tablePasses : Type 0
+tablePasses = (t : List ℕ) → tableChecked t .answer ≡ 0 ↔ TableLength (length t) × AllGood (goodEntry t) (rows t)
+
+-- answer 3 with its place: the length fits, and the place is the lowest bad entry
+abbrev pub tableRejects : Type 0
+tableRejects =
+    (t : List ℕ) (p : ℕ) → tableChecked t ≡ checked 3 p ↔ TableLength (length t) × Lowest (goodEntry t) (rows t) p
+
+-- answer 2: the length does not fit
+abbrev pub tableRefuses : Type 0
+tableRefuses = (t : List ℕ) → tableChecked t ≡ checked 2 0 ↔ ¬ TableLength (length t)
+
+-- the length fits, and the mark is at most the store's nodes
+abbrev pub StoreFits : List ℕ → ℕ → Type 0
+StoreFits s mark = StoreLength (length s) × (mark ≤ rows s)
+
+-- answer 0: the length and the mark fit, and every node below the mark is good
+abbrev pub storePasses : Type 0
+storePasses = (s : List ℕ) (mark : ℕ) → storeChecked s mark .answer ≡ 0 ↔ StoreFits s mark × AllGood (goodNode s) mark
+
+-- answer 4 with its place: the length and the mark fit, and the place is the lowest bad node below the mark
+abbrev pub storeRejects : Type 0
+storeRejects =
+    (s : List ℕ) (mark p : ℕ) → storeChecked s mark ≡ checked 4 p ↔ StoreFits s mark × Lowest (goodNode s) mark p
+
+-- answer 2: the length or the mark does not fit
+abbrev pub storeRefuses : Type 0
+storeRefuses = (s : List ℕ) (mark : ℕ) → storeChecked s mark ≡ checked 2 0 ↔ ¬ StoreFits s mark
+
+-- two outcomes of the table check that satisfy its contract agree
+abbrev pub tableAgrees : Type 0
+tableAgrees = (t : List ℕ) (r r′ : Checked) → r ≡ tableChecked t → r′ ≡ tableChecked t → r ≡ r′
+
+-- two outcomes of the store check that satisfy its contract agree
+abbrev pub storeAgrees : Type 0
+storeAgrees =
+    (s : List ℕ) (mark : ℕ) (r r′ : Checked) → r ≡ storeChecked s mark → r′ ≡ storeChecked s mark → r ≡ r′
+
+-- a good entry is the plain facts
+abbrev pub entryPlain : Type 0
+entryPlain = (t : List ℕ) (e : ℕ) → goodEntry t e ≡ true ↔ Entry t e
+
+-- a good node is the plain facts
+abbrev pub nodePlain : Type 0
+nodePlain = (s : List ℕ) (k : ℕ) → goodNode s k ≡ true ↔ Node s k

@@ -1,0 +1,143 @@
+// The twenty kinds: constant tables of document 01's chapter "The strategy table", and the sort of an entry.
+ghost use mathlib.Core.Path.{_≡_};
+ghost use Prim.Native.Nat.{_≤_};
+ghost use Rattle.checks.specs.Kinds.{kind, lowest, highest, sortOf};
+ghost use Rattle.checks.specs.Kinds as table;
+
+// What an entry may be used as. A kind above 19 has no sort.
+pub enum Sort {
+    Strategy,
+    Pattern,
+    Neither,
+}
+
+// The least number of operands of each kind.
+const LEAST: [u32; 20] = [0, 0, 1, 1, 2, 2, 2, 1, 1, 1, 0, 1, 1, 1, 1, 1, 1, 1, 0, 0];
+
+// The most operands of each kind.
+const MOST: [u32; 20] = [0, 0, 1, 1, 2, 2, 2, 1, 1, 1, 6, 1, 1, 1, 1, 1, 1, 1, 0, 6];
+
+// The least argument of each kind: PATH's alone is not 0.
+const LOWEST: [u32; 20] = [0, 0, 0, 0, 0, 0, 0, 0, 0, 1, 0, 0, 0, 0, 0, 0, 0, 0, 0, 0];
+
+// The greatest argument of each kind; 0 where none is named.
+const HIGHEST: [u32; 20] = [
+    0,
+    0,
+    0,
+    0,
+    0,
+    0,
+    0,
+    0,
+    0,
+    6,
+    65535,
+    0,
+    0,
+    0,
+    0,
+    0,
+    4294967295,
+    0,
+    31,
+    65535,
+];
+
+// The sort of the operands of each kind: MATCH, BUILD and PCON take patterns.
+const TAKES: [Sort; 20] = [
+    Sort::Strategy,
+    Sort::Strategy,
+    Sort::Strategy,
+    Sort::Strategy,
+    Sort::Strategy,
+    Sort::Strategy,
+    Sort::Strategy,
+    Sort::Strategy,
+    Sort::Strategy,
+    Sort::Strategy,
+    Sort::Strategy,
+    Sort::Strategy,
+    Sort::Strategy,
+    Sort::Strategy,
+    Sort::Pattern,
+    Sort::Pattern,
+    Sort::Strategy,
+    Sort::Strategy,
+    Sort::Strategy,
+    Sort::Pattern,
+];
+
+// The least number of operands of the kind k.
+pub fn least(k: u32) -> u32
+    requires { ⌜ k ≤ 19 ⌝ }
+    ensures { λ r. ⌜ r ≡ kind k .least ⌝ }
+{
+    LEAST[k as usize]
+}
+
+// The most operands of the kind k.
+pub fn most(k: u32) -> u32
+    requires { ⌜ k ≤ 19 ⌝ }
+    ensures { λ r. ⌜ r ≡ kind k .most ⌝ }
+{
+    MOST[k as usize]
+}
+
+// The least argument of the kind k.
+pub fn lowest_argument(k: u32) -> u32
+    requires { ⌜ k ≤ 19 ⌝ }
+    ensures { λ r. ⌜ r ≡ lowest (kind k .argument) ⌝ }
+{
+    LOWEST[k as usize]
+}
+
+// The greatest argument of the kind k.
+pub fn highest_argument(k: u32) -> u32
+    requires { ⌜ k ≤ 19 ⌝ }
+    ensures { λ r. ⌜ r ≡ highest (kind k .argument) ⌝ }
+{
+    HIGHEST[k as usize]
+}
+
+// The sort of the operands of the kind k.
+pub fn takes(k: u32) -> Sort
+    requires { ⌜ k ≤ 19 ⌝ }
+    ensures { λ r. ⌜ r ≡ table.takes k ⌝ }
+{
+    TAKES[k as usize]
+}
+
+// The sort of an entry of the kind k.
+pub fn sort_of(k: u32) -> Sort
+    ensures { λ r. ⌜ r ≡ sortOf k ⌝ }
+{
+    match k {
+        0..=17 => Sort::Strategy,
+        18..=19 => Sort::Pattern,
+        _ => Sort::Neither,
+    }
+}
+
+// The two sorts are the same.
+pub fn same(a: Sort, b: Sort) -> bool
+    ensures { λ r. ⌜ r ≡ table.same a b ⌝ }
+{
+    match a {
+        Sort::Strategy => match b {
+            Sort::Strategy => true,
+            Sort::Pattern => false,
+            Sort::Neither => false,
+        },
+        Sort::Pattern => match b {
+            Sort::Strategy => false,
+            Sort::Pattern => true,
+            Sort::Neither => false,
+        },
+        Sort::Neither => match b {
+            Sort::Strategy => false,
+            Sort::Pattern => false,
+            Sort::Neither => true,
+        },
+    }
+}

@@ -1,0 +1,116 @@
+-- The demands, as statements about the definitions. Each has its proof in proofs/Demands.antt, under the same name in small
+-- letters.
+use mathlib.Core.Path.{_≡_}
+use mathlib.Core.Bool.{true}
+use mathlib.Core.Option.{some}
+use mathlib.Core.Logic.{_↔_, _⊎_}
+use mathlib.Core.List.{List, [], _∷_}
+use Prim.Native.Nat.{ℕ, _+_, _*_, _≤_, _<_}
+use lib.ListN.{length, take}
+use Rattle.words.specs.Words.{rows}
+use Rattle.checks.specs.Good.{goodNode}
+use Rattle.meaning.specs.Term.{Term, con, kids}
+use Rattle.meaning.specs.Bindings.{Bindings}
+use Rattle.meaning.specs.Table.{Table, SEQ, PATH, table}
+use Rattle.meaning.specs.Plan.{keep, ret, fail, ask}
+use Rattle.meaning.specs.Rules.{Visit, apply, does, compare}
+use Rattle.meaning.specs.Derivation.{Out, done, failed, Trace, over, visit, visits, left, terms, Der, trace as traceDer}
+use Rattle.meaning.specs.Limits.{Limit, Res, ended, lost, cut, counting, run}
+use Rattle.meaning.specs.System.{Env, _∶_is_, _⊢_⇒_, trace}
+use Rattle.meaning.specs.Beginning.{Begun, Given, Fits, Met, stop, level, trace as traceBegun}
+use Rattle.meaning.specs.Store.{Input, Accepted, State, Ran, ran, term, meant, bindings, value, deepest}
+use Rattle.meaning.specs.Free.{Free, Closed}
+
+-- The plans' rules and the paper's rules derive the same, and do the same on the way.
+abbrev pub Rules-agree : Type 0
+Rules-agree =
+    (T : Table) (q : Visit Term) (o : Out Term Env) (n : Trace)
+    → ((r : T ⊢ q ⇒ o) × (trace r ≡ n)) ↔ ((d : Der terms (does T) (does T q) o) × (traceDer d ≡ n))
+
+-- a visit has one outcome, and one way to it
+abbrev pub Deterministic : Type 0
+Deterministic = (T : Table) (q : Visit Term) (o o′ : Out Term Env) (r : T ⊢ q ⇒ o) (r′ : T ⊢ q ⇒ o′) → (o ≡ o′) × (trace r ≡ trace r′)
+
+-- the start's own visit, and what it does
+abbrev pub whole : Trace → Trace
+whole t = visit keep t over
+
+-- what a run's answer says: done and failed are a derivation that fits, a cut-off is a beginning that fits and meets its limit
+abbrev pub Says : Table → Given → Visit Term → Res Term Env ℕ (Unit {0}) → Type 0
+Says T g q (ended t b m u) = (r : T ⊢ q ⇒ done t b) × Fits g (whole (trace r)) u × (m ≡ g .mark + left (whole (trace r)))
+Says T g q (lost l u) = (r : T ⊢ q ⇒ failed) × Fits g (whole (trace r)) u
+Says T g q (cut c l u) = (s : Begun T (ask keep q ret fail) (stop c)) × Fits g (traceBegun s) u × Met g c (level s) (left (traceBegun s)) u
+
+-- Demand 2, terms as values: the run answers r exactly when r says what is so.
+abbrev pub Demand-2-values : Type 0
+Demand-2-values =
+    (T : Table) (g : Given) (q : Visit Term) (r : Res Term Env ℕ (Unit {0})) → g .mark ≤ g .size
+    → (run (counting terms (g .size)) (does T) (g .nesting) q (g .mark) (g .units) ≡ r) ↔ Says T g q r
+
+-- what an accepted input gives a run, and what it starts with
+abbrev pub limits : Input → Given
+limits i = record { units = i .units; size = rows (i .store); mark = i .mark; nesting = deepest }
+
+abbrev pub begins : Input → Visit Term
+begins i = apply (i .start) (term (i .store) (i .subject)) (meant (i .store) (bindings (i .bindings)))
+
+-- Demand 2 over the words: on an accepted input the run answers r exactly when r says what is so of the terms that the words name.
+abbrev pub Demand-2 : Type 0
+Demand-2 = (i : Input) → Accepted i → (r : Res Term Env ℕ (Unit {0})) → (value (ran i) ≡ r) ↔ Says (table (i .table)) (limits i) (begins i) r
+
+-- nodes below the mark and the store's length stay
+pub record Kept (w : List ℕ) (m : ℕ) (w′ : List ℕ) : Type 0 where
+  pub long : length w′ ≡ length w
+  pub same : take (8 * m) w′ ≡ take (8 * m) w
+
+-- a good store with a good state in it: what was given back by a run passes the check again
+pub record Sound (w : List ℕ) (m k : ℕ) (b : Bindings ℕ) : Type 0 where
+  pub fits : m ≤ rows w
+  pub good : (j : ℕ) → j < m → goodNode w j ≡ true
+  pub subject : k < m
+  pub bound : (v j : ℕ) → b v ≡ some j → j < m
+
+-- what a run over the words leaves, s being the store before it
+abbrev pub Leaves : List ℕ → ℕ → Ran → Type 0
+Leaves w m (ended k b s u) = (m ≤ s .mark) × Kept w m (s .words) × Sound (s .words) (s .mark) k b
+Leaves w m (lost w′ u) = Kept w m w′
+Leaves w m (cut c w′ u) = Kept w m w′
+
+-- Over the words and over values a run ends alike; nodes in use stay, new ones come after, and what is left is sound.
+abbrev pub Over-the-words : Type 0
+Over-the-words =
+    (i : Input) → Accepted i
+    → (value (ran i) ≡ run (counting terms (rows (i .store))) (does (table (i .table))) deepest (begins i) (i .mark) (i .units))
+    × Leaves (i .store) (i .mark) (ran i)
+
+-- Two terms compare equal exactly when they are equal as values.
+abbrev pub Compared : Type 0
+Compared = (T : Table) (g t : Term) (b : Env) → ((T ⊢ compare g t b ⇒ done t b) ↔ (g ≡ t)) × ((T ⊢ compare g t b ⇒ failed) ↔ (g ≡ t → ⊥))
+
+-- A strategy leaves every binding outside its free variables as it was.
+abbrev pub Outside-free : Type 0
+Outside-free = (T : Table) (x : ℕ) (t t′ : Term) (b b′ : Env) → T ⊢ apply x t b ⇒ done t′ b′ → (v : ℕ) → (Free T x v → ⊥) → b′ v ≡ b v
+
+-- Without free variables the bindings come back as they went in.
+abbrev pub Closed-keeps : Type 0
+Closed-keeps = (T : Table) (x : ℕ) (t t′ : Term) (b b′ : Env) → Closed T x → T ⊢ apply x t b ⇒ done t′ b′ → b′ ≡ b
+
+-- entry e runs x at the place π: under those PATHs, the first outermost
+pub data At (T : Table) (x : ℕ) : ℕ → List ℕ → Type 0 where
+  at-root : At T x x []
+  at-child : {e y i : ℕ} {π : List ℕ} → T ∶ e is PATH i y → At T x y π → At T x e (i ∷ π)
+
+-- the place π is a beginning of the place ρ
+pub data Begins : List ℕ → List ℕ → Type 0 where
+  begins-root : {ρ : List ℕ} → Begins [] ρ
+  begins-child : {i : ℕ} {π ρ : List ℕ} → Begins π ρ → Begins (i ∷ π) (i ∷ ρ)
+
+-- Demand 3: e runs x at π and f runs y at ρ, neither place inside the other; s and s′ are the two orders.
+abbrev pub Demand-3 : Type 0
+Demand-3 =
+    (T : Table) (x y e f s s′ : ℕ) (π ρ : List ℕ) (t : Term) (b : Env) (o o′ : Out Term Env)
+    → Closed T x → Closed T y → At T x e π → At T y f ρ → (Begins π ρ → ⊥) → (Begins ρ π → ⊥)
+    → T ∶ s is SEQ e f → T ∶ s′ is SEQ f e
+    → T ⊢ apply e t b ⇒ o → T ⊢ apply f t b ⇒ o′
+    → ((T ⊢ apply s t b ⇒ failed) × (T ⊢ apply s′ t b ⇒ failed))
+    ⊎ ((t′ : Term) × (T ⊢ apply s t b ⇒ done t′ b) × (T ⊢ apply s′ t b ⇒ done t′ b))

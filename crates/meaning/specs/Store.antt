@@ -1,0 +1,110 @@
+-- The same rules over the store's words, and what the words mean: the term that a node names, the bindings that the
+-- bindings' words are.
+use mathlib.Core.Path.{_≡_}
+use mathlib.Core.Option.{Option, none, some}
+use mathlib.Core.List.{List, [], _∷_, _++_, map}
+use Prim.Native.Nat.{ℕ, zero, suc, _+_, _-_, _*_, _≤_, _<_}
+use lib.Dec.{leb}
+use lib.ListN.{length, getD, take, replicate}
+use Rattle.words.specs.Words.{wordAt, rows, putRow}
+use Rattle.checks.specs.Kinds.{sortOf, variables}
+use Rattle.checks.specs.Good.{kindOf, constructorOf, childCount}
+use Rattle.checks.specs.Checked.{checked, tableChecked, storeChecked}
+use Rattle.checks.specs.declared.kinds.Sort.the-variants.{Strategy}
+use Rattle.meaning.specs.Term.{Term, mk}
+use Rattle.meaning.specs.Bindings.{Bindings}
+use Rattle.meaning.specs.Table.{six, table}
+use Rattle.meaning.specs.Rules.{Visit, apply, does}
+use Rattle.meaning.specs.Limits.{Store, Limit, Res, ended, lost, cut, run}
+use Rattle.meaning.specs.System.{Env}
+
+-- the children of node k
+abbrev pub children : List ℕ → ℕ → List ℕ
+children w k = take (childCount w k) (six w k)
+
+-- the eight words of a node
+unfoldable pub row : ℕ → List ℕ → List ℕ
+row c hs = c ∷ length hs ∷ hs ++ replicate (6 - length hs) 0
+
+-- the store: its words and the mark
+pub record State : Type 0 where
+  pub words : List ℕ
+  pub mark : ℕ
+
+abbrev pub on : List ℕ → ℕ → State
+on w m = record { words = w; mark = m }
+
+-- a new node takes the number at the mark; the words above the mark are of no account, and stay when it returns
+abbrev pub stored : Store ℕ State (List ℕ)
+stored = record {
+  con = λ s k. constructorOf (s .words) k;
+  kids = λ s k. children (s .words) k;
+  full = λ s. leb (rows (s .words)) (s .mark);
+  new = λ s c hs. s .mark;
+  put = λ s c hs. on (putRow (s .words) (s .mark) (row c hs)) (s .mark + 1);
+  left = λ s. s .words;
+  back = λ s w. on w (s .mark);
+}
+
+-- the term of node k, down to the nesting n
+unfoldable pub termTo : ℕ → List ℕ → ℕ → Term
+termTo zero w k = mk 0 []
+termTo (suc n) w k = mk (constructorOf w k) (map (termTo n w) (children w k))
+
+-- the term that node k names: its children lie below it, so k + 1 levels are enough
+unfoldable pub term : List ℕ → ℕ → Term
+term w k = termTo (suc k) w k
+
+-- a binding's word: zero is unbound, otherwise it is the node's number plus one
+unfoldable pub named : ℕ → Option ℕ
+named zero = none
+named (suc k) = some k
+
+-- the bindings that the words are
+unfoldable pub bindings : List ℕ → Bindings ℕ
+bindings b = λ v. named (getD b v 0)
+
+-- the terms that the bindings name
+unfoldable pub termOf : List ℕ → Option ℕ → Option Term
+termOf w none = none
+termOf w (some k) = some (term w k)
+
+unfoldable pub meant : List ℕ → Bindings ℕ → Env
+meant w b = λ v. termOf w (b v)
+
+abbrev pub Ran : Type 0
+Ran = Res ℕ (Bindings ℕ) State (List ℕ)
+
+-- how a run over the words ends, as values
+unfoldable pub value : Ran → Res Term Env ℕ (Unit {0})
+value (ended k b s u) = ended (term (s .words) k) (meant (s .words) b) (s .mark) u
+value (lost l u) = lost tt u
+value (cut c l u) = cut c tt u
+
+-- what is handed to a run: the table's, the store's and the bindings' words, the mark, the start, the subject, the units
+pub record Input : Type 0 where
+  pub table : List ℕ
+  pub store : List ℕ
+  pub bindings : List ℕ
+  pub mark : ℕ
+  pub start : ℕ
+  pub subject : ℕ
+  pub units : ℕ
+
+-- the checks let it through, and the start is good: neither 2, 3, 4 nor 5 is answered
+pub record Accepted (i : Input) : Type 0 where
+  pub table : tableChecked (i .table) ≡ checked 0 0
+  pub store : storeChecked (i .store) (i .mark) ≡ checked 0 0
+  pub bindings : length (i .bindings) ≡ variables
+  pub inside : i .start < rows (i .table)
+  pub strategy : sortOf (kindOf (i .table) (i .start)) ≡ Strategy
+  pub subject : i .subject < i .mark
+  pub bound : (v : ℕ) → getD (i .bindings) v 0 ≤ i .mark
+
+-- a run gets a nesting of 4,096 visits
+abbrev pub deepest : ℕ
+deepest = 4096
+
+-- the run over the words
+unfoldable pub ran : Input → Ran
+ran i = run stored (does (table (i .table))) deepest (apply (i .start) (i .subject) (bindings (i .bindings))) (on (i .store) (i .mark)) (i .units)

@@ -1,0 +1,3 @@
+-- What the contracts of this crate cite: tests on numbers, and rows of eight words.
+pub mod Tests
+pub mod Words
