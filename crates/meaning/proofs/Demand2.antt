@@ -10,8 +10,8 @@ use Rattle.meaning.specs.Term.{Term}
 use Rattle.meaning.specs.Table.{table}
 use Rattle.meaning.specs.Limits.{ended}
 use Rattle.meaning.specs.System.{Env}
-use Rattle.meaning.specs.Store.{named, bindings, termOf, meant, Ran, value, deepest, ran}
-use Rattle.meaning.specs.Demands.{Rules-agree, limits, begins, Leaves, Over-the-words, Demand-2}
+use Rattle.meaning.specs.Store.{named, bindings, termOf, meant, Ran, value, deepest, ran, Leaves}
+use Rattle.meaning.specs.Demands.{Rules-agree, limits, begins, Over-the-words, Demand-2}
 use Rattle.meaning.proofs.Limits.{Answer, demand-2-values}
 use Rattle.meaning.proofs.Alike.{ORel, o-none, o-some, BRel, q-apply}
 use Rattle.meaning.proofs.Checked.{good-of-node, store-filled, table-makeable}

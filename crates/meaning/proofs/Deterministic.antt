@@ -8,7 +8,7 @@ use Rattle.meaning.proofs.Inversion.{Ends}
 use Rattle.meaning.proofs.RulesAgree.{planned}
 
 -- success is not failure
-done-failed : {H B : Type 0} {h : H} {b : B} → done h b ≡ failed → ⊥
+pub done-failed : {H B : Type 0} {h : H} {b : B} → done h b ≡ failed → ⊥
 done-failed e = impossible (cc)
 
 module _ {H B Q : Type 0} {W : Values H} {R : Q → Plan H B Q} where
@@ -38,7 +38,6 @@ module _ {H B Q : Type 0} {W : Values H} {R : Q → Plan H B Q} where
 
 -- a visit has one outcome, and one way to it
 pub deterministic : Deterministic
-unfolding Deterministic
 deterministic T q o o′ r r′ =
     let (d, x) = planned T r in
     let (d′, x′) = planned T r′ in

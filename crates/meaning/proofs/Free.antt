@@ -1,6 +1,6 @@
 -- What a strategy does to the bindings: outside its free variables they stay as they were. A plan `Keeps` them where each
 -- way through it does, and a walk keeps them where each of its visits does.
-use mathlib.Core.Path.{_≡_, refl, sym, _∙_, subst, fun-ext}
+use mathlib.Core.Path.{_≡_, refl, ap, sym, _∙_, subst}
 use mathlib.Core.Bool.{Bool, true, false, _||_, false≢true}
 use mathlib.Core.Option.{Option, none, some}
 use mathlib.Core.List.{List, [], _∷_, _++_, map}
@@ -10,10 +10,11 @@ use borrow.Author.Tests.{eqb-true, eq-eqb}
 use Rattle.words.specs.Tests.{if_then_else_}
 use Rattle.meaning.specs.Bindings.{Bindings, unbound, bind, has, masked}
 use Rattle.meaning.specs.Table.{Strategy, ID, FAIL, TEST, NOT, SEQ, CHOICE, LEFT, REC, CALL, PATH, CONG, ALL, ONE, SOME, MATCH, BUILD, SCOPE, WHERE, Pattern, PVAR, PCON, Table}
-use Rattle.meaning.specs.Plan.{Keep, keep, drop, Plan, ret, fail, look, make, ask}
-use Rattle.meaning.specs.Rules.{Visit, apply, match, build, compare, Do, nth, put, zip, agree, when, given, again, walk, oneOf, someOf, strategy, variable, matching, building, comparing, does}
+use Rattle.meaning.specs.Plan.{Keep, ret, fail, look, make, ask}
+use Rattle.meaning.specs.Rules.{Visit, apply, match, build, compare, Do, nth, put, zip, when, given, again, walk, oneOf, someOf, strategy, variable, matching, building, comparing, does}
 use Rattle.meaning.specs.Derivation.{Out, done, failed, Values, Der, d-ret, d-fail, d-look, d-make, d-yes, d-no}
-use Rattle.meaning.specs.Free.{In, here, there, operandsOf, Variable, var, part, Free, in-match, in-build, in-scope, in-operand, Closed}
+use Rattle.meaning.specs.Free.{In, here, there, operandsOf, Variable, var, part, Free, in-match, in-build, in-scope, in-operand, Scope-removes}
+use Rattle.meaning.proofs.Tests.{impossible}
 
 -- F takes in the free variables of a visit
 abbrev pub Within : {H : Type 0} → Table → (ℕ → Bool) → Visit H → Type 0
@@ -118,22 +119,18 @@ module _ {H : Type 0} (T : Table) (F : ℕ → Bool) where
   k-some x i t gs (h ∷ hs) d r k f =
       k-ask F i (λ h′ c s. k-some x i true (gs ++ (h′ ∷ [])) hs c (same-trans r s) k f) (k-some x i t (gs ++ (h ∷ [])) hs d r k f)
 
-  -- the tasks of CONG, of ALL, of a matched or built PCON, of a comparison
-  cong-tasks : {b : Bindings H} (xs : List ℕ) (hs : List H) → ((x : ℕ) → In x xs → (v : ℕ) → Free T x v → F v ≡ true) → Tasks T F b (zip apply xs hs)
+  -- visits side by side, where each has its free variables in F: of CONG, of a matched PCON
+  zip-tasks : {b : Bindings H} (f : ℕ → H → Bindings H → Visit H) (xs : List ℕ) (hs : List H) → ((x : ℕ) (h : H) (c : Bindings H) → start (f x h c) ≡ c)
+      → ((x : ℕ) → In x xs → (h : H) (c : Bindings H) → Within T F (f x h c)) → Tasks T F b (zip f xs hs)
   unfolding zip
-  cong-tasks [] hs i = t-none
-  cong-tasks (x ∷ xs) [] i = t-none
-  cong-tasks (x ∷ xs) (h ∷ hs) i = t-more (λ c. i x here) (λ c. refl) (cong-tasks xs hs (λ y j. i y (there j)))
+  zip-tasks f [] hs s i = t-none
+  zip-tasks f (x ∷ xs) [] s i = t-none
+  zip-tasks f (x ∷ xs) (h ∷ hs) s i = t-more (i x here h) (s x h) (zip-tasks f xs hs s (λ y j. i y (there j)))
 
+  -- the same of ALL, of a built PCON, of a comparison
   all-tasks : {b : Bindings H} (x : ℕ) (hs : List H) → ((v : ℕ) → Free T x v → F v ≡ true) → Tasks T F b (map (apply x) hs)
   all-tasks x [] i = t-none
   all-tasks x (h ∷ hs) i = t-more (λ c. i) (λ c. refl) (all-tasks x hs i)
-
-  match-tasks : {b : Bindings H} (ps : List ℕ) (hs : List H) → ((p : ℕ) → In p ps → (v : ℕ) → Variable T p v → F v ≡ true) → Tasks T F b (zip match ps hs)
-  unfolding zip
-  match-tasks [] hs i = t-none
-  match-tasks (p ∷ ps) [] i = t-none
-  match-tasks (p ∷ ps) (h ∷ hs) i = t-more (λ c. i p here) (λ c. refl) (match-tasks ps hs (λ q j. i q (there j)))
 
   build-tasks : {b : Bindings H} (ps : List ℕ) (h : H) → ((p : ℕ) → In p ps → (v : ℕ) → Variable T p v → F v ≡ true) → Tasks T F b (map (λ p. build p h) ps)
   build-tasks [] h i = t-none
@@ -166,7 +163,7 @@ module _ {H : Type 0} (T : Table) (F : ℕ → Bool) where
   k-strategy x i (REC y) e h b = k-ask F (up i e here) (λ g c s. k-ret s) k-fail
   k-strategy x i (CALL y) e h b = k-ask F (up i e here) (λ g c s. k-ret s) k-fail
   k-strategy x i (PATH j y) e h b = k-look (λ c hs. k-given (nth hs j) _ (λ g. k-ask F (up i e here) (λ g′ c′ s. k-again h c (put hs j g′) s) k-fail))
-  k-strategy x i (CONG c ys) e h b = k-look (λ d hs. k-when _ (k-walk _ (cong-tasks ys hs (λ y j. up i e j)) [] b (same-refl b) _ (λ gs b′ s. k-again h d gs s)))
+  k-strategy x i (CONG c ys) e h b = k-look (λ d hs. k-when _ (k-walk _ (zip-tasks apply ys hs (λ y g b′. refl) (λ y j g b′. up i e j)) [] b (same-refl b) _ (λ gs b′ s. k-again h d gs s)))
   k-strategy x i (ALL y) e h b = k-look (λ c hs. k-walk _ (all-tasks y hs (up i e here)) [] b (same-refl b) _ (λ gs b′ s. k-again h c gs s))
   k-strategy x i (ONE y) e h b = k-look (λ c hs. k-one y (up i e here) [] hs _ (λ gs b′ s. k-again h c gs s))
   k-strategy x i (SOME y) e h b = k-look (λ c hs. k-some y (up i e here) false [] hs b (same-refl b) _ (λ gs b′ s. k-again h c gs s))
@@ -187,7 +184,7 @@ module _ {H : Type 0} (T : Table) (F : ℕ → Bool) where
   k-matching : (p : ℕ) → ((v : ℕ) → Variable T p v → F v ≡ true) → (s : Pattern) → T .patterns p ≡ s → (h : H) (b : Bindings H) → Keeps T F b (matching s h b)
   unfolding matching
   k-matching p i (PVAR v) e h b = k-variable v (i v (var e)) (b v) h b
-  k-matching p i (PCON c ps) e h b = k-look (λ d hs. k-when _ (k-walk _ (match-tasks ps hs (λ q j v f. i v (part e j f))) [] b (same-refl b) _ (λ gs c s. k-ret s)))
+  k-matching p i (PCON c ps) e h b = k-look (λ d hs. k-when _ (k-walk _ (zip-tasks match ps hs (λ q g c. refl) (λ q j g c v f. i v (part e j f))) [] b (same-refl b) _ (λ gs c s. k-ret s)))
 
   k-building : (p : ℕ) → ((v : ℕ) → Variable T p v → F v ≡ true) → (s : Pattern) → T .patterns p ≡ s → (h : H) (b : Bindings H) → Keeps T F b (building s h b)
   unfolding building
@@ -227,3 +224,24 @@ module _ {H : Type 0} (W : Values H) (T : Table) where
       go : (w : ℕ) (t : Bool) → eqb w v ≡ t → Free T x w → (if t then false else true) ≡ true
       go w true z f = absurd (n (subst (Free T x) (eqb-true w v z) f))
       go w false z f = refl
+
+-- ---- SCOPE removes its mask
+
+-- nothing is in the empty list
+in-none : {A : Type 0} {x : ℕ} {xs : List ℕ} → xs ≡ [] → In x xs → A
+in-none e here = impossible (cc)
+in-none e (there i) = impossible (cc)
+
+-- Free in a SCOPE are just its operand's free variables that its mask does not have.
+pub scope-removes : Scope-removes
+unfolding operandsOf
+scope-removes T x m y v e = (apart, λ p. in-scope e (p .0) (p .1))
+  where
+    apart : Free T x v → (has m v ≡ false) × Free T y v
+    apart (in-match f g) = impossible (cc)
+    apart (in-build f g) = impossible (cc)
+    apart (in-scope {y = z} {m = n} f h g) =
+        let p : n ≡ m = cc in
+        let q : z ≡ y = cc in
+        (subst (λ n. has n v ≡ false) p h, subst (λ z. Free T z v) q g)
+    apart (in-operand f i g) = in-none (ap operandsOf (sym f ∙ e)) i

@@ -14,5 +14,6 @@ pub mod Together
 pub mod Demand2
 pub mod Free
 pub mod Places
+pub mod Orders
 pub mod Demands
 pub mod Small

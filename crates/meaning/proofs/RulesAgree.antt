@@ -98,10 +98,10 @@ module _ (T : Table) where
     planned (System.path-done {i = i} {t = t} {g = g} {g′ = g′} {b′ = b′} e n r q) = rw e (look-ends (rw n (ask-yes (planned r) (rw q (again-makes t (put (kids t) i g′) b′ (put-nonempty (kids t) i g g′ n))))))
     planned (System.path-failed e n r) = rw e (look-ends (rw n (ask-no (planned r) fail-ends)))
     planned (System.path-none e n) = rw e (look-ends (rw n fail-ends))
-    planned (System.cong-done {t = t} {ts = ts} {b′ = b′} e a rs q) = rw e (look-ends (rw agree-yes (each-planned rs [] (again t (con t)) (rw q (again-runs t ts b′)))))
+    planned (System.cong-done {t = t} {ts = ts} {b′ = b′} e a rs q) = rw e (look-ends (rw (agree-yes, q) (each-planned rs [] (again t (con t)) (again-runs t ts b′))))
     planned (System.cong-failed {t = t} e a rs) = rw e (look-ends (rw agree-yes (stopped-planned rs [] (again t (con t)))))
     planned (System.cong-other e n) = rw e (look-ends (rw agree-no fail-ends))
-    planned (System.all-done {t = t} {ts = ts} {b′ = b′} e rs q) = rw e (look-ends (each-planned rs [] (again t (con t)) (rw q (again-runs t ts b′))))
+    planned (System.all-done {t = t} {ts = ts} {b′ = b′} e rs q) = rw e (look-ends (rw q (each-planned rs [] (again t (con t)) (again-runs t ts b′))))
     planned (System.all-failed {t = t} e rs) = rw e (look-ends (stopped-planned rs [] (again t (con t))))
     planned (System.one-done {t = t} e rs q) = rw e (look-ends (rw q (first-planned rs [] t)))
     planned (System.one-failed {t = t} e rs) = rw e (look-ends (one-failed-planned rs [] (again t (con t))))
@@ -121,7 +121,7 @@ module _ (T : Table) where
     planned (System.match-other e n) = rw e (look-ends (rw agree-no fail-ends))
     planned (System.build-bound e n) = rw e (rw n ret-ends)
     planned (System.build-unbound e n) = rw e (rw n fail-ends)
-    planned (System.build-con {c = c} e rs q) = rw e (each-planned rs [] (λ gs b. make c gs (λ n. ret n b)) (rw q (make-ends ret-ends)))
+    planned (System.build-con {c = c} e rs q) = rw (e, q) (each-planned rs [] (λ gs b. make c gs (λ n. ret n b)) (make-ends ret-ends))
     planned (System.build-failed {c = c} e rs) = rw e (stopped-planned rs [] (λ gs b. make c gs (λ n. ret n b)))
     planned (System.compare-same {t = t} a rs) = look-ends (look-ends (rw agree-yes (each-planned rs [] (λ gs b. ret t b) ret-ends)))
     planned (System.compare-failed {t = t} a rs) = look-ends (look-ends (rw agree-yes (stopped-planned rs [] (λ gs b. ret t b))))
@@ -348,5 +348,4 @@ module _ (T : Table) where
 
 -- the plans' rules and the paper's rules derive the same, and do the same on the way
 pub rules-agree : Rules-agree
-unfolding Rules-agree
 rules-agree T q o n = (λ (r, e). let (d, x) = planned T r in (d, x ∙ e), λ (d, e). let (r, x) = derived T d in (r, x ∙ e))

@@ -18,8 +18,7 @@ use Rattle.meaning.specs.Rules.{Visit, Do, does}
 use Rattle.meaning.specs.Derivation.{terms}
 use Rattle.meaning.specs.Limits.{Limit, ended, lost, cut, counting, roomFor, settled, after, runPlan, run}
 use Rattle.meaning.specs.System.{Env}
-use Rattle.meaning.specs.Store.{children, row, State, on, stored, term, Ran}
-use Rattle.meaning.specs.Demands.{Kept}
+use Rattle.meaning.specs.Store.{children, row, State, on, stored, term, Ran, Kept}
 use Rattle.meaning.proofs.Terms.{list-unlist}
 use Rattle.meaning.proofs.Limits.{Answer}
 use Rattle.meaning.proofs.Alike.{Holdable, Makeable, Worlds, LRel, l-nil, l-cons, BRel, QRel, PRel, p-ret, p-fail, p-look, p-make, p-ask, p-test, p-does}

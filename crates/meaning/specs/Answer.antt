@@ -6,7 +6,7 @@ use Rattle.words.specs.Words.{clearedFrom}
 use Rattle.checks.specs.Kinds.{variables}
 use Rattle.meaning.specs.Bindings.{Bindings}
 use Rattle.meaning.specs.Limits.{Limit, units, room, nesting, ended, lost, cut}
-use Rattle.meaning.specs.Store.{Input, State, Ran}
+use Rattle.meaning.specs.Store.{Input, Ran}
 
 -- each limit's answer
 unfoldable pub number : Limit → ℕ

@@ -4,9 +4,9 @@ use mathlib.Core.List.{List}
 use Prim.Native.Nat.{ℕ, suc, _+_, _≤_, _<_}
 use Rattle.meaning.specs.Term.{Term, con, kids, mk}
 use Rattle.meaning.specs.Table.{Table}
-use Rattle.meaning.specs.Plan.{Keep, keep, drop, look, make, ask, ret, fail}
+use Rattle.meaning.specs.Plan.{Keep, keep, drop, look, make, ask}
 use Rattle.meaning.specs.Rules.{Visit, Do, does}
-use Rattle.meaning.specs.Derivation.{Out, done, failed, Trace, over, node, visit, visits, nesting, left, most}
+use Rattle.meaning.specs.Derivation.{done, failed, Trace, over, node, visit, visits, nesting, left, most}
 use Rattle.meaning.specs.Limits.{Limit, units, room, nesting as nested}
 use Rattle.meaning.specs.System.{Env, _⊢_⇒_, trace as traceOf}
 

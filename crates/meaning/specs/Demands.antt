@@ -1,24 +1,20 @@
 -- The demands, as statements about the definitions. Each has its proof in proofs/Demands.antt, under the same name in small
 -- letters.
 use mathlib.Core.Path.{_≡_}
-use mathlib.Core.Bool.{true}
-use mathlib.Core.Option.{some}
 use mathlib.Core.Logic.{_↔_, _⊎_}
 use mathlib.Core.List.{List, [], _∷_}
-use Prim.Native.Nat.{ℕ, _+_, _*_, _≤_, _<_}
-use lib.ListN.{length, take}
+use Prim.Native.Nat.{ℕ, _+_, _≤_}
 use Rattle.words.specs.Words.{rows}
-use Rattle.checks.specs.Good.{goodNode}
-use Rattle.meaning.specs.Term.{Term, con, kids}
-use Rattle.meaning.specs.Bindings.{Bindings}
+use Rattle.meaning.specs.Term.{Term}
 use Rattle.meaning.specs.Table.{Table, SEQ, PATH, table}
 use Rattle.meaning.specs.Plan.{keep, ret, fail, ask}
 use Rattle.meaning.specs.Rules.{Visit, apply, does, compare}
-use Rattle.meaning.specs.Derivation.{Out, done, failed, Trace, over, visit, visits, left, terms, Der, trace as traceDer}
-use Rattle.meaning.specs.Limits.{Limit, Res, ended, lost, cut, counting, run}
+use Rattle.meaning.specs.Derivation.{Out, done, failed, Trace, over, visit, left, terms, Der, trace as traceDer}
+use Rattle.meaning.specs.Limits.{Res, ended, lost, cut, counting, run}
 use Rattle.meaning.specs.System.{Env, _∶_is_, _⊢_⇒_, trace}
 use Rattle.meaning.specs.Beginning.{Begun, Given, Fits, Met, stop, level, trace as traceBegun}
-use Rattle.meaning.specs.Store.{Input, Accepted, State, Ran, ran, term, meant, bindings, value, deepest}
+use Rattle.meaning.specs.Store.{Input, Accepted, ran, term, meant, bindings, value, deepest, Leaves}
+pub use Rattle.meaning.specs.Store.{Kept, Sound, Leaves}
 use Rattle.meaning.specs.Free.{Free, Closed}
 
 -- The plans' rules and the paper's rules derive the same, and do the same on the way.
@@ -58,24 +54,6 @@ begins i = apply (i .start) (term (i .store) (i .subject)) (meant (i .store) (bi
 abbrev pub Demand-2 : Type 0
 Demand-2 = (i : Input) → Accepted i → (r : Res Term Env ℕ (Unit {0})) → (value (ran i) ≡ r) ↔ Says (table (i .table)) (limits i) (begins i) r
 
--- nodes below the mark and the store's length stay
-pub record Kept (w : List ℕ) (m : ℕ) (w′ : List ℕ) : Type 0 where
-  pub long : length w′ ≡ length w
-  pub same : take (8 * m) w′ ≡ take (8 * m) w
-
--- a good store with a good state in it: what was given back by a run passes the check again
-pub record Sound (w : List ℕ) (m k : ℕ) (b : Bindings ℕ) : Type 0 where
-  pub fits : m ≤ rows w
-  pub good : (j : ℕ) → j < m → goodNode w j ≡ true
-  pub subject : k < m
-  pub bound : (v j : ℕ) → b v ≡ some j → j < m
-
--- what a run over the words leaves, s being the store before it
-abbrev pub Leaves : List ℕ → ℕ → Ran → Type 0
-Leaves w m (ended k b s u) = (m ≤ s .mark) × Kept w m (s .words) × Sound (s .words) (s .mark) k b
-Leaves w m (lost w′ u) = Kept w m w′
-Leaves w m (cut c w′ u) = Kept w m w′
-
 -- Over the words and over values a run ends alike; nodes in use stay, new ones come after, and what is left is sound.
 abbrev pub Over-the-words : Type 0
 Over-the-words =
@@ -105,6 +83,12 @@ pub data Begins : List ℕ → List ℕ → Type 0 where
   begins-root : {ρ : List ℕ} → Begins [] ρ
   begins-child : {i : ℕ} {π ρ : List ℕ} → Begins π ρ → Begins (i ∷ π) (i ∷ ρ)
 
+-- s and s′ both fail on t, or both succeed with equal terms; the bindings are as at the start
+abbrev pub Either-order : Table → (s s′ : ℕ) → Term → Env → Type 0
+Either-order T s s′ t b =
+    ((T ⊢ apply s t b ⇒ failed) × (T ⊢ apply s′ t b ⇒ failed))
+    ⊎ ((t′ : Term) × (T ⊢ apply s t b ⇒ done t′ b) × (T ⊢ apply s′ t b ⇒ done t′ b))
+
 -- Demand 3: e runs x at π and f runs y at ρ, neither place inside the other; s and s′ are the two orders.
 abbrev pub Demand-3 : Type 0
 Demand-3 =
@@ -112,5 +96,25 @@ Demand-3 =
     → Closed T x → Closed T y → At T x e π → At T y f ρ → (Begins π ρ → ⊥) → (Begins ρ π → ⊥)
     → T ∶ s is SEQ e f → T ∶ s′ is SEQ f e
     → T ⊢ apply e t b ⇒ o → T ⊢ apply f t b ⇒ o′
-    → ((T ⊢ apply s t b ⇒ failed) × (T ⊢ apply s′ t b ⇒ failed))
-    ⊎ ((t′ : Term) × (T ⊢ apply s t b ⇒ done t′ b) × (T ⊢ apply s′ t b ⇒ done t′ b))
+    → Either-order T s s′ t b
+
+-- two answers, where both are done or failed: both failed, or both done with equal terms and bindings
+abbrev pub Agreed : Res Term Env ℕ (Unit {0}) → Res Term Env ℕ (Unit {0}) → Type 0
+Agreed (ended t b m u) (ended t′ b′ m′ u′) = (t ≡ t′) × (b ≡ b′)
+Agreed (ended t b m u) (lost l u′) = ⊥
+Agreed (ended t b m u) (cut c l u′) = Unit {0}
+Agreed (lost l u) (ended t b m u′) = ⊥
+Agreed (lost l u) (lost l′ u′) = Unit {0}
+Agreed (lost l u) (cut c l′ u′) = Unit {0}
+Agreed (cut c l u) r = Unit {0}
+
+-- the same input with another start and other units
+abbrev pub started : Input → (start units : ℕ) → Input
+started i s u = record { table = i .table; store = i .store; bindings = i .bindings; mark = i .mark; start = s; subject = i .subject; units = u }
+
+-- Demand 3, of runs: two runs, one in each order, that both end in done or failed agree, whatever units each is given.
+abbrev pub Demand-3-runs : Type 0
+Demand-3-runs =
+    (i : Input) (s u : ℕ) → Accepted i → Accepted (started i s u)
+    → Either-order (table (i .table)) (i .start) s (term (i .store) (i .subject)) (meant (i .store) (bindings (i .bindings)))
+    → Agreed (value (ran i)) (value (ran (started i s u)))

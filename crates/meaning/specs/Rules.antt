@@ -7,7 +7,7 @@ use lib.Dec.{eqb}
 use lib.ListN.{length}
 use Rattle.meaning.specs.Bindings.{Bindings, unbound, bind, masked}
 use Rattle.meaning.specs.Table.{Strategy, ID, FAIL, TEST, NOT, SEQ, CHOICE, LEFT, REC, CALL, PATH, CONG, ALL, ONE, SOME, MATCH, BUILD, SCOPE, WHERE, Pattern, PVAR, PCON, Table}
-use Rattle.meaning.specs.Plan.{Keep, keep, drop, Plan, ret, fail, look, make, ask}
+use Rattle.meaning.specs.Plan.{keep, drop, Plan, ret, fail, look, make, ask}
 
 -- a visit: an entry applied as a strategy, a pattern position met by MATCH or by BUILD, a pair of terms compared
 pub data Visit (H : Type 0) : Type 0 where

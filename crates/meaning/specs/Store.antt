@@ -1,21 +1,22 @@
 -- The same rules over the store's words, and what the words mean: the term that a node names, the bindings that the
 -- bindings' words are.
 use mathlib.Core.Path.{_≡_}
+use mathlib.Core.Bool.{true}
 use mathlib.Core.Option.{Option, none, some}
 use mathlib.Core.List.{List, [], _∷_, _++_, map}
 use Prim.Native.Nat.{ℕ, zero, suc, _+_, _-_, _*_, _≤_, _<_}
 use lib.Dec.{leb}
 use lib.ListN.{length, getD, take, replicate}
-use Rattle.words.specs.Words.{wordAt, rows, putRow}
+use Rattle.words.specs.Words.{rows, putRow}
 use Rattle.checks.specs.Kinds.{sortOf, variables}
-use Rattle.checks.specs.Good.{kindOf, constructorOf, childCount}
+use Rattle.checks.specs.Good.{kindOf, constructorOf, childCount, goodNode}
 use Rattle.checks.specs.Checked.{checked, tableChecked, storeChecked}
 use Rattle.checks.specs.declared.kinds.Sort.the-variants.{Strategy}
 use Rattle.meaning.specs.Term.{Term, mk}
 use Rattle.meaning.specs.Bindings.{Bindings}
 use Rattle.meaning.specs.Table.{six, table}
-use Rattle.meaning.specs.Rules.{Visit, apply, does}
-use Rattle.meaning.specs.Limits.{Store, Limit, Res, ended, lost, cut, run}
+use Rattle.meaning.specs.Rules.{apply, does}
+use Rattle.meaning.specs.Limits.{Store, Res, ended, lost, cut, run}
 use Rattle.meaning.specs.System.{Env}
 
 -- the children of node k
@@ -108,3 +109,21 @@ deepest = 4096
 -- the run over the words
 unfoldable pub ran : Input → Ran
 ran i = run stored (does (table (i .table))) deepest (apply (i .start) (i .subject) (bindings (i .bindings))) (on (i .store) (i .mark)) (i .units)
+
+-- nodes below the mark and the store's length stay
+pub record Kept (w : List ℕ) (m : ℕ) (w′ : List ℕ) : Type 0 where
+  pub long : length w′ ≡ length w
+  pub same : take (8 * m) w′ ≡ take (8 * m) w
+
+-- a good store with a good state in it: what was given back by a run passes the check again
+pub record Sound (w : List ℕ) (m k : ℕ) (b : Bindings ℕ) : Type 0 where
+  pub fits : m ≤ rows w
+  pub good : (j : ℕ) → j < m → goodNode w j ≡ true
+  pub subject : k < m
+  pub bound : (v j : ℕ) → b v ≡ some j → j < m
+
+-- what a run over the words leaves, s being the store before it
+abbrev pub Leaves : List ℕ → ℕ → Ran → Type 0
+Leaves w m (ended k b s u) = (m ≤ s .mark) × Kept w m (s .words) × Sound (s .words) (s .mark) k b
+Leaves w m (lost w′ u) = Kept w m w′
+Leaves w m (cut c w′ u) = Kept w m w′

@@ -1,7 +1,7 @@
 -- System S as document 01 reads it, in the paper's form: a rule for each way in which a visit ends. Terms are values, no
 -- limit stands in it, and a failure has no bindings.
 use mathlib.Core.Path.{_≡_}
-use mathlib.Core.Option.{Option, none, some}
+use mathlib.Core.Option.{none, some}
 use mathlib.Core.List.{List, [], _∷_, map}
 use Prim.Native.Nat.{ℕ, suc}
 use lib.ListN.{length}
