@@ -144,7 +144,7 @@ fn lowest_bad_entry(table: &[u32]) -> Found
 }
 
 // The table is not empty, a multiple of 8, and at most 32,768 words.
-fn table_length_fits(n: usize) -> bool
+pub fn table_length_fits(n: usize) -> bool
     ensures { λ r. ⌜ r ≡ tableLengthFits n ⌝ }
 {
     if n == 0 {

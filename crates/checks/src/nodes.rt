@@ -60,7 +60,7 @@ fn lowest_bad_node(store: &[u32], mark: u32) -> Found
 }
 
 // The store is a multiple of 8 and at most 1,048,576 words.
-fn store_length_fits(n: usize) -> bool
+pub fn store_length_fits(n: usize) -> bool
     ensures { λ r. ⌜ r ≡ storeLengthFits n ⌝ }
 {
     if n % 8 != 0 {

@@ -1,0 +1,24 @@
+-- Laws that belong to no one function.
+pub mod Bits
+pub mod Element
+pub mod Telling
+pub mod Asking
+pub mod Kind
+pub mod Keeping
+pub mod Holding
+pub mod Children
+pub mod Walking
+pub mod Limited
+pub mod Patterns
+pub mod Building
+pub mod Comparing
+pub mod Matching
+pub mod Ruling
+pub mod Operators
+pub mod Returning
+pub mod Agreeing
+pub mod Rowing
+pub mod Scoping
+pub mod Descending
+pub mod Looping
+pub mod Walker

@@ -1,0 +1,34 @@
+-- `answers::hear` meets its contract: what `told` ensures, at each of its answers. Assumes nothing.
+use borrow.Author.Needs.{needs}
+use Rattle.engine.specs.Answers.{heardOf}
+use Rattle.engine.proofs.answers.hear.Statement.{statement}
+use Rattle.engine.proofs.answers.hear.Tie as tie
+
+told-requires : tie.Need-told-requires
+told-requires c κs = search needs
+
+enum-known-a : tie.Need-enum-known-a
+enum-known-a c = search needs
+
+enum-known-a-2 : tie.Need-enum-known-a-2
+enum-known-a-2 c = search needs
+
+enum-known-a-3 : tie.Need-enum-known-a-3
+enum-known-a-3 c = search needs
+
+returns : tie.Need-returns
+unfolding heardOf
+returns c = rw (← (c .before .before .before .told .ensures), c .before .a .given .1)
+
+returns-2 : tie.Need-returns-2
+unfolding heardOf
+returns-2 c = rw (← (c .before .before .before .told .ensures), c .before .a2 .given .1)
+
+returns-3 : tie.Need-returns-3
+unfolding heardOf
+returns-3 c = rw (← (c .before .before .before .told .ensures), c .before .a3 .given .1)
+
+pub hear-spec : {M : Type 1} → statement M
+hear-spec =
+    tie.close
+    (tie.spec told-requires enum-known-a enum-known-a-2 enum-known-a-3 returns returns-2 returns-3)

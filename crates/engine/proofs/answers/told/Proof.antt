@@ -1,0 +1,27 @@
+-- `answers::told` meets its contract: each return is the arm of `toldOf` that the tests before it name. Assumes nothing.
+use borrow.Author.Needs.{needs}
+use borrow.Author.Tests.{eq-eqb, ne-eqb, lt-ltb, le-ltb}
+use Rattle.engine.specs.Answers.{toldOf}
+use Rattle.engine.proofs.answers.told.Statement.{statement}
+use Rattle.engine.proofs.answers.told.Tie as tie
+
+cast-left : tie.Need-cast-left
+cast-left c = search needs
+
+returns : tie.Need-returns
+unfolding toldOf
+returns c = rw (eq-eqb _ _ (c .if1 .taken))
+
+cast-t6 : tie.Need-cast-t6
+cast-t6 c = search needs
+
+returns-2 : tie.Need-returns-2
+unfolding toldOf
+returns-2 c = rw (ne-eqb _ _ (c .before .if1 .left), lt-ltb _ _ (c .if2 .taken))
+
+returns-3 : tie.Need-returns-3
+unfolding toldOf
+returns-3 c = rw (ne-eqb _ _ (c .before .if1 .left), le-ltb _ _ (c .if2 .left))
+
+pub told-spec : {M : Type 1} → statement M
+told-spec = tie.close (tie.spec cast-left returns cast-t6 returns-2 returns-3)

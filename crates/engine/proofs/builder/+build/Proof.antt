@@ -1,0 +1,243 @@
+-- `builder::build` meets its contract. The loop's invariant: the nodes of the operands before i stand in the row that is made,
+-- and from operand i on all goes on to the whole. The measure of a call is the nesting.
+use mathlib.Core.Path.{_≡_, refl, sym, _∙_}
+use native.Mathlib.Omega.{arith}
+use borrow.Author.Needs.{needs}
+use lib.ListN.{length, length-set}
+use Rattle.checks.specs.Good.{kindOf, operandCount}
+use Rattle.meaning.specs.Rules.{build as built}
+use Rattle.engine.specs.Record.{markOf, held}
+use Rattle.engine.specs.Visits.{visit}
+use Rattle.engine.proofs.Telling.{done-node}
+use Rattle.engine.proofs.Keeping.{roomy}
+use Rattle.engine.proofs.Holding.{framed-refl}
+use Rattle.engine.proofs.Limited.{units-out, nesting-out}
+use Rattle.engine.proofs.Patterns.{no-variable, operand-pattern}
+use Rattle.engine.proofs.Building.{Built, variable-built, variable-fails, built-none, built-all, built-more, build-stops}
+use Prim.Native.Nat.{ℕ, _+_, _-_, _<_, _≤_}
+use borrow.Fn.Kinds.{In}
+use borrow.Fn.PlainCycle.{Measures, is, falls, and}
+use Rattle.engine.proofs.builder.build.Reads as build
+use Rattle.engine.proofs.builder.build.Kinds as build-kinds
+use Rattle.engine.proofs.builder.+build.Lts-build as build-lts
+use Rattle.engine.proofs.answers.done.Reads as done-reads
+use Rattle.engine.proofs.answers.failure.Reads as failure-reads
+use Rattle.engine.proofs.answers.no_nesting.Reads as no-nesting-reads
+use Rattle.engine.proofs.answers.no_units.Reads as no-units-reads
+use Rattle.engine.proofs.answers.told.Reads as told-reads
+use Rattle.engine.proofs.builder.node.Reads as node-reads
+use Rattle.engine.proofs.reading.entry.Reads as entry-reads
+use Rattle.engine.proofs.reading.kind.Reads as kind-reads
+use Rattle.engine.proofs.reading.operands.Reads as operands-reads
+use Rattle.engine.proofs.record.bit.Reads as bit-reads
+use Rattle.engine.proofs.builder.+build.{statement}
+use Rattle.engine.proofs.builder.+build.Tie.{close}
+
+abbrev μ-build : Measures 3 build-kinds.ps ℕ
+μ-build κs a = a .1 .1 .1 .1 .1 .0
+
+abbrev build-at : ℕ → In 3 build-kinds.ps
+build-at t = and 3 build-kinds.ps (is 3 build-kinds.ps μ-build t) build.Pre
+
+abbrev build-below : ℕ → In 3 build-kinds.ps
+build-below t = and 3 build-kinds.ps (falls 3 build-kinds.ps _<_ μ-build t) build.Pre
+
+abbrev build-calls : ℕ → build-lts.Claims
+build-calls t = (no-units-reads.Asked, no-units-reads.Learnt, no-nesting-reads.Asked, no-nesting-reads.Learnt, kind-reads.Asked, kind-reads.Learnt, entry-reads.Asked, entry-reads.Learnt, bit-reads.Asked, bit-reads.Learnt, done-reads.Asked, done-reads.Learnt, failure-reads.Asked, failure-reads.Learnt, operands-reads.Asked, operands-reads.Learnt, build-below t, build.Post, told-reads.Asked, told-reads.Learnt, node-reads.Asked, node-reads.Learnt)
+
+abbrev build-Inv-loop : build-lts.InvT-loop
+build-Inv-loop table store₀ st₀ p left deep u₀ n made₀ i₀ store st u made i =
+    (i ≤ n) × (n ≡ operandCount table p) × (kindOf table p ≡ 19) × (u < 4294967296) × (length store ≡ length store₀) × (length made ≡ 8)
+    × Built table (deep - 1) p st₀ (λ k. visit table deep (built p k (held st₀)) store₀ (markOf st₀) left) store st made u i
+
+abbrev build-μ-loop : build-lts.MeasureT-loop
+build-μ-loop table store₀ st₀ p left deep u₀ n made₀ i₀ store st u made i = n - i
+
+-- a variable, where its number is read
+is-variable : (t : ℕ) (c : build-lts.After-entry (build-calls t) (build-at t) build.Post build-Inv-loop build-μ-loop) → kindOf (c .before .before .before .before .before .before .args .table .now) (c .before .before .before .before .before .before .args .p) ≡ 18
+is-variable t c = sym (c .before .before .kind .ensures) ∙ c .before .if3 .taken
+
+small : (t : ℕ) (c : build-lts.After-entry (build-calls t) (build-at t) build.Post build-Inv-loop build-μ-loop) → c .entry .result < 32
+small t c = omega (arith, c .before .before .before .before .before .before .pre .1 .0 .variable _ (c .before .before .before .before .before .before .pre .1 .1) (is-variable t c), c .entry .ensures)
+
+-- an operand is left
+below : (t : ℕ) (c : build-lts.In-loop (build-calls t) (build-at t) build.Post build-Inv-loop build-μ-loop) → c .before .loop .i < operandCount (c .before .before .before .before .before .before .before .before .before .args .table .now) (c .before .before .before .before .before .before .before .before .before .args .p)
+below t c = omega arith
+
+build-no-units-requires : (t : ℕ) → build-lts.Need-no-units-requires (build-calls t) (build-at t) build.Post build-Inv-loop build-μ-loop
+build-no-units-requires t c κs = search needs
+
+build-returns : (t : ℕ) → build-lts.Need-returns (build-calls t) (build-at t) build.Post build-Inv-loop build-μ-loop
+build-returns t c = λ k. record { is = units-out _ _ _ _ _ _ _ _ (c .no-units .ensures) (c .before .if1 .taken); frame = framed-refl _ }
+
+build-no-nesting-requires : (t : ℕ) → build-lts.Need-no-nesting-requires (build-calls t) (build-at t) build.Post build-Inv-loop build-μ-loop
+build-no-nesting-requires t c κs = search needs
+
+build-returns-2 : (t : ℕ) → build-lts.Need-returns-2 (build-calls t) (build-at t) build.Post build-Inv-loop build-μ-loop
+build-returns-2 t c = λ k. record { is = nesting-out _ _ _ _ _ _ _ _ (c .no-nesting .ensures) (omega arith) (c .before .before .if1 .left) (c .before .if2 .taken); frame = framed-refl _ }
+
+build-sub-u : (t : ℕ) → build-lts.Need-sub-u (build-calls t) (build-at t) build.Post build-Inv-loop build-μ-loop
+build-sub-u t c = search needs
+
+build-kind-requires : (t : ℕ) → build-lts.Need-kind-requires (build-calls t) (build-at t) build.Post build-Inv-loop build-μ-loop
+build-kind-requires t c κs = search needs
+
+build-entry-requires : (t : ℕ) → build-lts.Need-entry-requires (build-calls t) (build-at t) build.Post build-Inv-loop build-μ-loop
+build-entry-requires t c κs = search needs
+
+build-element-copy-out-bit : (t : ℕ) → build-lts.Need-element-copy-out-bit (build-calls t) (build-at t) build.Post build-Inv-loop build-μ-loop
+build-element-copy-out-bit t c = search needs
+
+build-bit-requires : (t : ℕ) → build-lts.Need-bit-requires (build-calls t) (build-at t) build.Post build-Inv-loop build-μ-loop
+build-bit-requires t c κs = let v = small t (c .before) in omega arith
+
+build-cast-done : (t : ℕ) → build-lts.Need-cast-done (build-calls t) (build-at t) build.Post build-Inv-loop build-μ-loop
+build-cast-done t c = search needs
+
+build-mul-done : (t : ℕ) → build-lts.Need-mul-done (build-calls t) (build-at t) build.Post build-Inv-loop build-μ-loop
+build-mul-done t c = let v = small t (c .before .before .before) in omega arith
+
+build-element-copy-out-done : (t : ℕ) → build-lts.Need-element-copy-out-done (build-calls t) (build-at t) build.Post build-Inv-loop build-μ-loop
+build-element-copy-out-done t c = let v = small t (c .before .before .before) in omega arith
+
+build-done-requires : (t : ℕ) → build-lts.Need-done-requires (build-calls t) (build-at t) build.Post build-Inv-loop build-μ-loop
+build-done-requires t c κs = search needs
+
+build-returns-3 : (t : ℕ) → build-lts.Need-returns-3 (build-calls t) (build-at t) build.Post build-Inv-loop build-μ-loop
+build-returns-3 t c = λ k. variable-built _ _ _ _ _ _ (c .before .before .before .before .before .before .before .before .before .if1 .left) (c .before .before .before .before .before .before .before .before .if2 .left) _ (is-variable t (c .before .before .before .before .before)) (c .before .before .before .before .before .entry .ensures) k _ (omega arith) (c .before .before .before .before .before .before .before .before .before .before .before .pre .1 .3) (small t (c .before .before .before .before .before)) (sym (c .before .before .before .bit .ensures) ∙ c .before .before .if4 .taken) (c .done .ensures)
+
+build-failure-requires : (t : ℕ) → build-lts.Need-failure-requires (build-calls t) (build-at t) build.Post build-Inv-loop build-μ-loop
+build-failure-requires t c κs = search needs
+
+build-returns-4 : (t : ℕ) → build-lts.Need-returns-4 (build-calls t) (build-at t) build.Post build-Inv-loop build-μ-loop
+build-returns-4 t c = λ k. variable-fails _ _ _ _ _ _ (c .before .before .before .before .before .before .before .before .if1 .left) (c .before .before .before .before .before .before .before .if2 .left) _ (is-variable t (c .before .before .before .before)) (c .before .before .before .before .entry .ensures) k _ (omega arith) (λ e. c .before .if4 .left (c .before .before .bit .ensures ∙ e)) (c .failure .ensures)
+
+build-operands-requires : (t : ℕ) → build-lts.Need-operands-requires (build-calls t) (build-at t) build.Post build-Inv-loop build-μ-loop
+build-operands-requires t c κs = search needs
+
+build-entry-requires-2 : (t : ℕ) → build-lts.Need-entry-requires-2 (build-calls t) (build-at t) build.Post build-Inv-loop build-μ-loop
+build-entry-requires-2 t c κs = search needs
+
+build-loop-holds : (t : ℕ) → build-lts.Need-loop-holds (build-calls t) (build-at t) build.Post build-Inv-loop build-μ-loop
+build-loop-holds t c =
+    let k = no-variable (c .before .before .before .before .before .before .before .args .table .now) (c .before .before .before .before .before .before .before .args .p) _ (c .before .before .before .before .before .before .before .pre .1 .2) (c .before .before .before .kind .ensures) (c .before .before .if3 .left) in (
+      search needs,
+      c .before .operands .ensures,
+      k,
+      omega arith,
+      refl,
+      refl,
+      built-none _ _ _ _ _ _ (c .before .before .before .before .before .if1 .left) (c .before .before .before .before .if2 .left) _ _ (c .entry2 .ensures) (c .before .operands .ensures) k (c .before .before .before .before .before .before .before .pre .1 .3),
+    )
+
+build-add-entry : (t : ℕ) → build-lts.Need-add-entry (build-calls t) (build-at t) build.Post build-Inv-loop build-μ-loop
+build-add-entry t c = omega (arith, c .before .before .before .before .before .before .before .before .before .before .before .pre .1 .0 .few _ (c .before .before .before .before .before .before .before .before .before .before .before .pre .1 .1))
+
+build-entry-requires-3 : (t : ℕ) → build-lts.Need-entry-requires-3 (build-calls t) (build-at t) build.Post build-Inv-loop build-μ-loop
+build-entry-requires-3 t c κs = omega (arith, c .before .before .before .before .before .before .before .before .before .before .before .pre .1 .0 .few _ (c .before .before .before .before .before .before .before .before .before .before .before .pre .1 .1))
+
+build-sub-build : (t : ℕ) → build-lts.Need-sub-build (build-calls t) (build-at t) build.Post build-Inv-loop build-μ-loop
+build-sub-build t c = search needs
+
+build-build-requires : (t : ℕ) → build-lts.Need-build-requires (build-calls t) (build-at t) build.Post build-Inv-loop build-μ-loop
+build-build-requires t c κs =
+    let i = c .before .before .before .before .loop .inv in
+    let q = operand-pattern _ (c .before .before .before .before .before .before .before .before .before .before .before .before .pre .1 .0) _ _ _ (c .before .before .before .before .before .before .before .before .before .before .before .before .pre .1 .1) (i .2) (below t (c .before .before .before)) (c .entry3 .ensures) in
+    (omega arith, (c .before .before .before .before .before .before .before .before .before .before .before .before .pre .1 .0, q .0, q .1, i .6 .steady, i .6 .frame .long ∙ c .before .before .before .before .before .before .before .before .before .before .before .before .pre .1 .4))
+
+build-told-requires : (t : ℕ) → build-lts.Need-told-requires (build-calls t) (build-at t) build.Post build-Inv-loop build-μ-loop
+build-told-requires t c κs = search needs
+
+build-enum-known-x : (t : ℕ) → build-lts.Need-enum-known-x (build-calls t) (build-at t) build.Post build-Inv-loop build-μ-loop
+build-enum-known-x t c = search needs
+
+build-same-length : (t : ℕ) → build-lts.Need-same-length (build-calls t) (build-at t) build.Post build-Inv-loop build-μ-loop
+build-same-length t c = search needs
+
+build-returns-5 : (t : ℕ) → build-lts.Need-returns-5 (build-calls t) (build-at t) build.Post build-Inv-loop build-μ-loop
+build-returns-5 t c = build-stops _ _ _ _ _ _ _ _ _ _ (c .before .before .before .before .before .before .before .before .before .loop .inv .6) (c .before .before .before .before .before .before .before .before .before .before .before .before .before .before .before .before .before .pre .1 .0 .few _ (c .before .before .before .before .before .before .before .before .before .before .before .before .before .before .before .before .before .pre .1 .1)) (below t (c .before .before .before .before .before .before .before .before)) _ _ (c .before .before .before .before .before .entry3 .ensures) _ _ (c .before .before .before .before .build .ensures) _ (c .before .told .ensures) (c .match .keys2)
+
+build-cast-made : (t : ℕ) → build-lts.Need-cast-made (build-calls t) (build-at t) build.Post build-Inv-loop build-μ-loop
+build-cast-made t c = search needs
+
+build-add-made : (t : ℕ) → build-lts.Need-add-made (build-calls t) (build-at t) build.Post build-Inv-loop build-μ-loop
+build-add-made t c = search needs
+
+build-mul-made : (t : ℕ) → build-lts.Need-mul-made (build-calls t) (build-at t) build.Post build-Inv-loop build-μ-loop
+build-mul-made t c = search needs
+
+build-array-write-made : (t : ℕ) → build-lts.Need-array-write-made (build-calls t) (build-at t) build.Post build-Inv-loop build-μ-loop
+build-array-write-made t c = omega (arith, c .before .before .before .before .before .before .before .before .before .before .before .before .before .before .before .before .before .before .before .pre .1 .0 .few _ (c .before .before .before .before .before .before .before .before .before .before .before .before .before .before .before .before .before .before .before .pre .1 .1))
+
+build-add-i : (t : ℕ) → build-lts.Need-add-i (build-calls t) (build-at t) build.Post build-Inv-loop build-μ-loop
+build-add-i t c = search needs
+
+build-loop-less : (t : ℕ) → build-lts.Need-loop-less (build-calls t) (build-at t) build.Post build-Inv-loop build-μ-loop
+build-loop-less t c = search needs
+
+build-loop-again : (t : ℕ) → build-lts.Need-loop-again (build-calls t) (build-at t) build.Post build-Inv-loop build-μ-loop
+build-loop-again t c =
+    let i = c .before .before .before .before .before .before .before .before .before .before .before .loop .inv in (
+      search needs,
+      i .1,
+      i .2,
+      omega (arith, done-node _ _ _ (sym (c .before .before .before .told .ensures) ∙ c .before .x .given .1)),
+      c .before .before .before .before .before .before .build .kept .1 .0 ∙ i .4,
+      simp length-set (i .5),
+      built-more _ _ _ _ _ _ _ _ _ _ (i .6) (c .before .before .before .before .before .before .before .before .before .before .before .before .before .before .before .before .before .before .before .pre .1 .0 .few _ (c .before .before .before .before .before .before .before .before .before .before .before .before .before .before .before .before .before .before .before .pre .1 .1)) (below t (c .before .before .before .before .before .before .before .before .before .before)) _ _ (c .before .before .before .before .before .before .before .entry3 .ensures) _ _ (c .before .before .before .before .before .before .build .ensures) _ (c .before .before .before .told .ensures) (c .before .before .before .before .before .before .before .before .before .before .before .before .before .before .before .before .before .before .before .pre .1 .0) _ _ (c .before .x .given .1),
+    )
+
+build-node-requires : (t : ℕ) → build-lts.Need-node-requires (build-calls t) (build-at t) build.Post build-Inv-loop build-μ-loop
+build-node-requires t c κs = (roomy (c .before .before .before .loop .inv .6 .steady), c .before .before .before .loop .inv .6 .frame .long ∙ c .before .before .before .before .before .before .before .before .before .before .before .pre .1 .4)
+
+build-same-length-2 : (t : ℕ) → build-lts.Need-same-length-2 (build-calls t) (build-at t) build.Post build-Inv-loop build-μ-loop
+build-same-length-2 t c = search needs
+
+build-returns-6 : (t : ℕ) → build-lts.Need-returns-6 (build-calls t) (build-at t) build.Post build-Inv-loop build-μ-loop
+build-returns-6 t c =
+    let l : operandCount (c .before .before .before .before .before .before .before .before .before .before .before .before .before .before .args .table .now) (c .before .before .before .before .before .before .before .before .before .before .before .before .before .before .args .p) ≡ c .before .before .before .before .before .before .loop .i = omega arith in
+    built-all _ _ _ _ _ _ _ _ _ _ (c .before .before .before .before .before .before .loop .inv .6) (c .before .before .before .before .before .before .before .before .before .before .before .before .before .before .pre .1 .0 .few _ (c .before .before .before .before .before .before .before .before .before .before .before .before .before .before .pre .1 .1)) l _ _ _ (c .before .before .node .ensures)
+
+pub +build-spec : {M : Type 1} → statement M
++build-spec = close μ-build λ t. build-lts.spec (build-calls t)
+    (build-at t)
+    build.Post
+    build-Inv-loop
+    build-μ-loop
+    (build-no-units-requires t)
+    (build-returns t)
+    (build-no-nesting-requires t)
+    (build-returns-2 t)
+    (build-sub-u t)
+    (build-kind-requires t)
+    (build-entry-requires t)
+    (build-element-copy-out-bit t)
+    (build-bit-requires t)
+    (build-cast-done t)
+    (build-mul-done t)
+    (build-element-copy-out-done t)
+    (build-done-requires t)
+    (build-returns-3 t)
+    (build-failure-requires t)
+    (build-returns-4 t)
+    (build-operands-requires t)
+    (build-entry-requires-2 t)
+    (build-loop-holds t)
+    (build-add-entry t)
+    (build-entry-requires-3 t)
+    (build-sub-build t)
+    (build-build-requires t)
+    (build-told-requires t)
+    (build-enum-known-x t)
+    (build-same-length t)
+    (build-returns-5 t)
+    (build-cast-made t)
+    (build-add-made t)
+    (build-mul-made t)
+    (build-array-write-made t)
+    (build-add-i t)
+    (build-loop-less t)
+    (build-loop-again t)
+    (build-node-requires t)
+    (build-same-length-2 t)
+    (build-returns-6 t)

@@ -1,0 +1,210 @@
+-- `matcher::matching` meets its contract: the root's kind, and for a constructor what `fits` says of its children.
+use mathlib.Core.Path.{_≡_, sym, _∙_}
+use Prim.Native.Nat.{_<_}
+use native.Mathlib.Omega.{arith}
+use mathlib.Core.Bool.{true}
+use borrow.Author.Tests.{not-true, not-false}
+use Rattle.checks.specs.Good.{kindOf}
+use Rattle.engine.specs.Answers.{nodeIn}
+use Rattle.engine.specs.Record.{markOf, held}
+use Rattle.engine.specs.Visits.{agreeing}
+use Rattle.engine.proofs.Patterns.{no-variable}
+use Rattle.engine.proofs.Matching.{set-bound, root-units, root-nesting, root-small, root-free, root-bound, root-bound-stops, root-other, root-leaf, root-handed, root-stops, root-fits}
+use borrow.Author.Needs.{needs}
+use Rattle.engine.proofs.matcher.matching.Statement.{statement}
+use Rattle.engine.proofs.matcher.matching.Tie as tie
+
+-- a variable, where its number is read
+is-variable : (c : tie.After-entry) → kindOf (c .before .before .before .before .before .before .args .table .now) (c .before .before .before .before .before .before .args .p) ≡ 18
+is-variable c = sym (c .before .before .kind .ensures) ∙ c .before .if3 .taken
+
+small : (c : tie.After-entry) → c .entry .result < 32
+small c = root-small (c .before .before .before .before .before .before .pre .0) (c .before .before .before .before .before .before .args .deep) (c .before .before .before .before .if1 .left) (c .before .before .before .if2 .left) (is-variable c) (c .entry .ensures)
+
+-- a constructor, which agrees with the node's
+is-constructor : (c : tie.Else3) → kindOf (c .before .before .before .before .before .args .table .now) (c .before .before .before .before .before .args .p) ≡ 19
+is-constructor c = no-variable (c .before .before .before .before .before .args .table .now) (c .before .before .before .before .before .args .p) _ (c .before .before .before .before .before .pre .1) (c .before .kind .ensures) (c .if3 .left)
+
+agrees : (c : tie.Else5) → agreeing (c .before .before .before .before .before .before .before .args .table .now) (c .before .before .before .before .before .before .before .args .store .now) (c .before .before .before .before .before .before .before .args .p) (nodeIn (c .before .before .before .before .before .before .before .args .s)) ≡ true
+agrees c = sym (c .before .agree .ensures) ∙ not-false _ (c .if5 .left)
+
+cast-left : tie.Need-cast-left
+cast-left c = search needs
+
+no-units-requires : tie.Need-no-units-requires
+no-units-requires c κs = search needs
+
+returns : tie.Need-returns
+returns c = root-units (c .before .before .before .pre .0) _ (c .no-units .ensures) (c .before .if1 .taken)
+
+no-nesting-requires : tie.Need-no-nesting-requires
+no-nesting-requires c κs = search needs
+
+returns-2 : tie.Need-returns-2
+returns-2 c = root-nesting (c .before .before .before .before .pre .0) _ (c .no-nesting .ensures) (c .before .before .if1 .left) (c .before .if2 .taken)
+
+cast-t : tie.Need-cast-t
+cast-t c = search needs
+
+kind-requires : tie.Need-kind-requires
+kind-requires c κs = search needs
+
+entry-requires : tie.Need-entry-requires
+entry-requires c κs = search needs
+
+element-copy-out-bit : tie.Need-element-copy-out-bit
+element-copy-out-bit c = search needs
+
+bit-requires : tie.Need-bit-requires
+bit-requires c κs = let v = small (c .before) in omega arith
+
+cast-same : tie.Need-cast-same
+cast-same c = search needs
+
+mul-same : tie.Need-mul-same
+mul-same c = search needs
+
+element-copy-out-same : tie.Need-element-copy-out-same
+element-copy-out-same c = let v = small (c .before .before .before) in omega arith
+
+sub-same : tie.Need-sub-same
+sub-same c = search needs
+
+sub-same-2 : tie.Need-sub-same-2
+sub-same-2 c = search needs
+
+same-requires : tie.Need-same-requires
+same-requires c κs = search needs
+
+told-requires : tie.Need-told-requires
+told-requires c κs = search needs
+
+enum-known-u : tie.Need-enum-known-u
+enum-known-u c = search needs
+
+returns-3 : tie.Need-returns-3
+returns-3 c = root-bound-stops (c .before .before .before .before .before .before .before .before .before .before .before .before .before .pre .0) _ (c .before .before .before .before .before .before .before .before .before .before .before .if1 .left) (c .before .before .before .before .before .before .before .before .before .before .if2 .left) (is-variable (c .before .before .before .before .before .before .before)) (c .before .before .before .before .before .before .before .entry .ensures) (sym (c .before .before .before .before .before .bit .ensures) ∙ c .before .before .before .before .if4 .taken) _ (c .before .before .same .ensures _ (held (c .before .before .before .before .before .before .before .before .before .before .before .before .before .args .st .now)) (markOf (c .before .before .before .before .before .before .before .before .before .before .before .before .before .args .st .now))) _ (c .before .told .ensures) (c .match .keys2)
+
+done-requires : tie.Need-done-requires
+done-requires c κs = search needs
+
+returns-4 : tie.Need-returns-4
+returns-4 c = root-bound (c .before .before .before .before .before .before .before .before .before .before .before .before .before .before .before .before .pre .0) _ (c .before .before .before .before .before .before .before .before .before .before .before .before .before .before .if1 .left) (c .before .before .before .before .before .before .before .before .before .before .before .before .before .if2 .left) (is-variable (c .before .before .before .before .before .before .before .before .before .before)) (c .before .before .before .before .before .before .before .before .before .before .entry .ensures) (sym (c .before .before .before .before .before .before .before .before .bit .ensures) ∙ c .before .before .before .before .before .before .before .if4 .taken) _ (c .before .before .before .before .before .same .ensures _ (held (c .before .before .before .before .before .before .before .before .before .before .before .before .before .before .before .before .args .st .now)) (markOf (c .before .before .before .before .before .before .before .before .before .before .before .before .before .before .before .before .args .st .now))) _ (c .before .before .before .before .told .ensures) _ _ _ (c .before .before .u .given .1) (c .done .ensures)
+
+cast-st : tie.Need-cast-st
+cast-st c = search needs
+
+mul-st : tie.Need-mul-st
+mul-st c = search needs
+
+element-write-st : tie.Need-element-write-st
+element-write-st c = let v = small (c .before .before .before) in omega arith
+
+element-copy-out-st : tie.Need-element-copy-out-st
+element-copy-out-st c = search needs
+
+shl-st : tie.Need-shl-st
+shl-st c = let v = small (c .before .before .before .before) in omega arith
+
+element-write-st-2 : tie.Need-element-write-st-2
+element-write-st-2 c = search needs
+
+sub-result : tie.Need-sub-result
+sub-result c = search needs
+
+returns-5 : tie.Need-returns-5
+returns-5 c = root-free (c .before .before .before .before .before .before .before .before .before .before .pre .0) _ (c .before .before .before .before .before .before .before .before .if1 .left) (c .before .before .before .before .before .before .before .if2 .left) (is-variable (c .before .before .before .before)) (c .before .before .before .before .entry .ensures) (λ e. c .before .if4 .left (c .before .before .bit .ensures ∙ e)) (set-bound _ _ _ (small (c .before .before .before .before)))
+
+agree-requires : tie.Need-agree-requires
+agree-requires c κs = search needs
+
+sub-failure : tie.Need-sub-failure
+sub-failure c = search needs
+
+failure-requires : tie.Need-failure-requires
+failure-requires c κs = search needs
+
+returns-6 : tie.Need-returns-6
+returns-6 c = root-other (c .before .before .before .before .before .before .before .before .pre .0) _ (c .before .before .before .before .before .before .if1 .left) (c .before .before .before .before .before .if2 .left) (is-constructor (c .before .before .before)) (c .failure .ensures) (sym (c .before .before .agree .ensures) ∙ not-true _ (c .before .if5 .taken))
+
+operands-requires : tie.Need-operands-requires
+operands-requires c κs = search needs
+
+sub-result-2 : tie.Need-sub-result-2
+sub-result-2 c = search needs
+
+returns-7 : tie.Need-returns-7
+returns-7 c = root-leaf (c .before .before .before .before .before .before .before .before .before .pre .0) _ (c .before .before .before .before .before .before .before .if1 .left) (c .before .before .before .before .before .before .if2 .left) (is-constructor (c .before .before .before .before)) (agrees (c .before .before)) (sym (c .before .operands .ensures) ∙ c .if6 .taken)
+
+sub-fits : tie.Need-sub-fits
+sub-fits c = search needs
+
+sub-fits-2 : tie.Need-sub-fits-2
+sub-fits-2 c = search needs
+
+fits-requires : tie.Need-fits-requires
+fits-requires c κs = (c .before .before .before .before .before .before .before .before .before .before .pre .0 .entries, c .before .before .before .before .before .before .before .before .before .before .pre .0 .inside, is-constructor (c .before .before .before .before .before), root-handed (c .before .before .before .before .before .before .before .before .before .before .pre .0) _ (c .before .before .before .before .before .before .before .before .if1 .left) (c .before .before .before .before .before .before .before .if2 .left) (is-constructor (c .before .before .before .before .before)) (agrees (c .before .before .before)))
+
+told-requires-2 : tie.Need-told-requires-2
+told-requires-2 c κs = search needs
+
+enum-known-u-2 : tie.Need-enum-known-u-2
+enum-known-u-2 c = search needs
+
+returns-8 : tie.Need-returns-8
+returns-8 c = root-stops (c .before .before .before .before .before .before .before .before .before .before .before .before .before .pre .0) _ (c .before .before .before .before .before .before .before .before .before .before .before .if1 .left) (c .before .before .before .before .before .before .before .before .before .before .if2 .left) (is-constructor (c .before .before .before .before .before .before .before .before)) (agrees (c .before .before .before .before .before .before)) _ _ (c .before .before .fits2 .ensures) _ (c .before .told2 .ensures) (c .match2 .keys2)
+
+done-requires-2 : tie.Need-done-requires-2
+done-requires-2 c κs = search needs
+
+returns-9 : tie.Need-returns-9
+returns-9 c = root-fits (c .before .before .before .before .before .before .before .before .before .before .before .before .before .before .before .before .before .before .pre .0) _ (c .before .before .before .before .before .before .before .before .before .before .before .before .before .before .before .before .if1 .left) (c .before .before .before .before .before .before .before .before .before .before .before .before .before .before .before .if2 .left) (is-constructor (c .before .before .before .before .before .before .before .before .before .before .before .before .before)) (agrees (c .before .before .before .before .before .before .before .before .before .before .before)) _ _ (c .before .before .before .before .before .before .before .fits2 .ensures) _ (c .before .before .before .before .before .before .told2 .ensures) _ _ _ (c .before .before .before .before .u2 .given .1) (c .done2 .ensures)
+
+pub matching-spec : {M : Type 1} → statement M
+matching-spec =
+    tie.close
+    (tie.spec
+    cast-left
+    no-units-requires
+    returns
+    no-nesting-requires
+    returns-2
+    cast-t
+    kind-requires
+    entry-requires
+    element-copy-out-bit
+    bit-requires
+    cast-same
+    mul-same
+    element-copy-out-same
+    sub-same
+    sub-same-2
+    same-requires
+    told-requires
+    enum-known-u
+    returns-3
+    done-requires
+    returns-4
+    cast-st
+    mul-st
+    element-write-st
+    element-copy-out-st
+    shl-st
+    element-write-st-2
+    sub-result
+    returns-5
+    agree-requires
+    sub-failure
+    failure-requires
+    returns-6
+    operands-requires
+    sub-result-2
+    returns-7
+    sub-fits
+    sub-fits-2
+    fits-requires
+    told-requires-2
+    enum-known-u-2
+    returns-8
+    done-requires-2
+    returns-9)

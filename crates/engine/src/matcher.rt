@@ -1,0 +1,147 @@
+// The matcher: pattern and term walked together, left to right. The bindings are one record that it fills as it walks;
+// its core takes and returns the record by value.
+use crate::answers::Answer;
+use crate::answers::done;
+use crate::answers::failure;
+use crate::answers::no_nesting;
+use crate::answers::no_units;
+use crate::answers::told;
+use crate::compare::same;
+use crate::reading::agree;
+use crate::reading::entry;
+use crate::reading::kind;
+use crate::reading::operands;
+use crate::record::Bindings;
+use crate::record::bind;
+use crate::record::bit;
+use words::word;
+ghost use mathlib.Core.Path.{_≡_};
+ghost use mathlib.Core.Bool.{true};
+ghost use Prim.Native.Nat.{_<_};
+ghost use Rattle.meaning.specs.Rules.{match as met};
+ghost use Rattle.checks.specs.Good.{kindOf};
+ghost use Rattle.engine.specs.Answers.{nodeIn, unitsIn};
+ghost use Rattle.engine.specs.Record.{markOf, held};
+ghost use Rattle.engine.specs.Visits.{visit, Pattern, Entries, agreeing, Ready, Gives, Fitting};
+
+pub struct Fitted {
+    pub got: u64,
+    pub binds: Bindings,
+}
+
+// A PCON whose constructor and count agree with the node's, after its own visit: child by child.
+pub fn fits(table: &[u32; 32768], store: &[u32], p: u32, s: u64, b: Bindings, deep: u32) -> Fitted
+    requires { ⌜ Entries (now table) × (p < 4096) × (kindOf (now table) p ≡ 19) × (agreeing (now table) (now store) p (nodeIn s) ≡ true) ⌝ }
+    ensures { λ r. ⌜ Fitting (now (table .entry)) (now (store .entry)) deep p s (b .words) (r .got) (r .binds .words) ⌝ }
+{
+    let t = (s / 4294967296) as u32;
+    let mut u = (s % 4294967296) as u32;
+    let mut words = b.words;
+    let n = operands(table, p);
+    let mut i: u32 = 0;
+    while i < n {
+        let q = entry(table, p, 2 + i);
+        let c = word(store, t, 2 + i);
+        if u == 0 {
+            return Fitted {
+                got: no_units(),
+                binds: Bindings { words },
+            };
+        }
+        if deep == 0 {
+            return Fitted {
+                got: no_nesting(u),
+                binds: Bindings { words },
+            };
+        }
+        u -= 1;
+        if kind(table, q) == 18 {
+            let v = entry(table, q, 1);
+            if bit(words[33], v) == 1 {
+                let got = same(store, words[v as usize], c, u, deep - 1);
+                let Answer::Done(_, left) = told(got) else {
+                    return Fitted {
+                        got,
+                        binds: Bindings { words },
+                    };
+                };
+                u = left;
+            } else {
+                let set = bind(Bindings { words }, v, c);
+                words = set.words;
+            }
+        } else {
+            if !agree(table, store, q, c) {
+                return Fitted {
+                    got: failure(u),
+                    binds: Bindings { words },
+                };
+            }
+            if operands(table, q) != 0 {
+                let f = fits(table, store, q, done(c, u), Bindings { words }, deep - 1);
+                let got = f.got;
+                let Answer::Done(_, left) = told(got) else {
+                    return f;
+                };
+                u = left;
+                let filled = f.binds;
+                words = filled.words;
+            }
+        }
+        i += 1;
+    }
+    Fitted {
+        got: done(0, u),
+        binds: Bindings { words },
+    }
+}
+
+// MATCH of the pattern p on a node: the root is looked at before the record is made.
+pub fn matching(
+    table: &[u32; 32768],
+    store: &[u32],
+    st: &mut [u32; 34],
+    p: u32,
+    s: u64,
+    deep: u32,
+) -> u64
+    requires { ⌜ Ready (now table) (now store) (now st) p s × Pattern (now table) p ⌝ }
+    ensures { λ r. ⌜ Gives (visit (now (table .entry)) deep (met p (nodeIn s) (held (now (st .entry)))) (now (store .entry)) (markOf (now (st .entry))) (unitsIn s)) (now (st .entry)) r (now (st .exit)) (now (store .entry)) ⌝ }
+{
+    let left = (s % 4294967296) as u32;
+    if left == 0 {
+        return no_units();
+    }
+    if deep == 0 {
+        return no_nesting(left);
+    }
+    let t = (s / 4294967296) as u32;
+    if kind(table, p) == 18 {
+        let v = entry(table, p, 1);
+        if bit(st[33], v) == 1 {
+            let got = same(store, st[v as usize], t, left - 1, deep - 1);
+            let Answer::Done(_, u) = told(got) else {
+                return got;
+            };
+            return done(t, u);
+        }
+        st[v as usize] = t;
+        st[33] = st[33] | (1 << v);
+        return s - 1;
+    }
+    if !agree(table, store, p, t) {
+        return failure(left - 1);
+    }
+    if operands(table, p) == 0 {
+        return s - 1;
+    }
+    let f = fits(table, store, p, s - 1, Bindings { words: *st }, deep - 1);
+    let got = f.got;
+    let Answer::Done(_, u) = told(got) else {
+        return got;
+    };
+    let b = f.binds;
+    let w = b.words;
+    *st = w;
+    done(t, u)
+}
