@@ -1,0 +1,5 @@
+-- The laws of the definitions in specs/.
+pub mod Accepting
+pub mod Copying
+pub mod Fetching
+pub mod Whole

@@ -1,0 +1,123 @@
+use Prim.Native.Nat.{ℕ, _+_, _-_, _≤_}
+use mathlib.Core.Path.{_≡_, sym, _∙_, subst}
+use mathlib.Core.List.{List}
+use mathlib.Core.Logic.{⊎-elim}
+use borrow.Author.Needs.{needs}
+use native.Mathlib.Omega.{arith}
+use Rattle.engine.specs.Record.{held}
+use Rattle.engine.proofs.Holding.{held-some}
+use Rattle.marshtrundle.proofs.Copying.{Written, written-none, written-more, written-all, word-some, word-none}
+use Rattle.marshtrundle.proofs.loading.closed.Statement.{statement}
+use Rattle.marshtrundle.proofs.loading.closed.Tie as tie
+use Rattle.marshtrundle.proofs.loading.closed.Reads as reads
+use Rattle.marshtrundle.proofs.loading.closed.Lts as lts
+use Rattle.engine.proofs.record.bit.Reads as bit-reads
+
+abbrev Inv-loop : tie.InvT-loop
+Inv-loop bindings₀ st mask v₀ bindings v = (v ≤ 32) × Written (held st) bindings v
+
+abbrev μ-loop : tie.MeasureT-loop
+μ-loop bindings₀ st mask v₀ bindings v = 32 - v
+
+array-read-mask : tie.Need-array-read-mask Inv-loop μ-loop
+array-read-mask c = search needs
+
+loop-holds : tie.Need-loop-holds Inv-loop μ-loop
+loop-holds c = (omega arith, written-none (held (c .before .args .t2)) (c .before .args .bindings .now) (c .before .pre .0))
+
+cast-k : tie.Need-cast-k Inv-loop μ-loop
+cast-k c = search needs
+
+bit-requires : tie.Need-bit-requires Inv-loop μ-loop
+bit-requires c κs = search needs
+
+mul-bindings : tie.Need-mul-bindings Inv-loop μ-loop
+mul-bindings c = search needs
+
+array-read-bindings : tie.Need-array-read-bindings Inv-loop μ-loop
+array-read-bindings c = search needs
+
+add-bindings : tie.Need-add-bindings Inv-loop μ-loop
+add-bindings c =
+    omega (
+      arith,
+      c .before .before .before .before .before .pre .1 _ _
+          (held-some
+          (c .before .before .before .before .before .args .t2)
+          (c .before .before .before .loop .v)
+          (omega arith)
+          (sym (c .before .bit .ensures) ∙ c .if1 .taken)),
+    )
+
+mul-bindings-2 : tie.Need-mul-bindings-2 Inv-loop μ-loop
+mul-bindings-2 c = search needs
+
+slice-write-bindings : tie.Need-slice-write-bindings Inv-loop μ-loop
+slice-write-bindings c = search needs
+
+mul-bindings-3 : tie.Need-mul-bindings-3 Inv-loop μ-loop
+mul-bindings-3 c = search needs
+
+slice-write-bindings-2 : tie.Need-slice-write-bindings-2 Inv-loop μ-loop
+slice-write-bindings-2 c = search needs
+
+add-v : tie.Need-add-v Inv-loop μ-loop
+add-v c = search needs
+
+loop-less : tie.Need-loop-less Inv-loop μ-loop
+loop-less c = search needs
+
+loop-again : tie.Need-loop-again Inv-loop μ-loop
+loop-again c = (
+  omega arith,
+  ⊎-elim
+      (λ w.
+      rw (w .1)
+      (written-more _ _ _ _
+      (c .before .before .before .loop .inv .1)
+      (omega arith)
+      (word-some
+      (c .before .before .before .before .before .args .t2)
+      (c .before .before .before .loop .v)
+      (omega arith)
+      (sym (c .before .bit .ensures) ∙ w .0 .taken))))
+      (λ w.
+      rw (w .1)
+      (written-more _ _ _ _
+      (c .before .before .before .loop .inv .1)
+      (omega arith)
+      (word-none
+      (c .before .before .before .before .before .args .t2)
+      (c .before .before .before .loop .v)
+      (λ e. w .0 .left (c .before .bit .ensures ∙ e)))))
+      (c .if1 .came),
+)
+
+same-length : tie.Need-same-length Inv-loop μ-loop
+same-length c = search needs
+
+returns : tie.Need-returns Inv-loop μ-loop
+returns c = written-all _ _ _ (c .before .loop .inv .1) (omega arith)
+
+pub closed-spec : {M : Type 1} → statement M
+closed-spec =
+    tie.close
+    (tie.spec
+    Inv-loop
+    μ-loop
+    array-read-mask
+    loop-holds
+    cast-k
+    bit-requires
+    mul-bindings
+    array-read-bindings
+    add-bindings
+    mul-bindings-2
+    slice-write-bindings
+    mul-bindings-3
+    slice-write-bindings-2
+    add-v
+    loop-less
+    loop-again
+    same-length
+    returns)

@@ -1,0 +1,66 @@
+use Rattle.marshtrundle.specs.Refused.{refused}
+use borrow.Author.Tests.{eq-eqb, ne-eqb, not-true, not-false}
+use borrow.Author.Needs.{needs}
+use Rattle.marshtrundle.proofs.refusals.refusal.Statement.{statement}
+use Rattle.marshtrundle.proofs.refusals.refusal.Tie as tie
+use Rattle.marshtrundle.proofs.refusals.refusal.Reads as reads
+use Rattle.marshtrundle.proofs.refusals.refusal.Lts as lts
+use Rattle.checks.proofs.entries.check_table.Reads as check-table-reads
+use Rattle.checks.proofs.nodes.check_store.Reads as check-store-reads
+use Rattle.marshtrundle.proofs.refusals.sizes_fit.Reads as sizes-fit-reads
+use Rattle.marshtrundle.proofs.refusals.start_fits.Reads as start-fits-reads
+
+-- src/refusals.rt:60:9
+sizes-fit-requires : tie.Need-sizes-fit-requires
+sizes-fit-requires c κs = search needs
+
+-- src/refusals.rt:61:9
+returns : tie.Need-returns
+unfolding refused
+returns c = rw (← c .before .sizes-fit .ensures, not-true (c .before .sizes-fit .result) (c .if1 .taken))
+
+-- src/refusals.rt:66:9
+check-table-requires : tie.Need-check-table-requires
+check-table-requires c κs = search needs
+
+-- src/refusals.rt:68:9
+returns-2 : tie.Need-returns-2
+unfolding refused
+returns-2 c = rw (← c .before .before .before .before .sizes-fit .ensures, not-false (c .before .before .before .before .sizes-fit .result) (c .before .before .before .if1 .left), ← c .before .before .check-table .ensures, ne-eqb _ _ (c .if2 .taken))
+
+-- src/refusals.rt:70:9
+check-store-requires : tie.Need-check-store-requires
+check-store-requires c κs = search needs
+
+-- src/refusals.rt:72:9
+returns-3 : tie.Need-returns-3
+unfolding refused
+returns-3 c = rw (← c .before .before .before .before .before .before .before .sizes-fit .ensures, not-false (c .before .before .before .before .before .before .before .sizes-fit .result) (c .before .before .before .before .before .before .if1 .left), ← c .before .before .before .before .before .check-table .ensures, eq-eqb _ _ (c .before .before .before .if2 .left), ← c .before .before .check-store .ensures, ne-eqb _ _ (c .if3 .taken))
+
+-- src/refusals.rt:74:9
+start-fits-requires : tie.Need-start-fits-requires
+start-fits-requires c κs = search needs
+
+-- src/refusals.rt:75:9
+returns-4 : tie.Need-returns-4
+unfolding refused
+returns-4 c = rw (← c .before .before .before .before .before .before .before .before .before .sizes-fit .ensures, not-false (c .before .before .before .before .before .before .before .before .before .sizes-fit .result) (c .before .before .before .before .before .before .before .before .if1 .left), ← c .before .before .before .before .before .before .before .check-table .ensures, eq-eqb _ _ (c .before .before .before .before .before .if2 .left), ← c .before .before .before .before .check-store .ensures, eq-eqb _ _ (c .before .before .if3 .left), ← c .before .start-fits .ensures, not-true (c .before .start-fits .result) (c .if4 .taken))
+
+-- src/refusals.rt:57:1
+returns-5 : tie.Need-returns-5
+unfolding refused
+returns-5 c = rw (← c .before .before .before .before .before .before .before .before .before .sizes-fit .ensures, not-false (c .before .before .before .before .before .before .before .before .before .sizes-fit .result) (c .before .before .before .before .before .before .before .before .if1 .left), ← c .before .before .before .before .before .before .before .check-table .ensures, eq-eqb _ _ (c .before .before .before .before .before .if2 .left), ← c .before .before .before .before .check-store .ensures, eq-eqb _ _ (c .before .before .if3 .left), ← c .before .start-fits .ensures, not-false (c .before .start-fits .result) (c .if4 .left))
+
+pub refusal-spec : {M : Type 1} → statement M
+refusal-spec =
+    tie.close
+    (tie.spec
+    sizes-fit-requires
+    returns
+    check-table-requires
+    returns-2
+    check-store-requires
+    returns-3
+    start-fits-requires
+    returns-4
+    returns-5)

@@ -1,0 +1,60 @@
+-- `marshtrundle::refusals::sizes_fit` meets its contract, test by test. Assumes nothing.
+use borrow.Author.Needs.{needs}
+use borrow.Author.Tests.{eq-eqb, ne-eqb, not-true, not-false}
+use Rattle.marshtrundle.specs.Refused.{sizesFit}
+use Rattle.marshtrundle.proofs.refusals.sizes_fit.Statement.{statement}
+use Rattle.marshtrundle.proofs.refusals.sizes_fit.Tie as tie
+
+table-length-fits-requires : tie.Need-table-length-fits-requires
+table-length-fits-requires c κs = search needs
+
+returns : tie.Need-returns
+unfolding sizesFit
+returns c =
+    rw (← c .before .table-length-fits .ensures, not-true (c .before .table-length-fits .result) (c .if1 .taken))
+
+store-length-fits-requires : tie.Need-store-length-fits-requires
+store-length-fits-requires c κs = search needs
+
+returns-2 : tie.Need-returns-2
+unfolding sizesFit
+returns-2 c =
+    rw (
+      ← c .before .before .before .table-length-fits .ensures,
+      not-false (c .before .before .before .table-length-fits .result) (c .before .before .if1 .left),
+      ← c .before .store-length-fits .ensures,
+      not-true (c .before .store-length-fits .result) (c .if2 .taken),
+    )
+
+returns-3 : tie.Need-returns-3
+unfolding sizesFit
+returns-3 c =
+    rw (
+      ← c .before .before .before .before .table-length-fits .ensures,
+      not-false (c .before .before .before .before .table-length-fits .result) (c .before .before .before .if1 .left),
+      ← c .before .before .store-length-fits .ensures,
+      not-false (c .before .before .store-length-fits .result) (c .before .if2 .left),
+      ne-eqb _ _ (c .if3 .taken),
+    )
+
+returns-4 : tie.Need-returns-4
+unfolding sizesFit
+returns-4 c =
+    rw (
+      ← c .before .before .before .before .table-length-fits .ensures,
+      not-false (c .before .before .before .before .table-length-fits .result) (c .before .before .before .if1 .left),
+      ← c .before .before .store-length-fits .ensures,
+      not-false (c .before .before .store-length-fits .result) (c .before .if2 .left),
+      eq-eqb _ _ (c .if3 .left),
+    )
+
+pub sizes-fit-spec : {M : Type 1} → statement M
+sizes-fit-spec =
+    tie.close
+    (tie.spec
+    table-length-fits-requires
+    returns
+    store-length-fits-requires
+    returns-2
+    returns-3
+    returns-4)

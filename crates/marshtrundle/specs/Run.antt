@@ -1,0 +1,33 @@
+-- What a run returns, for every input: the five numbers and every word of the store and of the bindings.
+use mathlib.Core.List.{List}
+use Prim.Native.Nat.{ℕ}
+use lib.Dec.{eqb}
+use Rattle.words.specs.Tests.{if_then_else_}
+use Rattle.checks.specs.declared.Checked.{Checked}
+use Rattle.meaning.specs.Store.{Input, ran}
+use Rattle.meaning.specs.Answer.{Returned, number, returned}
+use Rattle.engine.specs.Visits.{limitOf}
+use Rattle.marshtrundle.specs.Refused.{refused}
+use Rattle.marshtrundle.specs.declared.running.Outcome.{Outcome}
+
+-- what is handed over
+abbrev pub input : List ℕ → List ℕ → List ℕ → ℕ → ℕ → ℕ → ℕ → Input
+input t s b mark start subject units = record { table = t; store = s; bindings = b; mark = mark; start = start; subject = subject; units = units }
+
+-- what comes back: the five numbers with the words at return
+abbrev pub back : Outcome → List ℕ → List ℕ → Returned
+back r s b = record { answer = r .answer; place = r .place; subject = r .subject; mark = r .mark; units = r .units; store = s; bindings = b }
+
+-- a refusal writes nothing, and its units are 0
+abbrev pub refusing : Input → Checked → Returned
+refusing i c = record { answer = c .answer; place = c .place; subject = i .subject; mark = i .mark; units = 0; store = i .store; bindings = i .bindings }
+
+-- refused, or run
+unfoldable pub runOf : Input → Returned
+runOf i =
+    if eqb (refused (i .table) (i .store) (i .bindings) (i .mark) (i .start) (i .subject) .answer) 0 then returned i (ran i)
+    else refusing i (refused (i .table) (i .store) (i .bindings) (i .mark) (i .start) (i .subject))
+
+-- the answer of a cut-off's word
+abbrev pub cutNumber : ℕ → ℕ
+cutNumber c = number (limitOf c)

@@ -1,0 +1,62 @@
+// What a run copies once: the table into words of fixed length, the bindings into the run's one record, and back.
+use engine::record::Bindings;
+use engine::record::bind;
+use engine::record::bit;
+ghost use mathlib.Core.Path.{_≡_};
+ghost use mathlib.Core.Option.{some};
+ghost use Prim.Native.Nat.{ℕ, _≤_, _<_};
+ghost use lib.ListN.{length};
+ghost use Rattle.meaning.specs.Answer.{bindingWords};
+ghost use Rattle.engine.specs.Record.{held};
+ghost use Rattle.marshtrundle.specs.Loaded.{Loaded, Opened};
+
+// The table in 32,768 words, zeros after its last.
+pub fn loaded(table: &[u32]) -> [u32; 32768]
+    requires { ⌜ length (now table) ≤ 32768 ⌝ }
+    ensures { λ r. ⌜ Loaded (now (table .entry)) r ⌝ }
+{
+    let mut code = [0u32; 32768];
+    let mut i: usize = 0;
+    while i < table.len() {
+        code[i] = table[i];
+        i += 1;
+    }
+    code
+}
+
+// The record of these bindings with this mark.
+pub fn opened(bindings: &[u32], mark: u32) -> [u32; 34]
+    requires { ⌜ length (now bindings) ≡ 32 ⌝ }
+    ensures { λ r. ⌜ Opened (now (bindings .entry)) mark r ⌝ }
+{
+    let mut words = [0u32; 34];
+    words[32] = mark;
+    let mut v: u32 = 0;
+    while v < 32 {
+        let w = bindings[v as usize];
+        if w != 0 {
+            let set = bind(Bindings { words }, v, w - 1);
+            words = set.words;
+        }
+        v += 1;
+    }
+    words
+}
+
+// The bindings that the record holds, written back; each bound node is below 131,072.
+pub fn closed(bindings: &mut [u32], st: [u32; 34])
+    requires { ⌜ (length (now bindings) ≡ 32) × ((v k : ℕ) → held st v ≡ some k → k < 131072) ⌝ }
+    ensures { λ _. ⌜ now (bindings .exit) ≡ bindingWords 32 (held st) ⌝ }
+{
+    let mask = st[33];
+    let mut v: u32 = 0;
+    while v < 32 {
+        let k = v as usize;
+        if bit(mask, v) == 1 {
+            bindings[k] = st[k] + 1;
+        } else {
+            bindings[k] = 0;
+        }
+        v += 1;
+    }
+}

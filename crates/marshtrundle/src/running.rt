@@ -1,0 +1,96 @@
+// The run: table, store and bindings as slices, the mark, the start, the subject, the units.
+use crate::loading::closed;
+use crate::loading::loaded;
+use crate::loading::opened;
+use crate::refusals::refusal;
+use engine::answers::Answer;
+use engine::answers::done;
+use engine::answers::told;
+use engine::visits::apply;
+use words::clear_from;
+ghost use mathlib.Core.Path.{_≡_};
+ghost use Rattle.marshtrundle.specs.Run.{input, back, runOf, cutNumber};
+
+// The five numbers that a run returns.
+pub struct Outcome {
+    pub answer: u32,
+    pub place: u32,
+    pub subject: u32,
+    pub mark: u32,
+    pub units: u32,
+}
+
+// The answer of a cut-off: 6 units, 7 room, 8 nesting.
+pub fn cut_answer(c: u64) -> u32
+    ensures { λ r. ⌜ r ≡ cutNumber c ⌝ }
+{
+    let t = c / 4294967296;
+    if t == 4294967294 {
+        return 6;
+    }
+    if t == 4294967293 {
+        return 7;
+    }
+    8
+}
+
+pub fn run(
+    table: &[u32],
+    store: &mut [u32],
+    bindings: &mut [u32],
+    mark: u32,
+    start: u32,
+    subject: u32,
+    units: u32,
+) -> Outcome
+    ensures { λ r. ⌜ back r (now (store .exit)) (now (bindings .exit)) ≡ runOf (input (now (table .entry)) (now (store .entry)) (now (bindings .entry)) mark start subject units) ⌝ }
+{
+    let refused = refusal(table, store, bindings, mark, start, subject);
+    if refused.answer != 0 {
+        return Outcome {
+            answer: refused.answer,
+            place: refused.place,
+            subject,
+            mark,
+            units: 0,
+        };
+    }
+    let code = loaded(table);
+    let mut st = opened(bindings, mark);
+    let got = apply(&code, store, &mut st, start, done(subject, units), 4096);
+    let a = told(got);
+    match a {
+        Answer::Done(x, left) => {
+            let m = st[32];
+            closed(bindings, st);
+            clear_from(store, 8 * (m as usize));
+            Outcome {
+                answer: 0,
+                place: 0,
+                subject: x,
+                mark: m,
+                units: units - left,
+            }
+        }
+        Answer::Failed(left) => {
+            clear_from(store, 8 * (mark as usize));
+            Outcome {
+                answer: 1,
+                place: 0,
+                subject,
+                mark,
+                units: units - left,
+            }
+        }
+        Answer::Cut(c) => {
+            clear_from(store, 8 * (mark as usize));
+            Outcome {
+                answer: cut_answer(c),
+                place: 0,
+                subject,
+                mark,
+                units: units - (c % 4294967296) as u32,
+            }
+        }
+    }
+}
