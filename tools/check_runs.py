@@ -222,9 +222,10 @@ def nodes():
     rows_case("s", low + junk, 7, "bad node just below the mark")
 
 
-for part in (lengths, kinds, arguments, places, sorts, unused, lowest, nodes):
-    part()
-out = pathlib.Path(sys.argv[1])
-(out / "stdin").write_text("".join(cases))
-(out / "stdout").write_text("".join(answers))
-print("%d cases, %d bytes in, %d bytes out" % (len(cases), len("".join(cases)), len("".join(answers))))
+if __name__ == "__main__":
+    for part in (lengths, kinds, arguments, places, sorts, unused, lowest, nodes):
+        part()
+    out = pathlib.Path(sys.argv[1])
+    (out / "stdin").write_text("".join(cases))
+    (out / "stdout").write_text("".join(answers))
+    print("%d cases, %d bytes in, %d bytes out" % (len(cases), len("".join(cases)), len("".join(answers))))

@@ -7,10 +7,6 @@ ghost use Rattle.words.specs.Words.{wordAt};
 ghost use Rattle.checks.specs.Good.{kindOf, operandCount};
 ghost use Rattle.engine.specs.Visits.{countOf, rowAt, agreeing};
 
-pub fn wide(x: u32) -> usize {
-    x as usize
-}
-
 // Word j of the entry e.
 pub fn entry(table: &[u32; 32768], e: u32, j: u32) -> u32
     requires { ⌜ (e < 4096) × (j < 8) ⌝ }

@@ -151,12 +151,12 @@ written-more b w i x p l e = record {
 }
 
 -- The words of the first n variables are n words, each its variable's.
-length-words : (n : ℕ) (b : Bindings ℕ) → length (bindingWords n b) ≡ n
+pub length-words : (n : ℕ) (b : Bindings ℕ) → length (bindingWords n b) ≡ n
 unfolding bindingWords
 length-words zero b = refl
 length-words (suc n) b = simp length-append (omega (arith, length-words n b))
 
-word-of : (n : ℕ) (b : Bindings ℕ) (v : ℕ) → v < n → getD (bindingWords n b) v 0 ≡ bindingWord (b v)
+pub word-of : (n : ℕ) (b : Bindings ℕ) (v : ℕ) → v < n → getD (bindingWords n b) v 0 ≡ bindingWord (b v)
 unfolding bindingWords
 word-of zero b v l = absurd (omega arith)
 word-of (suc n) b v l =

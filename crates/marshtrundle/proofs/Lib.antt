@@ -3,3 +3,4 @@ pub mod Accepting
 pub mod Copying
 pub mod Fetching
 pub mod Whole
+pub mod Promises

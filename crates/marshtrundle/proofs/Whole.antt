@@ -36,12 +36,12 @@ use Rattle.marshtrundle.specs.Run.{input, back, refusing, runOf, cutNumb
 use Rattle.marshtrundle.specs.declared.running.Outcome.{Outcome}
 
 -- the units that a run has left are not more than it was given
-left : Ran → ℕ
+unfoldable pub left : Ran → ℕ
 left (ended k b s u) = u
 left (lost w u) = u
 left (cut c w u) = u
 
-units-left : (i : Input) → Accepted i → left (ran i) ≤ i .units
+pub units-left : (i : Input) → Accepted i → left (ran i) ≤ i .units
 unfolding left value
 units-left i a = go (ran i) (demand-2 i a (value (ran i)) .0 refl)
   where

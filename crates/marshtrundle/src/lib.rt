@@ -1,4 +1,4 @@
-// The public functions: what the linker links. They have no `requires`: they refuse by number.
+// What the linker links is `run`, in running: it has no `requires` and refuses by number. The other modules are its parts.
 pub mod loading;
 pub mod refusals;
 pub mod running;

@@ -1,0 +1,326 @@
+-- The laws of the passes: what a pass keeps, what it makes less, and what the masks are once nothing grows.
+-- Assumes nothing.
+use mathlib.Core.Path.{_≡_, refl, ap, sym, _∙_, subst}
+use mathlib.Core.Bool.{Bool, true, false, not, _||_, true≢false, false≢true}
+use mathlib.Core.Logic.{_≢_, _⊎_, inl, inr, ⊎-elim}
+use mathlib.Core.List.{List, [], _∷_}
+use Prim.Native.Nat.{ℕ, zero, suc, _+_, _-_, _^_, _≤_, _<_}
+use native.Mathlib.Numerals.{add-one}
+use native.Mathlib.Omega.{arith}
+use lib.Dec.{eqb}
+use lib.ListN.{length, getD, set, drop, length-set}
+use lib.Seq.{getD-set-same, getD-set-other, set-getD, drop-cons, drop-length}
+use lib.Pow.{pow-lt}
+use lib.Bits.{bitAnd, bitOr, or-lt, and-le-r}
+use borrow.Author.Tests.{eqb-true, eqb-false, eq-eqb, ne-eqb}
+use Rattle.words.specs.Words.{rows}
+use Rattle.words.proofs.Tests.{and-true}
+use Rattle.checks.specs.Good.{kindOf, operandCount, argumentOf, operand}
+use Rattle.checks.specs.Plain.{Entry}
+use Rattle.meaning.specs.Bindings.{has}
+use Rattle.meaning.specs.Table.{PVAR, table, operands}
+use Rattle.meaning.specs.Free.{In, here, there, Variable, var, part, Free, in-match, in-build, in-scope, in-operand}
+use Rattle.meaning.proofs.Tests.{decided}
+use Rattle.free.specs.Passes.{joined, joinedOperands, ruled, fuller, grows, grown, passed, changed, Of, pattern, strategy, Sound, Settled}
+use Rattle.free.proofs.Bits.{has-nothing, has-and, has-or, has-one, not-has, or-grows}
+use Rattle.free.proofs.Entries.{other, operand-at, length-operands, Strategies, Patterns, Shape, is-plain, is-match, is-build, is-scope, is-variable, is-con, shape, entry-of}
+use Rattle.free.specs.Promises.{GoodTable}
+
+-- ---- masks joined
+
+-- a variable of one mask or of the other
+either : (a b : Bool) → a || b ≡ true → (a ≡ true) ⊎ (b ≡ true)
+either true b e = inl refl
+either false b e = inr e
+
+pub or-true : (b : Bool) → b || true ≡ true
+or-true true = refl
+or-true false = refl
+
+or-false : (b : Bool) → b || false ≡ b
+or-false true = refl
+or-false false = refl
+
+module _ (ms : List ℕ) (v : ℕ) where
+  -- a variable of joined masks is one of a mask
+  pub of-joined : (all : ℕ) (xs : List ℕ) → has (joined ms all xs) v ≡ true → (has all v ≡ true) ⊎ ((x : ℕ) × In x xs × (has (getD ms x 0) v ≡ true))
+  unfolding joined
+  of-joined all [] h = inl h
+  of-joined all (x ∷ xs) h =
+      ⊎-elim (λ k. ⊎-elim inl (λ l. inr (x, here, l)) (either _ _ (sym (has-or all (getD ms x 0) v) ∙ k))) (λ (y, i, k). inr (y, there i, k)) (of-joined (bitOr all (getD ms x 0)) xs h)
+
+  -- what there is stays
+  joined-keeps : (all : ℕ) (xs : List ℕ) → has all v ≡ true → has (joined ms all xs) v ≡ true
+  unfolding joined
+  joined-keeps all [] h = h
+  joined-keeps all (x ∷ xs) h = joined-keeps (bitOr all (getD ms x 0)) xs (has-or all (getD ms x 0) v ∙ rw h)
+
+  -- each mask is in the joined
+  pub in-joined : (all : ℕ) (xs : List ℕ) (x : ℕ) → In x xs → has (getD ms x 0) v ≡ true → has (joined ms all xs) v ≡ true
+  unfolding joined
+  in-joined all (x ∷ xs) y here h = joined-keeps (bitOr all (getD ms x 0)) xs (has-or all (getD ms x 0) v ∙ rw h (or-true (has all v)))
+  in-joined all (x ∷ xs) y (there i) h = in-joined (bitOr all (getD ms x 0)) xs y i h
+
+-- joined masks fit
+joined-fits : (ms : List ℕ) → ((i : ℕ) → getD ms i 0 < 2 ^ 32) → (all : ℕ) (xs : List ℕ) → all < 2 ^ 32 → joined ms all xs < 2 ^ 32
+unfolding joined
+joined-fits ms w all [] h = h
+joined-fits ms w all (x ∷ xs) h = joined-fits ms w (bitOr all (getD ms x 0)) xs (or-lt 32 all (getD ms x 0) h (w x))
+
+-- the loop over the operands: one turn, and the end
+module _ (t ms : List ℕ) (e : ℕ) (few : operandCount t e ≤ 6) where
+  pub joined-turn : (all i : ℕ) → i < operandCount t e → joined ms all (drop i (operands t e)) ≡ joined ms (bitOr all (getD ms (operand t e i) 0)) (drop (i + 1) (operands t e))
+  unfolding joined
+  joined-turn all i h =
+      let l : i < length (operands t e) = omega (arith, length-operands t e few) in
+      rw (add-one, drop-cons (operands t e) i 0, operand-at t e i h few)
+
+  pub joined-end : (all i : ℕ) → i ≡ operandCount t e → joined ms all (drop i (operands t e)) ≡ all
+  unfolding joined
+  joined-end all i h =
+      let l : i ≡ length (operands t e) = omega (arith, length-operands t e few) in
+      rw (l, drop-length)
+
+-- ---- the rule of an entry
+
+module _ (t ms : List ℕ) (e : ℕ) where
+  pub ruled-joined : kindOf t e ≢ 16 → kindOf t e ≢ 18 → ruled t ms e ≡ joinedOperands t ms e
+  unfolding ruled
+  ruled-joined n m = rw (ne-eqb (kindOf t e) 16 n, ne-eqb (kindOf t e) 18 m)
+
+  pub ruled-scope : kindOf t e ≡ 16 → ruled t ms e ≡ bitAnd (joinedOperands t ms e) (4294967295 - argumentOf t e)
+  unfolding ruled
+  ruled-scope k = rw (eq-eqb (kindOf t e) 16 k)
+
+  pub ruled-variable : kindOf t e ≡ 18 → ruled t ms e ≡ 2 ^ argumentOf t e
+  unfolding ruled
+  ruled-variable k = rw (ne-eqb (kindOf t e) 16 (other 18 16 k refl), eq-eqb (kindOf t e) 18 k)
+
+-- the one of a list of one
+only : {x y : ℕ} → In y (x ∷ []) → x ≡ y
+only here = refl
+
+module _ (t : List ℕ) where
+  -- by its sort, what a bit stands for
+  pub as-strategy : {x v : ℕ} → Of t x v → kindOf t x ≤ 17 → Free (table t) x v
+  as-strategy (strategy h f) l = f
+  as-strategy (pattern h f) l = absurd (omega arith)
+
+  as-pattern : {x v : ℕ} → Of t x v → 18 ≤ kindOf t x → Variable (table t) x v
+  as-pattern (strategy h f) l = absurd (omega arith)
+  as-pattern (pattern h f) l = f
+
+-- ---- soundness: the rules give nothing else
+
+module _ (t ms : List ℕ) (sound : Sound t ms) (e v : ℕ) where
+  -- the operand that has the variable
+  operand-with : has (joinedOperands t ms e) v ≡ true → (y : ℕ) × In y (operands t e) × (has (getD ms y 0) v ≡ true)
+  operand-with h = ⊎-elim (λ z. absurd (false≢true (sym (has-nothing v) ∙ z))) (λ z. z) (of-joined ms v 0 (operands t e) h)
+
+  -- an operand in which it is free, and one of which it is a variable
+  by-strategy : Strategies t e → has (joinedOperands t ms e) v ≡ true → (y : ℕ) × In y (operands t e) × Free (table t) y v
+  by-strategy s h = let (y, i, b) = operand-with h in (y, i, as-strategy t (sound y v b) (s y i .1))
+
+  by-pattern : Patterns t e → has (joinedOperands t ms e) v ≡ true → (y : ℕ) × In y (operands t e) × Variable (table t) y v
+  by-pattern s h = let (y, i, b) = operand-with h in (y, i, as-pattern t (sound y v b) (s y i .1))
+
+  -- of one operand
+  one-strategy : {x : ℕ} → operands t e ≡ x ∷ [] → Strategies t e → has (joinedOperands t ms e) v ≡ true → Free (table t) x v
+  one-strategy {x} o s h = let (y, i, f) = by-strategy s h in subst (λ y. Free (table t) y v) (sym (only (subst (In y) o i))) f
+
+  one-pattern : {x : ℕ} → operands t e ≡ x ∷ [] → Patterns t e → has (joinedOperands t ms e) v ≡ true → Variable (table t) x v
+  one-pattern {x} o s h = let (y, i, f) = by-pattern s h in subst (λ y. Variable (table t) y v) (sym (only (subst (In y) o i))) f
+
+  -- by the entry's shape
+  ruled-sound : Shape t e → has (ruled t ms e) v ≡ true → Of t e v
+  ruled-sound (is-plain k n p o s) h =
+      let (y, i, f) = by-strategy s (rw (ruled-joined t ms e n (λ z. absurd (omega arith))) at h) in
+      strategy k (in-operand refl (subst (In y) (sym o) i) f)
+  ruled-sound (is-match k q o s) h =
+      strategy (omega arith) (in-match q (one-pattern o s (rw (ruled-joined t ms e (other 14 16 k refl) (other 14 18 k refl)) at h)))
+  ruled-sound (is-build k q o s) h =
+      strategy (omega arith) (in-build q (one-pattern o s (rw (ruled-joined t ms e (other 15 16 k refl) (other 15 18 k refl)) at h)))
+  ruled-sound (is-scope k q o a s) h =
+      let both = and-true _ _ (sym (has-and (joinedOperands t ms e) (4294967295 - argumentOf t e) v) ∙ rw (ruled-scope t ms e k) at h) in
+      strategy (omega arith) (in-scope q (not-has (argumentOf t e) v a (both .1)) (one-strategy o s (both .0)))
+  ruled-sound (is-variable k q a) h =
+      let z : v ≡ argumentOf t e = eqb-true _ _ (sym (has-one (argumentOf t e) v) ∙ rw (ruled-variable t ms e k) at h) in
+      pattern (omega arith) (var (q ∙ ap PVAR (sym z)))
+  ruled-sound (is-con k q s) h =
+      let (y, i, f) = by-pattern s (rw (ruled-joined t ms e (other 19 16 k refl) (other 19 18 k refl)) at h) in
+      pattern (omega arith) (part q i f)
+
+-- ---- a turn and a pass
+
+-- how far the masks are from full
+pub room : List ℕ → ℕ
+room [] = 0
+room (m ∷ ms) = (4294967295 - m) + room ms
+
+-- a greater mask leaves less room
+room-set : (ms : List ℕ) (i m : ℕ) → i < length ms → getD ms i 0 < m → m ≤ 4294967295 → room (set ms i m) < room ms
+unfolding room
+room-set [] i m h l k = absurd (omega arith)
+room-set (x ∷ ms) zero m h l k = omega arith
+room-set (x ∷ ms) (suc i) m h l k = let r = room-set ms i m (omega arith) l k in omega arith
+
+-- a mask that does not grow stays
+pub stays : (t ms : List ℕ) (e : ℕ) → grows t ms e ≡ false → fuller t ms e ≡ getD ms e 0
+unfolding grows
+stays t ms e h = eqb-true _ _ (go _ h)
+  where
+    go : (b : Bool) → not b ≡ false → b ≡ true
+    go true h = refl
+    go false h = absurd (true≢false h)
+
+-- what holds of the masks between two passes
+pub record State (t ms : List ℕ) : Type 0 where
+  pub long : rows t ≤ length ms
+  pub fits : (i : ℕ) → getD ms i 0 < 2 ^ 32
+  pub sound : Sound t ms
+
+-- a mask that was put, and the others
+put-at : (P : ℕ → ℕ → Type 0) (ms : List ℕ) (e m : ℕ) → e < length ms → P e m → ((x : ℕ) → P x (getD ms x 0)) → (x : ℕ) → P x (getD (set ms e m) x 0)
+put-at P ms e m l h o x =
+    decided (eqb x e)
+    (λ z. let q : x ≡ e = eqb-true x e z in subst (λ x. P x (getD (set ms e m) x 0)) (sym q) (rw (getD-set-same ms e m 0) h))
+    (λ z. let n : x ≢ e = eqb-false x e z in rw (getD-set-other ms e x m 0) (o x))
+
+module _ (t ms : List ℕ) (e : ℕ) (s : State t ms) (inside : e < rows t) (good : Entry t e) where
+  -- e has a mask
+  within : e < length ms
+  within = omega (arith, s .long)
+
+  -- what a rule gives fits
+  ruled-fits : Shape t e → ruled t ms e < 2 ^ 32
+  ruled-fits (is-plain k n p o f) = rw (ruled-joined t ms e n (λ z. absurd (omega arith))) (joined-fits ms (s .fits) 0 _ (omega arith))
+  ruled-fits (is-match k q o f) = rw (ruled-joined t ms e (other 14 16 k refl) (other 14 18 k refl)) (joined-fits ms (s .fits) 0 _ (omega arith))
+  ruled-fits (is-build k q o f) = rw (ruled-joined t ms e (other 15 16 k refl) (other 15 18 k refl)) (joined-fits ms (s .fits) 0 _ (omega arith))
+  ruled-fits (is-scope k q o a f) = rw (ruled-scope t ms e k) (omega (arith, and-le-r (joinedOperands t ms e) (4294967295 - argumentOf t e)))
+  ruled-fits (is-variable k q a) = rw (ruled-variable t ms e k) (pow-lt {j = 32} (omega arith))
+  ruled-fits (is-con k q f) = rw (ruled-joined t ms e (other 19 16 k refl) (other 19 18 k refl)) (joined-fits ms (s .fits) 0 _ (omega arith))
+
+  -- a fuller mask fits, and stands for nothing else
+  fuller-fits : fuller t ms e < 2 ^ 32
+  unfolding fuller
+  fuller-fits = or-lt 32 (getD ms e 0) (ruled t ms e) (s .fits e) (ruled-fits (shape t e good))
+
+  fuller-sound : (v : ℕ) → has (fuller t ms e) v ≡ true → Of t e v
+  unfolding fuller
+  fuller-sound v h = ⊎-elim (s .sound e v) (ruled-sound t ms (s .sound) e v (shape t e good)) (either _ _ (sym (has-or (getD ms e 0) (ruled t ms e) v) ∙ h))
+
+  -- a turn keeps what holds
+  grown-state : State t (grown t ms e)
+  unfolding grown
+  grown-state =
+      record {
+        long = rw length-set (s .long);
+        fits = put-at (λ x m. m < 2 ^ 32) ms e (fuller t ms e) within fuller-fits (s .fits);
+        sound = put-at (λ x m. (v : ℕ) → has m v ≡ true → Of t x v) ms e (fuller t ms e) within fuller-sound (s .sound);
+      }
+
+  -- masks of which none grows stay
+  grown-stays : grows t ms e ≡ false → grown t ms e ≡ ms
+  unfolding grown
+  grown-stays h = rw (stays t ms e h) (set-getD ms e 0)
+
+  -- one that grows leaves less room
+  grown-less : grows t ms e ≡ true → room (grown t ms e) < room ms
+  unfolding grows grown fuller
+  grown-less h =
+      let n : fuller t ms e ≢ getD ms e 0 = eqb-false _ _ (go _ h) in
+      room-set ms e (fuller t ms e) within (omega (arith, or-grows (getD ms e 0) (ruled t ms e), n)) (omega (arith, fuller-fits))
+    where
+      go : (b : Bool) → not b ≡ true → b ≡ false
+      go true h = absurd (false≢true h)
+      go false h = refl
+
+-- what the turns of the entries below n do
+pub record Pass (t : List ℕ) (n : ℕ) (ms : List ℕ) : Type 0 where
+  pub state : State t (passed t n ms)
+  pub most : room (passed t n ms) ≤ room ms
+  pub less : changed t n ms ≡ true → room (passed t n ms) < room ms
+  pub still : changed t n ms ≡ false → passed t n ms ≡ ms
+  pub none : changed t n ms ≡ false → (e : ℕ) → e < n → grows t ms e ≡ false
+
+-- neither test holds where their disjunction does not
+neither : (a b : Bool) → a || b ≡ false → (a ≡ false) × (b ≡ false)
+neither true b e = absurd (true≢false e)
+neither false b e = (refl, e)
+
+-- by induction: the highest entry's turn, then those below it
+pub pass-does : (t : List ℕ) → GoodTable t → (n : ℕ) → n ≤ rows t → (ms : List ℕ) → State t ms → Pass t n ms
+unfolding passed changed
+pass-does t good zero l ms s =
+    record { state = s; most = omega arith; less = λ h. absurd (false≢true h); still = λ h. refl; none = λ h e k. absurd (omega arith) }
+pass-does t good (suc e) l ms s =
+    let inside : e < rows t = omega arith in
+    let entry : Entry t e = entry-of t good e inside in
+    let r : Pass t e (grown t ms e) = pass-does t good e (omega arith) (grown t ms e) (grown-state t ms e s inside entry) in
+    let least : room (grown t ms e) ≤ room ms =
+    decided (grows t ms e) (λ h. let k = grown-less t ms e s inside entry h in omega arith) (λ h. rw (grown-stays t ms e s inside entry h) (omega arith)) in
+    record {
+      state = r .state;
+      most = omega (arith, r .most);
+      less = λ h.
+          ⊎-elim (λ g. let k = grown-less t ms e s inside entry g in omega (arith, r .most)) (λ g. let k = r .less g in omega arith) (either _ _ h);
+      still = λ h. let (g, k) = neither _ _ h in r .still k ∙ grown-stays t ms e s inside entry g;
+      none = λ h x b.
+          let (g, k) = neither _ _ h in
+          decided (eqb x e)
+          (λ z. let q : x ≡ e = eqb-true x e z in rw q g)
+          (λ z. let q : x ≢ e = eqb-false x e z in subst (λ ms. grows t ms x ≡ false) (grown-stays t ms e s inside entry g) (r .none k x (omega arith)));
+    }
+
+-- the loop over the entries: one turn, and the end
+module _ (t ms : List ℕ) (e : ℕ) where
+  module _ (some : 0 < e) (g : Bool) (ms′ : List ℕ) (r : g ≡ grows t ms (e - 1)) (p : ms′ ≡ grown t ms (e - 1)) where
+    last : e ≡ suc (e - 1)
+    last = omega arith
+
+    pub pass-turn : passed t (e - 1) ms′ ≡ passed t e ms
+    unfolding passed
+    pass-turn = rw p (sym (ap (λ (n : ℕ). passed t n ms) last))
+
+    either-way : changed t e ms ≡ g || changed t (e - 1) ms′
+    unfolding changed
+    either-way = ap (λ (n : ℕ). changed t n ms) last ∙ rw (r, p)
+
+    pub changed-grew : (any : Bool) → g ≡ true → true ≡ any || changed t e ms
+    changed-grew any h = rw (either-way, h) (sym (or-true any))
+
+    pub changed-same : (any : Bool) → g ≡ false → any || changed t (e - 1) ms′ ≡ any || changed t e ms
+    changed-same any h = rw (either-way, h)
+
+  pub pass-end : e ≤ 0 → passed t e ms ≡ ms
+  unfolding passed
+  pass-end h = let z : e ≡ 0 = omega arith in rw z
+
+  pub changed-end : (any : Bool) → e ≤ 0 → any || changed t e ms ≡ any
+  unfolding changed
+  changed-end any h = let z : e ≡ 0 = omega arith in rw z (or-false any)
+
+-- the turns that the loop of passes has left: the last one says that nothing changed
+abbrev pub turns : Bool → List ℕ → ℕ
+turns true ms = suc (room ms)
+turns false ms = 0
+
+-- after one more pass
+module _ (t ms : List ℕ) (good : GoodTable t) (s : State t ms) (more : Bool) (ms′ : List ℕ) (m : more ≡ changed t (rows t) ms) (p : ms′ ≡ passed t (rows t) ms) where
+  does : Pass t (rows t) ms
+  does = pass-does t good (rows t) (omega arith) ms s
+
+  pub turn-state : State t ms′
+  turn-state = rw p (does .state)
+
+  pub turn-less : turns more ms′ < suc (room ms)
+  turn-less = go more m
+    where
+      go : (b : Bool) → b ≡ changed t (rows t) ms → turns b ms′ < suc (room ms)
+      go true e = let l = does .less (sym e) in rw p (omega arith)
+      go false e = omega arith
+
+  pub turn-settled : more ≡ false → Settled t ms′
+  turn-settled z e h =
+      let none : changed t (rows t) ms ≡ false = sym m ∙ z in
+      rw (p ∙ does .still none) (does .none none e h)

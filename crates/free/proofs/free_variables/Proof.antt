@@ -1,0 +1,74 @@
+-- `free::free_variables` meets its contract: the refusals in their order, then the mask. Assumes nothing.
+use mathlib.Core.Path.{refl, sym, _∙_}
+use native.Mathlib.Omega.{arith}
+use borrow.Author.Needs.{needs}
+use borrow.Author.Tests.{eq-eqb, ne-eqb, not-true, not-false}
+use Rattle.free.specs.Answered.{asked}
+use Rattle.checks.proofs.Promises.{tablePasses}
+use Rattle.free.proofs.Smallest.{strategy-plain}
+use Rattle.free.proofs.free_variables.Statement.{statement}
+use Rattle.free.proofs.free_variables.Tie as tie
+
+check-table-requires : tie.Need-check-table-requires
+check-table-requires c κs = search needs
+
+refused-requires : tie.Need-refused-requires
+refused-requires c κs = search needs
+
+returns : tie.Need-returns
+unfolding asked
+returns c =
+    let k = c .before .before .before .check-table in
+    let bad = c .before .if1 .taken in
+    rw (c .refused .ensures)
+    record { outcome = rw (← k .ensures, ne-eqb _ _ bad); refused = λ n. refl; mask = λ z. absurd (bad z) }
+
+is-strategy-requires : tie.Need-is-strategy-requires
+is-strategy-requires c κs = search needs
+
+refused-requires-2 : tie.Need-refused-requires-2
+refused-requires-2 c κs = search needs
+
+returns-2 : tie.Need-returns-2
+unfolding asked
+returns-2 c =
+    let k = c .before .before .before .before .before .check-table in
+    let s = c .before .before .is-strategy in
+    rw (c .refused2 .ensures)
+    record {
+      outcome = rw (← k .ensures, eq-eqb _ _ (c .before .before .before .if1 .left), ← s .ensures, not-true (s .result) (c .before .if2 .taken));
+      refused = λ n. refl;
+      mask = λ z. absurd (omega arith);
+    }
+
+mask-of-requires : tie.Need-mask-of-requires
+mask-of-requires c κs =
+    let k = c .before .before .before .before .check-table in
+    let s = c .before .is-strategy in (
+      tablePasses _ .0 (rw (← k .ensures) (c .before .before .if1 .left)),
+      strategy-plain _ _ .0 (sym (s .ensures) ∙ not-false (s .result) (c .if2 .left)),
+    )
+
+returns-3 : tie.Need-returns-3
+unfolding asked
+returns-3 c =
+    let k = c .before .before .before .before .before .check-table in
+    let s = c .before .before .is-strategy in
+    record {
+      outcome = rw (← k .ensures, eq-eqb _ _ (c .before .before .before .if1 .left), ← s .ensures, not-false (s .result) (c .before .if2 .left));
+      refused = λ n. absurd (n refl);
+      mask = λ z. c .mask-of .ensures;
+    }
+
+pub free-variables-spec : {M : Type 1} → statement M
+free-variables-spec =
+    tie.close
+    (tie.spec
+    check-table-requires
+    refused-requires
+    returns
+    is-strategy-requires
+    refused-requires-2
+    returns-2
+    mask-of-requires
+    returns-3)

@@ -1,0 +1,76 @@
+-- `free::passes::rule` meets its contract, arm by arm. Assumes nothing.
+use mathlib.Core.Path.{_≡_, sym, _∙_}
+use mathlib.Core.Logic.{_≢_}
+use Prim.Native.Nat.{_<_}
+use native.Mathlib.Omega.{arith}
+use borrow.Author.Needs.{needs}
+use borrow.Author.Tests.{eq-eqb, ne-eqb}
+use Rattle.checks.specs.Good.{kindOf}
+use Rattle.checks.proofs.Good.{operandCount-six}
+use Rattle.free.specs.Passes.{ruled}
+use Rattle.free.proofs.Bits.{bit-shift}
+use Rattle.free.proofs.Entries.{variable-below}
+use Rattle.free.proofs.passes.rule.Statement.{statement}
+use Rattle.free.proofs.passes.rule.Tie as tie
+
+-- the argument of a variable
+is-18 : (c : tie.After-word2) → (kindOf (c .before .before .before .before .before .args .table .now) (c .before .before .before .before .before .args .e) ≡ 18) × (c .word2 .result < 32)
+is-18 c =
+    let k = sym (c .before .before .kind-of .ensures) ∙ c .before .match .keys2 in
+    (k, omega (arith, variable-below _ _ (c .before .before .before .before .before .pre) k, c .word2 .ensures))
+
+kind-of-requires : tie.Need-kind-of-requires
+kind-of-requires c κs = search needs
+
+joined-requires : tie.Need-joined-requires
+joined-requires c κs = operandCount-six _ _ (c .before .before .before .before .pre)
+
+word-requires : tie.Need-word-requires
+word-requires c κs = search needs
+
+sub-result : tie.Need-sub-result
+sub-result c = search needs
+
+word-requires-2 : tie.Need-word-requires-2
+word-requires-2 c κs = search needs
+
+shl-result : tie.Need-shl-result
+shl-result c = is-18 c .1
+
+joined-requires-2 : tie.Need-joined-requires-2
+joined-requires-2 c κs = operandCount-six _ _ (c .before .before .before .before .pre)
+
+returns : tie.Need-returns
+unfolding ruled
+returns c = rw (c .before .joined .ensures, c .word .ensures, eq-eqb _ _ (sym (c .before .before .before .kind-of .ensures) ∙ c .before .before .match .keys1))
+
+returns-2 : tie.Need-returns-2
+unfolding ruled
+returns-2 c =
+    let k = is-18 c .0 in
+    let n : kindOf (c .before .before .before .before .before .args .table .now) (c .before .before .before .before .before .args .e) ≢ 16 = λ z. absurd (omega arith) in
+    bit-shift (c .word2 .result) (is-18 c .1) ∙ rw (c .word2 .ensures, ne-eqb _ _ n, eq-eqb _ _ k)
+
+returns-3 : tie.Need-returns-3
+unfolding ruled
+returns-3 c =
+    rw (
+      c .joined2 .ensures,
+      ne-eqb _ _ (λ z. c .before .match .rest .0 .1 (c .before .before .kind-of .ensures ∙ z)),
+      ne-eqb _ _ (λ z. c .before .match .rest .1 (c .before .before .kind-of .ensures ∙ z)),
+    )
+
+pub rule-spec : {M : Type 1} → statement M
+rule-spec =
+    tie.close
+    (tie.spec
+    kind-of-requires
+    joined-requires
+    word-requires
+    sub-result
+    word-requires-2
+    shl-result
+    joined-requires-2
+    returns
+    returns-2
+    returns-3)

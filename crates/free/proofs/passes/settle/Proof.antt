@@ -1,0 +1,57 @@
+-- `free::passes::settle` meets its contract. The loop's invariant: every bit stands for a variable, and where the last pass
+-- added nothing, no rule gives more. A pass that adds something leaves less room. Assumes nothing.
+use mathlib.Core.Path.{_≡_, refl}
+use mathlib.Core.Bool.{false, true≢false}
+use native.Mathlib.Omega.{arith}
+use lib.ListN.{length}
+use borrow.Author.Needs.{needs}
+use Rattle.free.specs.Passes.{Settled}
+use Rattle.free.proofs.Masks.{State, turns, turn-state, turn-less, turn-settled}
+use Rattle.free.proofs.passes.settle.Statement.{statement}
+use Rattle.free.proofs.passes.settle.Tie as tie
+
+abbrev Inv-loop : tie.InvT-loop
+Inv-loop table masks₀ more₀ masks more = (length masks ≡ length masks₀) × (State table masks × (more ≡ false → Settled table masks))
+
+abbrev μ-loop : tie.MeasureT-loop
+μ-loop table masks₀ more₀ masks more = turns more masks
+
+loop-holds : tie.Need-loop-holds Inv-loop μ-loop
+loop-holds c =
+    let p = c .before .before .pre in
+    (refl, (record { long = p .1 .0; fits = λ i. c .slice-known .given i .fits; sound = p .1 .1 }, λ z. absurd (true≢false z)))
+
+pass-requires : tie.Need-pass-requires Inv-loop μ-loop
+pass-requires c κs =
+    (c .before .before .before .before .before .pre .0, c .before .before .loop .inv .1 .0 .long)
+
+loop-less : tie.Need-loop-less Inv-loop μ-loop
+loop-less c =
+    let l = c .before .before .before .before .before .loop in
+    let p = c .before .before .pass in
+    rw (c .before .before .before .before .loop-test .taken)
+    (omega (arith, turn-less (c .before .before .before .before .before .before .before .before .args .table .now) (l .masks) (c .before .before .before .before .before .before .before .before .pre .0) (l .inv .1 .0) (p .result) (p .last .1 .0) (p .ensures .0) (p .ensures .1)))
+
+loop-again : tie.Need-loop-again Inv-loop μ-loop
+loop-again c =
+    let l = c .before .before .before .before .before .loop in
+    let p = c .before .before .pass in
+    let t = c .before .before .before .before .before .before .before .before .args .table .now in
+    let g = c .before .before .before .before .before .before .before .before .pre .0 in (
+      omega (arith, p .kept, l .inv),
+      (
+        turn-state t (l .masks) g (l .inv .1 .0) (p .result) (p .last .1 .0) (p .ensures .0) (p .ensures .1),
+        turn-settled t (l .masks) g (l .inv .1 .0) (p .result) (p .last .1 .0) (p .ensures .0) (p .ensures .1),
+      ),
+    )
+
+same-length : tie.Need-same-length Inv-loop μ-loop
+same-length c = search needs
+
+returns : tie.Need-returns Inv-loop μ-loop
+returns c = (c .before .loop .inv .1 .0 .sound, c .before .loop .inv .1 .1 (c .loop-test .left))
+
+pub settle-spec : {M : Type 1} → statement M
+settle-spec =
+    tie.close
+    (tie.spec Inv-loop μ-loop loop-holds pass-requires loop-less loop-again same-length returns)

@@ -1,0 +1,50 @@
+-- What the question of free variables promises, as types. Each is proved in proofs/Promises.antt under its name.
+use mathlib.Core.Path.{_≡_}
+use mathlib.Core.Logic.{_↔_}
+use mathlib.Core.List.{List}
+use Prim.Native.Nat.{ℕ, _<_}
+use lib.ListN.{length}
+use Rattle.words.specs.Words.{rows}
+use Rattle.checks.specs.declared.kinds.Sort.the-variants.{Strategy}
+use Rattle.checks.specs.Kinds.{variables, sortOf}
+use Rattle.checks.specs.Good.{kindOf, goodEntry}
+use Rattle.checks.specs.Plain.{TableLength}
+use Rattle.checks.specs.Promises.{AllGood, Lowest}
+use Rattle.meaning.specs.Table.{table}
+use Rattle.meaning.specs.Free.{Free}
+use Rattle.free.specs.declared.FreeVariables.{FreeVariables}
+use Rattle.free.specs.Answered.{Answered}
+
+-- two outcomes that satisfy the contract agree
+abbrev pub agrees : Type 0
+agrees = (t : List ℕ) (e : ℕ) (r r′ : FreeVariables) → Answered t e r → Answered t e r′ → r ≡ r′
+
+-- a table that passes the check: its length fits, and every entry is good
+abbrev pub GoodTable : List ℕ → Type 0
+GoodTable t = TableLength (length t) × AllGood (goodEntry t) (rows t)
+
+-- entry e is inside the table, and a strategy
+abbrev pub StrategyOf : List ℕ → ℕ → Type 0
+StrategyOf t e = (e < rows t) × (sortOf (kindOf t e) ≡ Strategy)
+
+-- answer 2: the table's length does not fit
+abbrev pub refusesLength : Type 0
+refusesLength = (t : List ℕ) (e : ℕ) (r : FreeVariables) → Answered t e r → r .answer ≡ 2 ↔ ¬ TableLength (length t)
+
+-- answer 3 with its place: the length fits, and the place is the lowest bad entry
+abbrev pub refusesEntry : Type 0
+refusesEntry =
+    (t : List ℕ) (e p : ℕ) (r : FreeVariables) → Answered t e r
+    → (r .answer ≡ 3) × (r .place ≡ p) ↔ TableLength (length t) × Lowest (goodEntry t) (rows t) p
+
+-- answer 5: the table is good, and e is no strategy of it
+abbrev pub refusesStart : Type 0
+refusesStart = (t : List ℕ) (e : ℕ) (r : FreeVariables) → Answered t e r → r .answer ≡ 5 ↔ GoodTable t × ¬ StrategyOf t e
+
+-- answer 0: the table is good, and e is a strategy of it
+abbrev pub accepts : Type 0
+accepts = (t : List ℕ) (e : ℕ) (r : FreeVariables) → Answered t e r → r .answer ≡ 0 ↔ GoodTable t × StrategyOf t e
+
+-- no variable from 32 on is free in a strategy of a good table
+abbrev pub noneAbove : Type 0
+noneAbove = (t : List ℕ) (e v : ℕ) → GoodTable t → StrategyOf t e → Free (table t) e v → v < variables

@@ -1,0 +1,337 @@
+-- The promises of the contract of `run`, proved.
+use mathlib.Core.Path.{_≡_, refl, ap, sym, _∙_, subst, fun-ext}
+use mathlib.Core.Bool.{Bool, true, false, _&&_, true≢false}
+use mathlib.Core.Option.{Option, none, some}
+use mathlib.Core.Logic.{_⊎_, inl, inr, ⊎-elim, _↔_}
+use mathlib.Core.List.{List}
+use Prim.Native.Nat.{ℕ, zero, suc, _+_, _-_, _*_, _≤_, _<_}
+use native.Mathlib.Omega.{arith}
+use lib.Dec.{eqb, leb}
+use lib.ListN.{length, getD, take, List·getD-eq-default}
+use borrow.Author.Tests.{eq-eqb, ne-eqb, eqb-true, eqb-false}
+use Rattle.words.specs.Words.{rows, clearedFrom}
+use Rattle.words.specs.Tests.{if_then_else_, rejected}
+use Rattle.words.proofs.Tests.{below-or-from}
+use Rattle.words.proofs.Rows.{length-clearedFrom, take-clearedFrom, getD-clearedFrom-from}
+use Rattle.checks.specs.declared.Checked.{Checked}
+use Rattle.checks.specs.Good.{goodEntry, goodNode}
+use Rattle.checks.specs.Checked.{checked, found, tableLengthFits, storeLengthFits, tableChecked, storeChecked}
+use Rattle.checks.proofs.Promises.{tablePasses}
+use Rattle.meaning.specs.Bindings.{Bindings, has}
+use Rattle.meaning.specs.Beginning.{Given}
+use Rattle.meaning.specs.Free.{Closed}
+use Rattle.meaning.specs.Term.{Term}
+use Rattle.meaning.specs.Table.{SEQ, Table, table}
+use Rattle.meaning.specs.Plan.{keep, ret, fail, ask}
+use Rattle.meaning.specs.Rules.{apply, does, strategy}
+use Rattle.meaning.specs.Derivation.{Out, done, failed, Trace, terms, Der}
+use Rattle.meaning.specs.System.{Env, _∶_is_, _⊢_⇒_}
+use Rattle.meaning.specs.Limits.{Res, Limit, units, room, nesting, ended, lost, cut}
+use Rattle.meaning.specs.Store.{Input, Accepted, State, Ran, Kept, Sound, Leaves, named, bindings, term, termOf, meant, value, ran}
+use Rattle.meaning.specs.Answer.{Returned, number, bindingWord, bindingWords, returned}
+use Rattle.meaning.specs.Demands.{Says, limits, begins, Agreed, started}
+use Rattle.meaning.proofs.Inversion.{Asked, on-success, on-failure, ask-inv}
+use Rattle.meaning.proofs.Tests.{impossible}
+use Rattle.meaning.proofs.Checked.{Filled, node-of-good}
+use Rattle.meaning.proofs.Words.{kept-refl, kept-trans, kept-term}
+use Rattle.meaning.proofs.Demands as meant-demands
+use Rattle.engine.proofs.Bits.{has-nothing}
+use Rattle.free.specs.declared.FreeVariables.{FreeVariables}
+use Rattle.free.specs.Answered.{Answered}
+use Rattle.free.proofs.Smallest.{below-32}
+use Rattle.marshtrundle.specs.Refused.{sizesFit, startFits, refused}
+use Rattle.marshtrundle.specs.Run.{input, back, refusing, runOf}
+use Rattle.marshtrundle.specs.Promises as promises
+use Rattle.marshtrundle.specs.Promises.{Runs, AsGiven, told}
+use Rattle.marshtrundle.specs.declared.running.Outcome.{Outcome}
+use Rattle.marshtrundle.proofs.Accepting.{accepted-answer, accepted-back}
+use Rattle.marshtrundle.proofs.Copying.{length-words, word-of}
+use Rattle.marshtrundle.proofs.Whole.{left, units-left}
+
+-- ---- two outcomes
+
+pub agreeing : promises.Agreeing
+agreeing i o o′ s s′ b b′ p q =
+    let e : back o s b ≡ back o′ s′ b′ = p ∙ sym q in (
+      (λ j. record { answer = e j .answer; place = e j .place; subject = e j .subject; mark = e j .mark; units = e j .units }),
+      ap (λ (r : Returned). r .store) e,
+      ap (λ (r : Returned). r .bindings) e,
+    )
+
+-- ---- refused, or run
+
+module _ (i : Input) where
+  abbrev verdict : Checked
+  verdict = refused (i .table) (i .store) (i .bindings) (i .mark) (i .start) (i .subject)
+
+  -- the run of an accepted input
+  runs : Accepted i → runOf i ≡ returned i (ran i)
+  unfolding runOf
+  runs a = rw (accepted-back (i .table) (i .store) (i .bindings) (i .mark) (i .start) (i .subject) (i .units) a)
+
+  -- an input is accepted, or its verdict is not 0
+  judged : Accepted i ⊎ (eqb (verdict .answer) 0 ≡ false)
+  judged = go (eqb (verdict .answer) 0) refl
+    where
+      go : (b : Bool) → eqb (verdict .answer) 0 ≡ b → Accepted i ⊎ (eqb (verdict .answer) 0 ≡ false)
+      go true e = inl (accepted-answer (i .table) (i .store) (i .bindings) (i .mark) (i .start) (i .subject) (i .units) e)
+      go false e = inr e
+
+  turned-away : eqb (verdict .answer) 0 ≡ false → runOf i ≡ refusing i verdict
+  unfolding runOf
+  turned-away e = rw e
+
+-- a verdict that is not 0 is from 2 to 5
+of-check : (b : Bool) (a : ℕ) (o : Option ℕ) → 2 < a → a < 6 → eqb ((if b then found a o else checked 2 0) .answer) 0 ≡ false
+    → (1 < (if b then found a o else checked 2 0) .answer) × ((if b then found a o else checked 2 0) .answer < 6)
+of-check true a none l m e = impossible (cc)
+of-check true a (some k) l m e = (omega arith, m)
+of-check false a o l m e = (omega arith, omega arith)
+
+-- one of the verdict's parts: z the sizes, c and d the table's and the store's, f the start
+of-parts : (z x y f : Bool) (c d : Checked) → eqb (c .answer) 0 ≡ x → eqb (d .answer) 0 ≡ y
+    → (x ≡ false → (1 < c .answer) × (c .answer < 6)) → (y ≡ false → (1 < d .answer) × (d .answer < 6))
+    → eqb ((if z then if x then if y then if f then checked 0 0 else checked 5 0 else d else c else checked 2 0) .answer) 0 ≡ false
+    → (1 < (if z then if x then if y then if f then checked 0 0 else checked 5 0 else d else c else checked 2 0) .answer)
+    × ((if z then if x then if y then if f then checked 0 0 else checked 5 0 else d else c else checked 2 0) .answer < 6)
+of-parts true true true true c d p q g h e = impossible (cc)
+of-parts true true true false c d p q g h e = (omega arith, omega arith)
+of-parts true true false f c d p q g h e = h refl
+of-parts true false y f c d p q g h e = g refl
+of-parts false x y f c d p q g h e = (omega arith, omega arith)
+
+table-within : (t : List ℕ) → eqb (tableChecked t .answer) 0 ≡ false → (1 < tableChecked t .answer) × (tableChecked t .answer < 6)
+unfolding tableChecked
+table-within t = of-check (tableLengthFits (length t)) 3 (rejected (goodEntry t) 0 (rows t)) (omega arith) (omega arith)
+
+store-within : (s : List ℕ) (m : ℕ) → eqb (storeChecked s m .answer) 0 ≡ false → (1 < storeChecked s m .answer) × (storeChecked s m .answer < 6)
+unfolding storeChecked
+store-within s m = of-check (storeLengthFits (length s) && leb m (rows s)) 4 (rejected (goodNode s) 0 m) (omega arith) (omega arith)
+
+within : (i : Input) → eqb (verdict i .answer) 0 ≡ false → (1 < verdict i .answer) × (verdict i .answer < 6)
+unfolding refused
+within i e =
+    of-parts (sizesFit (i .table) (i .store) (i .bindings) (i .mark)) (eqb (tableChecked (i .table) .answer) 0)
+    (eqb (storeChecked (i .store) (i .mark) .answer) 0) (startFits (i .table) (i .bindings) (i .mark) (i .start) (i .subject))
+    (tableChecked (i .table)) (storeChecked (i .store) (i .mark)) refl refl
+    (table-within (i .table)) (store-within (i .store) (i .mark)) e
+
+-- a run's own answers
+of-run : (i : Input) (r : Ran) → (returned i r .answer ≤ 1) ⊎ ((6 ≤ returned i r .answer) × (returned i r .answer ≤ 8))
+unfolding returned number
+of-run i (ended k b s u) = inl (omega arith)
+of-run i (lost w u) = inl (omega arith)
+of-run i (cut units w u) = inr (omega arith, omega arith)
+of-run i (cut room w u) = inr (omega arith, omega arith)
+of-run i (cut nesting w u) = inr (omega arith, omega arith)
+
+module _ (i : Input) (o : Outcome) (s b : List ℕ) (p : Runs i o s b) where
+  -- what comes back from a run, and from a refusal
+  came : Accepted i → back o s b ≡ returned i (ran i)
+  came a = p ∙ runs i a
+
+  refused-came : eqb (verdict i .answer) 0 ≡ false → back o s b ≡ refusing i (verdict i)
+  refused-came e = p ∙ turned-away i e
+
+  answer-of : {r : Returned} → back o s b ≡ r → o .answer ≡ r .answer
+  answer-of e = ap (λ (r : Returned). r .answer) e
+
+  ran-answer : Accepted i → (o .answer ≤ 1) ⊎ ((6 ≤ o .answer) × (o .answer ≤ 8))
+  ran-answer a = subst (λ n. (n ≤ 1) ⊎ ((6 ≤ n) × (n ≤ 8))) (sym (answer-of (came a))) (of-run i (ran i))
+
+  refused-answer : eqb (verdict i .answer) 0 ≡ false → (1 < o .answer) × (o .answer < 6)
+  refused-answer e = subst (λ n. (1 < n) × (n < 6)) (sym (answer-of (refused-came e))) (within i e)
+
+  listed : o .answer ≤ 8
+  listed = ⊎-elim (λ a. ⊎-elim (λ l. omega arith) (λ l. l .1) (ran-answer a)) (λ e. omega (arith, refused-answer e .1)) (judged i)
+
+  malformed : ((1 < o .answer) × (o .answer < 6)) ↔ (Accepted i → ⊥)
+  malformed = (
+    λ l a. ⊎-elim (λ m. omega (arith, l .0)) (λ m. omega (arith, l .1, m .0)) (ran-answer a),
+    λ n. ⊎-elim (λ a. absurd (n a)) refused-answer (judged i),
+  )
+
+pub answers : promises.Answers
+answers = listed
+
+pub refuses : promises.Refuses
+refuses = malformed
+
+-- ---- what is given back
+
+module _ (i : Input) (o : Outcome) (s b : List ℕ) where
+  as-given : {a p u : ℕ} {w : List ℕ} → back o s b ≡ record { answer = a; place = p; subject = i .subject; mark = i .mark; units = u; store = w; bindings = i .bindings } → AsGiven i o b
+  as-given e = record {
+    subject = ap (λ (r : Returned). r .subject) e;
+    mark = ap (λ (r : Returned). r .mark) e;
+    bindings = ap (λ (r : Returned). r .bindings) e;
+  }
+
+  -- what a run that is not done gives back
+  as-given-ran : (r : Ran) → back o s b ≡ returned i r → (o .answer ≡ 0 → ⊥) → AsGiven i o b
+  unfolding returned
+  as-given-ran (ended k c t u) e n = absurd (n (ap (λ (r : Returned). r .answer) e))
+  as-given-ran (lost w u) e n = as-given e
+  as-given-ran (cut l w u) e n = as-given e
+
+pub writes-nothing : promises.Writes-nothing
+writes-nothing i o s b p n =
+    let e : back o s b ≡ refusing i (verdict i) = refused-came i o s b p (⊎-elim (λ a. absurd (n a)) (λ z. z) (judged i)) in
+    (as-given i o s b e, ap (λ (r : Returned). r .store) e, ap (λ (r : Returned). r .units) e)
+
+pub gives-back : promises.Gives-back
+gives-back i o s b p n =
+    ⊎-elim (λ a. as-given-ran i o s b (ran i) (came i o s b p a) n) (λ e. as-given i o s b (refused-came i o s b p e)) (judged i)
+
+-- ---- the store
+
+-- zeros from a place on leave the nodes below it
+cleared-kept : (w : List ℕ) (m n : ℕ) → m ≤ n → Kept w m (clearedFrom w (8 * n))
+cleared-kept w m n l = record { long = length-clearedFrom w (8 * n); same = take-clearedFrom w (8 * m) (8 * n) (omega arith) }
+
+returned-kept : (i : Input) (r : Ran) → Leaves (i .store) (i .mark) r → Kept (i .store) (i .mark) (returned i r .store)
+unfolding returned
+returned-kept i (ended k b s u) l = kept-trans (omega arith) (l .1) (cleared-kept (s .words) (i .mark) (s .mark) (l .0))
+returned-kept i (lost w u) l = kept-trans (omega arith) l (cleared-kept w (i .mark) (i .mark) (omega arith))
+returned-kept i (cut c w u) l = kept-trans (omega arith) l (cleared-kept w (i .mark) (i .mark) (omega arith))
+
+pub keeps : promises.Keeps
+keeps i o s b p =
+    ⊎-elim (λ a. subst (Kept (i .store) (i .mark)) (sym (ap (λ (r : Returned). r .store) (came i o s b p a))) (returned-kept i (ran i) (meant-demands.over-the-words i a .1)))
+    (λ e. subst (Kept (i .store) (i .mark)) (sym (ap (λ (r : Returned). r .store) (refused-came i o s b p e))) (kept-refl (i .store) (i .mark)))
+    (judged i)
+
+returned-cleared : (i : Input) (r : Ran) (k : ℕ) → 8 * returned i r .mark ≤ k → getD (returned i r .store) k 0 ≡ 0
+unfolding returned
+returned-cleared i (ended h b s u) k l = getD-clearedFrom-from (s .words) (8 * s .mark) k l
+returned-cleared i (lost w u) k l = getD-clearedFrom-from w (8 * i .mark) k l
+returned-cleared i (cut c w u) k l = getD-clearedFrom-from w (8 * i .mark) k l
+
+pub clears : promises.Clears
+clears i o s b a p = subst (λ (r : Returned). (k : ℕ) → 8 * r .mark ≤ k → getD (r .store) k 0 ≡ 0) (sym (came i o s b p a)) (returned-cleared i (ran i))
+
+-- ---- what comes back, as values
+
+-- a binding's word names what it was made of
+named-word : (o : Option ℕ) → named (bindingWord o) ≡ o
+unfolding named bindingWord
+named-word none = refl
+named-word (some k) = refl
+
+-- bindings of the 32 variables alone come back from their words
+words-back : (b : Bindings ℕ) → ((v : ℕ) → 32 ≤ v → b v ≡ none) → bindings (bindingWords 32 b) ≡ b
+unfolding bindings named
+words-back b h = fun-ext (λ v. ⊎-elim (λ l. ap named (word-of 32 b v l) ∙ named-word (b v)) (λ l. past v l ∙ sym (h v l)) (below-or-from v 32))
+  where
+    past : (v : ℕ) → 32 ≤ v → named (getD (bindingWords 32 b) v 0) ≡ none
+    past v l = ap named (List·getD-eq-default (bindingWords 32 b) 0 (omega (arith, length-words 32 b)))
+
+unbound : (w : List ℕ) (o : Option ℕ) → termOf w o ≡ none → o ≡ none
+unfolding termOf
+unbound w none e = refl
+unbound w (some k) e = impossible (cc)
+
+module _ (i : Input) (a : Accepted i) where
+  -- no variable from 32 on is bound at the start, nor at the end
+  none-given : (v : ℕ) → 32 ≤ v → meant (i .store) (bindings (i .bindings)) v ≡ none
+  unfolding meant bindings named termOf
+  none-given v l = let e : getD (i .bindings) v 0 ≡ 0 = List·getD-eq-default (i .bindings) 0 (omega (arith, a .bindings)) in rw e
+
+  none-left : (k : ℕ) (b : Bindings ℕ) (s : State) (u : ℕ) → ran i ≡ ended k b s u → (v : ℕ) → 32 ≤ v → b v ≡ none
+  unfolding value meant
+  none-left k b s u e v l =
+      let d = meant-demands.demand-2 i a (value (ended k b s u)) .0 (ap value e) in
+      let n = meant-demands.outside-free (table (i .table)) (i .start) _ _ _ _ (d .0) v (λ f. omega (arith, below-32 (i .table) (tablePasses (i .table) .0 (ap (λ (c : Checked). c .answer) (a .table))) (i .start) v (a .inside, a .strategy) f)) in
+      unbound (s .words) (b v) (n ∙ none-given v l)
+
+  -- the terms of a done run are not among the words that are set to zero
+  module _ (k : ℕ) (b : Bindings ℕ) (s : State) (sound : Sound (s .words) (s .mark) k b) where
+    filled : Filled (s .words) (s .mark)
+    filled = record { fits = sound .fits; node = λ j l. node-of-good (s .words) j (sound .good j l) }
+
+    cleared : List ℕ
+    cleared = clearedFrom (s .words) (8 * s .mark)
+
+    term-stays : (j : ℕ) → j < s .mark → term cleared j ≡ term (s .words) j
+    unfolding cleared
+    term-stays j l = kept-term filled (cleared-kept (s .words) (s .mark) (s .mark) (omega arith)) j l
+
+    option-stays : (o : Option ℕ) → ((j : ℕ) → o ≡ some j → j < s .mark) → termOf cleared o ≡ termOf (s .words) o
+    unfolding termOf
+    option-stays none h = refl
+    option-stays (some j) h = ap some (term-stays j (h j refl))
+
+    meant-stays : meant cleared b ≡ meant (s .words) b
+    unfolding meant
+    meant-stays = fun-ext (λ v. option-stays (b v) (sound .bound v))
+
+  told-ran : (r : Ran) → ran i ≡ r → told i (returned i r) ≡ value r
+  unfolding told returned value number left cleared
+  told-ran (ended k b s u) e =
+      let l : Leaves (i .store) (i .mark) (ended k b s u) = subst (Leaves (i .store) (i .mark)) e (meant-demands.over-the-words i a .1) in
+      let n : u ≤ i .units = subst (λ (r : Ran). left r ≤ i .units) e (units-left i a) in
+      let x : term (clearedFrom (s .words) (8 * s .mark)) k ≡ term (s .words) k = term-stays k b s (l .2) k (l .2 .subject) in
+      let y : meant (clearedFrom (s .words) (8 * s .mark)) (bindings (bindingWords 32 b)) ≡ meant (s .words) b = ap (meant (clearedFrom (s .words) (8 * s .mark))) (words-back b (none-left k b s u e)) ∙ meant-stays k b s (l .2) in
+      let z : i .units - (i .units - u) ≡ u = omega arith in
+      λ j. ended (x j) (y j) (s .mark) (z j)
+  told-ran (lost w u) e =
+      let n : u ≤ i .units = subst (λ (r : Ran). left r ≤ i .units) e (units-left i a) in
+      let z : i .units - (i .units - u) ≡ u = omega arith in
+      ap (lost tt) z
+  told-ran (cut units w u) e =
+      let n : u ≤ i .units = subst (λ (r : Ran). left r ≤ i .units) e (units-left i a) in
+      let z : i .units - (i .units - u) ≡ u = omega arith in
+      ap (cut units tt) z
+  told-ran (cut room w u) e =
+      let n : u ≤ i .units = subst (λ (r : Ran). left r ≤ i .units) e (units-left i a) in
+      let z : i .units - (i .units - u) ≡ u = omega arith in
+      ap (cut room tt) z
+  told-ran (cut nesting w u) e =
+      let n : u ≤ i .units = subst (λ (r : Ran). left r ≤ i .units) e (units-left i a) in
+      let z : i .units - (i .units - u) ≡ u = omega arith in
+      ap (cut nesting tt) z
+
+  -- what comes back says what the run over the words says
+  told-is : (o : Outcome) (s b : List ℕ) → Runs i o s b → told i (back o s b) ≡ value (ran i)
+  told-is o s b p = ap (told i) (came i o s b p a) ∙ told-ran (ran i) refl
+
+pub demand-2 : promises.Demand-2
+demand-2 i o s b a p r = subst (λ (x : Res Term Env ℕ (Unit {0})). (x ≡ r) ↔ Says (table (i .table)) (limits i) (begins i) r) (sym (told-is i a o s b p)) (meant-demands.demand-2 i a r)
+
+-- ---- demand 3
+
+module _ (T : Table) (s e f : ℕ) (t : Term) (b : Env) (entry : T ∶ s is SEQ e f) where
+  -- where a SEQ has an outcome, its first operand has one
+  first-of : (o : Out Term Env) → T ⊢ apply s t b ⇒ o → (o′ : Out Term Env) × (T ⊢ apply e t b ⇒ o′)
+  unfolding does strategy
+  first-of o r = go (ask-inv (subst (λ x. Der terms (does T) (strategy x t b) o) entry (meant-demands.rules-agree T (apply s t b) o _ .0 (r, refl) .0)))
+    where
+      go : {n : Trace} → Asked terms (does T) keep (apply e t b) (λ h′ b′. ask keep (apply f h′ b′) ret fail) fail o n → (o′ : Out Term Env) × (T ⊢ apply e t b ⇒ o′)
+      go (on-success {h} {b = c} d x q) = (done h c, meant-demands.rules-agree T (apply e t b) (done h c) _ .1 (d, refl) .0)
+      go (on-failure d x q) = (failed, meant-demands.rules-agree T (apply e t b) failed _ .1 (d, refl) .0)
+
+-- a strategy of which the question of free variables finds none is closed
+closed-by : (t : List ℕ) (x : ℕ) (q : FreeVariables) → Answered t x q → q .answer ≡ 0 → q .mask ≡ 0 → Closed (table t) x
+closed-by t x q h z m v f = true≢false (sym (subst (λ (n : ℕ). has n v ≡ true) m (h .mask z .free v .1 f)) ∙ has-nothing v)
+
+-- two answers, of which one is a cut-off or both say what is so in each order
+either-way : (T : Table) (g g′ : Given) (s s′ : ℕ) (t : Term) (b : Env) (r r′ : Res Term Env ℕ (Unit {0})) → Says T g (apply s t b) r → Says T g′ (apply s′ t b) r′
+    → ((o o′ : Out Term Env) → T ⊢ apply s t b ⇒ o → T ⊢ apply s′ t b ⇒ o′ → Agreed r r′) → Agreed r r′
+either-way T g g′ s s′ t b (ended h c m u) (ended h′ c′ m′ u′) x y k = k _ _ (x .0) (y .0)
+either-way T g g′ s s′ t b (ended h c m u) (lost l u′) x y k = k _ _ (x .0) (y .0)
+either-way T g g′ s s′ t b (ended h c m u) (cut e l u′) x y k = tt
+either-way T g g′ s s′ t b (lost l u) (ended h c m u′) x y k = k _ _ (x .0) (y .0)
+either-way T g g′ s s′ t b (lost l u) (lost l′ u′) x y k = tt
+either-way T g g′ s s′ t b (lost l u) (cut e l′ u′) x y k = tt
+either-way T g g′ s s′ t b (cut e l u) r′ x y k = tt
+
+pub demand-3 : promises.Demand-3
+demand-3 i x y e f start given π ρ q q′ o o′ s s′ b b′ h z m h′ z′ m′ at at′ n n′ first second a a′ p p′ =
+    let j : Input = started i start given in
+    let T : Table = table (i .table) in
+    let t : Term = term (i .store) (i .subject) in
+    let c : Env = meant (i .store) (bindings (i .bindings)) in
+    subst (λ (r : Res Term Env ℕ (Unit {0})). Agreed r (told j (back o′ s′ b′))) (sym (told-is i a o s b p))
+    (subst (λ (r : Res Term Env ℕ (Unit {0})). Agreed (value (ran i)) r) (sym (told-is j a′ o′ s′ b′ p′))
+    (either-way T (limits i) (limits j) (i .start) start t c (value (ran i)) (value (ran j)) (meant-demands.demand-2 i a (value (ran i)) .0 refl) (meant-demands.demand-2 j a′ (value (ran j)) .0 refl)
+    (λ d d′ r r′. meant-demands.demand-3-runs i start given a a′ (meant-demands.demand-3 T x y e f (i .start) start π ρ t c _ _ (closed-by (i .table) x q h z m) (closed-by (i .table) y q′ h′ z′ m′) at at′ n n′ first second (first-of T (i .start) e f t c first d r .1) (first-of T start f e t c second d′ r′ .1)))))
