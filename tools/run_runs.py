@@ -598,6 +598,14 @@ def full():
     case("131072 nodes, ID", [entry(ID)], mark=131072, fill=2, **whole)
     case("131072 nodes, PATH", [entry(PATH, 1, 1), entry(ID)], mark=131072, fill=2, **whole)
     case("131071 nodes, PATH", [entry(PATH, 1, 1), entry(ID)], mark=131071, fill=3, **whole)
+    # node k has k - 1 twice, so that a pass over it makes 2**k - 1 nodes; the last three make up what is missing
+    shared = [[1]] + [[1, 2, k - 1, k - 1] for k in range(1, 17)]
+    shared += [[1, 5, 6, 5, 4, 2, 2], [1, 6, 11, 10, 9, 8, 7, 17], [1, 6, 16, 15, 14, 13, 12, 18]]
+    down = [entry(REC, 0, 1), entry(ALL, 0, 2), entry(CALL, 0, 0)]
+    five, _, _ = case("a run that fills 131072 nodes", down, shared, slen=1048576, units=MOST)
+    assert five[0] == 0 and five[3] == 131072
+    five, _, _ = case("a run that needs one node more than there are", down, shared, slen=1048568, units=MOST)
+    assert five[0] == 7
     case("room for 131072 nodes, none kept", [entry(TEST, 0, 1), entry(BUILD, 0, 2), entry(PCON, 7)], [[1]], **whole)
     case("4096 entries, the last is the start", {4095: entry(FAIL)}, THREE, tlen=32768, start=4095)
 
