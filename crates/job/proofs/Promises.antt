@@ -1,0 +1,445 @@
+-- A text that is read as lines is the text of those lines, and of no others. Assumes nothing.
+use mathlib.Core.Path.{_≡_, refl, ap, sym, _∙_, subst}
+use mathlib.Core.Logic.{⊎-elim}
+use mathlib.Core.Bool.{Bool, true, false, _&&_, true≢false}
+use mathlib.Core.List.{List, [], _∷_, _++_, append-assoc, append-nil, map}
+use mathlib.Core.Option.{Option, none, some}
+use Prim.Native.Nat.{ℕ, zero, suc, _+_, _-_, _*_, _/_, _%_, _≤_, _<_}
+use native.Mathlib.Nat.{eq-or-lt-of-le}
+use native.Mathlib.Omega.{arith}
+use lib.Dec.{ltb, eqb}
+use lib.ListN.{length, getD, length-append}
+use borrow.Author.Tests.{le-ltb, ltb-false, eqb-true, eqb-false, ne-eqb}
+use Rattle.words.specs.Tests.{if_then_else_}
+use Rattle.job.specs.Text.{grown, parts, valued, zeroAlone, numberOf, inFront, numbersOf, digits, decimal}
+use Rattle.job.specs.Lines.{Line, nameOf, letterOf, fits, lineFrom, lineOfFields, lineOf}
+use Rattle.job.specs.Job.{Reading, unread, admitted, taken, accepted, Meant, bad, good, orBad, ended, readLines, meant}
+use Rattle.job.specs.Written.{nameText, numbersText, lineText, written, Within, empty, limited, Follow, end, next}
+use Rattle.job.specs.Promises.{JobText, TextIsJob, FirstBad, BadLine, OneReading}
+use Rattle.job.proofs.Parts.{parts-first}
+use Rattle.job.proofs.Put.{decimal-one, decimal-more}
+use Rattle.job.proofs.Readings.{fits-name}
+use Rattle.job.proofs.Grammar.{parts-cut, line-read, line-clear, written-read}
+
+-- Nothing is something.
+never : {A : Type 0} {B : Type 0} {x : A} → none ≡ some x → B
+never {A} {B} {x} e = let z : _≡_ {A = ℕ} 0 1 = cc in absurd (omega arith)
+
+same : {A : Type 0} {x y : A} → some x ≡ some y → x ≡ y
+same e = cc
+
+-- At least a number, and not that one, is more.
+more : {m n : ℕ} → m ≤ n → (n ≡ m → ⊥) → m < n
+more l n = ⊎-elim (λ e. absurd (n (sym e))) (λ h. h) (eq-or-lt-of-le l)
+
+-- Digits after a number that is not zero are the digits of what they make.
+valued-text : (f : List ℕ) (w v : ℕ) → 0 < w → w ≤ 4294967295 → valued w f ≡ some v → (decimal w ++ f ≡ decimal v) × (v ≤ 4294967295)
+unfolding valued
+valued-text [] w v p l e =
+    let z : w ≡ v = same e in
+    (append-nil (decimal w) ∙ ap decimal z, subst (λ (n : ℕ). n ≤ 4294967295) z l)
+valued-text (b ∷ f) w v p l e = go (ltb b 48) refl (ltb 57 b) refl (ltb 4294967295 (w * 10 + (b - 48))) refl (valued-text f (w * 10 + (b - 48)) v) e
+  where
+    go : (x : Bool) → ltb b 48 ≡ x → (y : Bool) → ltb 57 b ≡ y → (z : Bool) → ltb 4294967295 (w * 10 + (b - 48)) ≡ z
+        → (0 < w * 10 + (b - 48) → w * 10 + (b - 48) ≤ 4294967295 → valued (w * 10 + (b - 48)) f ≡ some v
+        → (decimal (w * 10 + (b - 48)) ++ f ≡ decimal v) × (v ≤ 4294967295))
+        → (if x then none else (if y then none else (if z then none else valued (w * 10 + (b - 48)) f))) ≡ some v
+        → (decimal w ++ (b ∷ f) ≡ decimal v) × (v ≤ 4294967295)
+    go true i y j z k h e = never e
+    go false i true j z k h e = never e
+    go false i false j true k h e = never e
+    go false i false j false k h e =
+        let n : ℕ = w * 10 + (b - 48) in
+        let lo : 48 ≤ b = ltb-false b 48 i in
+        let hi : b ≤ 57 = ltb-false 57 b j in
+        let m : n ≤ 4294967295 = ltb-false 4294967295 n k in
+        let q : n / 10 ≡ w = omega arith in
+        let r : 48 + n % 10 ≡ b = omega arith in
+        let t : _ = h (omega arith) m e in
+        let d : decimal n ≡ decimal w ++ (b ∷ []) =
+        decimal-more n (omega arith) m
+        ∙ ap (λ (a : ℕ). decimal a ++ ((48 + n % 10) ∷ [])) q
+        ∙ ap (λ (a : ℕ). decimal w ++ (a ∷ [])) r in
+        (sym (append-assoc (decimal w) (b ∷ []) f) ∙ ap (λ (a : List ℕ). a ++ f) (sym d) ∙ t .0, t .1)
+
+-- A field that is a number is its digits.
+number-text : (f : List ℕ) (v : ℕ) → numberOf f ≡ some v → (f ≡ decimal v) × (v ≤ 4294967295)
+unfolding numberOf valued digits
+number-text [] v e = never e
+number-text (b ∷ f) v e = go (eqb b 48) refl e
+  where
+    lone : (f : List ℕ) → b ≡ 48 → zeroAlone f ≡ some v → (b ∷ f ≡ decimal v) × (v ≤ 4294967295)
+    lone [] z e =
+        let y : 0 ≡ v = same e in
+        (ap (λ (a : ℕ). a ∷ []) z ∙ ap decimal y, omega arith)
+    lone (c ∷ f) z e = never e
+
+    first : (x : Bool) → ltb b 48 ≡ x → (y : Bool) → ltb 57 b ≡ y → (z : Bool) → ltb 4294967295 (0 * 10 + (b - 48)) ≡ z → (b ≡ 48 → ⊥)
+        → (if x then none else (if y then none else (if z then none else valued (0 * 10 + (b - 48)) f))) ≡ some v
+        → (b ∷ f ≡ decimal v) × (v ≤ 4294967295)
+    first true i y j z k n e = never e
+    first false i true j z k n e = never e
+    first false i false j true k n e = never e
+    first false i false j false k n e =
+        let lo : 48 ≤ b = ltb-false b 48 i in
+        let hi : b ≤ 57 = ltb-false 57 b j in
+        let g : 48 < b = more lo n in
+        let m : 0 * 10 + (b - 48) ≤ 4294967295 = omega arith in
+        let t : _ = valued-text f (0 * 10 + (b - 48)) v (omega arith) m e in
+        let q : 48 + (0 * 10 + (b - 48)) ≡ b = omega arith in
+        (ap (λ (a : ℕ). a ∷ f) (sym q) ∙ ap (λ (a : List ℕ). a ++ f) (sym (decimal-one (0 * 10 + (b - 48)) (omega arith))) ∙ t .0, t .1)
+
+    go : (q : Bool) → eqb b 48 ≡ q → (if q then zeroAlone f else valued 0 (b ∷ f)) ≡ some v → (b ∷ f ≡ decimal v) × (v ≤ 4294967295)
+    go true z e = lone f (eqb-true b 48 z) e
+    go false z e = first (ltb b 48) refl (ltb 57 b) refl (ltb 4294967295 (0 * 10 + (b - 48))) refl (eqb-false b 48 z) e
+
+-- Fields that are numbers are their digits.
+numbers-text : (k : ℕ) (fs : List (List ℕ)) (vs : List ℕ) → numbersOf k fs ≡ some vs → (fs ≡ map decimal vs) × Within vs
+unfolding numbersOf
+numbers-text k [] vs e = subst (λ (ws : List ℕ). ([] ≡ map decimal ws) × Within ws) (same e) (refl, empty)
+numbers-text zero (f ∷ fs) vs e = never e
+numbers-text (suc k) (f ∷ fs) vs e = go (numberOf f) refl (numbersOf k fs) refl (numbers-text k fs) e
+  where
+    go : (o : Option ℕ) → numberOf f ≡ o → (p : Option (List ℕ)) → numbersOf k fs ≡ p
+        → ((ws : List ℕ) → numbersOf k fs ≡ some ws → (fs ≡ map decimal ws) × Within ws)
+        → inFront o p ≡ some vs
+        → (f ∷ fs ≡ map decimal vs) × Within vs
+    go none i p j h e = never e
+    go (some v) i none j h e = never e
+    go (some v) i (some ws) j h e =
+        let t : _ = number-text f v i in
+        let u : _ = h ws j in
+        subst (λ (r : List ℕ). (f ∷ fs ≡ map decimal r) × Within r) (same e)
+        (ap (λ (a : List ℕ). a ∷ fs) (t .0) ∙ ap (λ (a : List (List ℕ)). decimal v ∷ a) (u .0), limited (t .1) (u .1))
+
+-- A field that is a name is the name's text.
+letter-text : (a : ℕ) → letterOf a ≤ 3 → a ∷ [] ≡ nameText (letterOf a)
+unfolding letterOf nameText
+letter-text a l = go (eqb a 101) refl (eqb a 110) refl (eqb a 98) refl l
+  where
+    go : (x : Bool) → eqb a 101 ≡ x → (y : Bool) → eqb a 110 ≡ y → (z : Bool) → eqb a 98 ≡ z
+        → (if x then 1 else (if y then 2 else (if z then 3 else 4))) ≤ 3
+        → a ∷ [] ≡ nameText (if x then 1 else (if y then 2 else (if z then 3 else 4)))
+    go true i y j z k l = ap (λ (b : ℕ). b ∷ []) (eqb-true a 101 i)
+    go false i true j z k l = ap (λ (b : ℕ). b ∷ []) (eqb-true a 110 j)
+    go false i false j true k l = ap (λ (b : ℕ). b ∷ []) (eqb-true a 98 k)
+    go false i false j false k l = absurd (omega arith)
+
+job-text : {a b c : ℕ} → a ≡ 106 → b ≡ 111 → c ≡ 98 → a ∷ b ∷ c ∷ [] ≡ nameText 0
+unfolding nameText
+job-text i j k = rw (i, j, k)
+
+name-text : (f : List ℕ) → nameOf f ≤ 3 → f ≡ nameText (nameOf f)
+unfolding nameOf
+name-text [] l = absurd (omega arith)
+name-text (a ∷ []) l = letter-text a l
+name-text (a ∷ b ∷ []) l = absurd (omega arith)
+name-text (a ∷ b ∷ c ∷ []) l = go (eqb a 106) refl (eqb b 111) refl (eqb c 98) refl l
+  where
+    go : (x : Bool) → eqb a 106 ≡ x → (y : Bool) → eqb b 111 ≡ y → (z : Bool) → eqb c 98 ≡ z
+        → (if x && (y && z) then 0 else 4) ≤ 3
+        → a ∷ b ∷ c ∷ [] ≡ nameText (if x && (y && z) then 0 else 4)
+    go true i true j true k l = job-text (eqb-true a 106 i) (eqb-true b 111 j) (eqb-true c 98 k)
+    go true i true j false k l = absurd (omega arith)
+    go true i false j z k l = absurd (omega arith)
+    go false i y j z k l = absurd (omega arith)
+name-text (a ∷ b ∷ c ∷ d ∷ f) l = absurd (long (rw (ne-eqb (suc (suc (suc (suc (length f))))) 1 (λ e. omega arith), ne-eqb (suc (suc (suc (suc (length f))))) 3 (λ e. omega arith)) at l))
+  where
+    long : 4 ≤ 3 → ⊥
+    long h = omega arith
+
+-- Parts, and separators between them, are the text.
+abbrev rejoin : ℕ → List (List ℕ) → List ℕ
+rejoin c [] = []
+rejoin c (p ∷ ps) = c ∷ (p ++ rejoin c ps)
+
+abbrev unparts : ℕ → List (List ℕ) → List ℕ
+unparts c [] = []
+unparts c (p ∷ ps) = p ++ rejoin c ps
+
+some-part : (c : ℕ) (s : List ℕ) → 0 < length (parts c s)
+some-part c s = rw (parts-first c s) (omega arith)
+
+unparts-parts : (c : ℕ) (s : List ℕ) → unparts c (parts c s) ≡ s
+unfolding parts
+unparts-parts c [] = refl
+unparts-parts c (b ∷ s) = go (eqb b c) refl (parts c s) (some-part c s) (unparts-parts c s)
+  where
+    go : (q : Bool) → eqb b c ≡ q → (ps : List (List ℕ)) → 0 < length ps → unparts c ps ≡ s → unparts c (if q then [] ∷ ps else grown b ps) ≡ b ∷ s
+    go q e [] l h = absurd (omega arith)
+    go true e (p ∷ ps) l h = ap (λ (a : ℕ). a ∷ (p ++ rejoin c ps)) (sym (eqb-true b c e)) ∙ ap (λ (r : List ℕ). b ∷ r) h
+    go false e (p ∷ ps) l h = ap (λ (r : List ℕ). b ∷ r) h
+
+rejoin-numbers : (vs : List ℕ) → rejoin 9 (map decimal vs) ≡ numbersText vs
+unfolding numbersText
+rejoin-numbers [] = refl
+rejoin-numbers (v ∷ vs) = ap (λ (r : List ℕ). 9 ∷ (decimal v ++ r)) (rejoin-numbers vs)
+
+-- What is read of a line.
+record Read (l : List ℕ) (x : Line) : Type 0 where
+  text : l ≡ lineText x
+  fit : fits (x .name) (length (x .numbers)) (x .numbers) ≡ true
+  within : Within (x .numbers)
+
+line-made : (f : List ℕ) (fs : List (List ℕ)) (vs : List ℕ) → f ≡ nameText (nameOf f) → fs ≡ map decimal vs → f ++ rejoin 9 fs ≡ lineText (record { name = nameOf f; numbers = vs })
+unfolding lineText
+line-made f fs vs n e = ap (λ (gs : List (List ℕ)). f ++ rejoin 9 gs) e ∙ ap (λ (r : List ℕ). f ++ r) (rejoin-numbers vs) ∙ ap (λ (a : List ℕ). a ++ numbersText vs) n
+
+read-from : (f : List ℕ) (fs : List (List ℕ)) (o : Option (List ℕ)) → numbersOf 8 fs ≡ o → (x : Line) → lineFrom (nameOf f) o ≡ some x → Read (f ++ rejoin 9 fs) x
+read-from f fs none i x e = never e
+read-from f fs (some vs) i x e = go (fits (nameOf f) (length vs) vs) refl e
+  where
+    made : fits (nameOf f) (length vs) vs ≡ true → Read (f ++ rejoin 9 fs) (record { name = nameOf f; numbers = vs })
+    made t = record { text = text-of t; fit = t; within = numbers-text 8 fs vs i .1 }
+      where
+        text-of : fits (nameOf f) (length vs) vs ≡ true → f ++ rejoin 9 fs ≡ lineText (record { name = nameOf f; numbers = vs })
+        text-of t =
+            line-made f fs vs (name-text f (ltb-false 3 (nameOf f) (fits-name (nameOf f) (length vs) vs t))) (numbers-text 8 fs vs i .0)
+
+    go : (b : Bool) → fits (nameOf f) (length vs) vs ≡ b → (if b then some (record { name = nameOf f; numbers = vs }) else none) ≡ some x → Read (f ++ rejoin 9 fs) x
+    go true t e = subst (Read (f ++ rejoin 9 fs)) (same e) (made t)
+    go false t e = never e
+
+line-text : (l : List ℕ) (x : Line) → lineOf l ≡ some x → Read l x
+unfolding lineOf
+line-text l x e = subst (λ (s : List ℕ). Read s x) (unparts-parts 9 l) (go (parts 9 l) e)
+  where
+    go : (fs : List (List ℕ)) → lineOfFields fs ≡ some x → Read (unparts 9 fs) x
+    go [] e = never e
+    go (f ∷ fs) e = read-from f fs (numbersOf 8 fs) refl x e
+
+-- The lines of a text that is read.
+record Lines (s : List ℕ) (g h : Reading) : Type 0 where
+  lines : List Line
+  text : s ≡ written lines
+  follow : Follow g lines h
+  begun : h .heading .section ≡ 0 → ⊥
+
+bad-good : {B : Type 0} {n : ℕ} {g : Reading} → bad n ≡ good g → B
+bad-good e = let z : _≡_ {A = ℕ} 0 1 = cc in absurd (omega arith)
+
+same-good : {g h : Reading} → good g ≡ good h → g ≡ h
+same-good e = cc
+
+nothing-written : [] ≡ written []
+unfolding written
+nothing-written = refl
+
+line-more : (l r : List ℕ) (x : Line) (xs : List Line) → l ≡ lineText x → r ≡ written xs → l ++ (10 ∷ r) ≡ written (x ∷ xs)
+unfolding written
+line-more l r x xs e f = rw (e, f)
+
+lines-ended : (g : Reading) (n : ℕ) (l : List ℕ) (h : Reading) → ended g n l ≡ good h → Lines (unparts 10 (l ∷ [])) g h
+lines-ended g n (b ∷ l) h e = bad-good e
+lines-ended g n [] h e = go (eqb (g .heading .section) 0) refl e
+  where
+    go : (q : Bool) → eqb (g .heading .section) 0 ≡ q → (if q then bad n else good g) ≡ good h → Lines [] g h
+    go true i e = bad-good e
+    go false i e = subst (Lines [] g) (same-good e) (record { lines = []; text = nothing-written; follow = end; begun = eqb-false (g .heading .section) 0 i })
+
+lines-next : (g : Reading) (n : ℕ) (l : List ℕ) (r : List ℕ) (h : Reading) (rest : Reading → Meant) (o : Option Line) → lineOf l ≡ o
+    → ((g′ : Reading) → rest g′ ≡ good h → Lines r g′ h)
+    → orBad n (accepted g o) rest ≡ good h
+    → Lines (l ++ (10 ∷ r)) g h
+lines-next g n l r h rest none i k e = bad-good e
+lines-next g n l r h rest (some x) i k e = go (admitted (g .heading) (x .name) (getD (x .numbers) 0 0)) refl e
+  where
+    add : admitted (g .heading) (x .name) (getD (x .numbers) 0 0) ≡ true → Lines r (taken g x) h → Lines (l ++ (10 ∷ r)) g h
+    add a m =
+        let t : Read l x = line-text l x i in
+        record {
+          lines = x ∷ m .lines;
+          text = line-more l r x (m .lines) (t .text) (m .text);
+          follow = next (t .fit) (t .within) a (m .follow);
+          begun = m .begun;
+        }
+
+    go : (q : Bool) → admitted (g .heading) (x .name) (getD (x .numbers) 0 0) ≡ q
+        → orBad n (if q then some (taken g x) else none) rest ≡ good h
+        → Lines (l ++ (10 ∷ r)) g h
+    go true a e = add a (k (taken g x) e)
+    go false a e = bad-good e
+
+lines-read : (ps : List (List ℕ)) (g : Reading) (n : ℕ) (h : Reading) → readLines g n ps ≡ good h → Lines (unparts 10 ps) g h
+unfolding readLines
+lines-read [] g n h e = bad-good e
+lines-read (l ∷ []) g n h e = lines-ended g n l h e
+lines-read (l ∷ m ∷ ls) g n h e =
+    lines-next g n l (unparts 10 (m ∷ ls)) h (λ g′. readLines g′ (n + 1) (m ∷ ls)) (lineOf l) refl (λ g′. lines-read (m ∷ ls) g′ (n + 1) h) e
+
+-- A text means a job exactly where it is the text of the job's lines.
+job-text-of : (s : List ℕ) (g : Reading) → meant s ≡ good g → JobText s g
+unfolding meant
+job-text-of s g e = go (ltb 60000 (length s)) refl e
+  where
+    go : (q : Bool) → ltb 60000 (length s) ≡ q → (if q then bad 0 else readLines unread 1 (parts 10 s)) ≡ good g → JobText s g
+    go true i e = bad-good e
+    go false i e =
+        let t : Lines s unread g = subst (λ (r : List ℕ). Lines r unread g) (unparts-parts 10 s) (lines-read (parts 10 s) unread 1 g e) in
+        record { short = ltb-false 60000 (length s) i; lines = t .lines; text = t .text; follow = t .follow; begun = t .begun }
+
+job-meant : (s : List ℕ) (g : Reading) → JobText s g → meant s ≡ good g
+unfolding meant
+job-meant s g t = rw (le-ltb 60000 (length s) (t .short)) (rw (t .text) (written-read 1 (t .follow) (t .begun)))
+
+pub textIsJob : TextIsJob
+textIsJob s g = (job-text-of s g, job-meant s g)
+
+-- A text is read in one way.
+cut : (x : Line) (xs : List Line) → parts 10 (written (x ∷ xs)) ≡ lineText x ∷ parts 10 (written xs)
+unfolding written
+cut x xs = parts-cut (written xs) (line-clear x)
+
+-- Two texts of lines that are the same have the same first line and the same rest.
+both : (x : Line) (xs : List Line) (y : Line) (ys : List Line) → written (x ∷ xs) ≡ written (y ∷ ys) → (lineText x ≡ lineText y) × (written xs ≡ written ys)
+both x xs y ys e =
+    let p : lineText x ∷ parts 10 (written xs) ≡ lineText y ∷ parts 10 (written ys) = sym (cut x xs) ∙ ap (parts 10) e ∙ cut y ys in
+    let t : parts 10 (written xs) ≡ parts 10 (written ys) = cc in
+    (cc, sym (unparts-parts 10 (written xs)) ∙ ap (unparts 10) t ∙ unparts-parts 10 (written ys))
+
+-- A line has some text.
+no-text : (x : Line) (xs : List Line) → written (x ∷ xs) ≡ written [] → ⊥
+unfolding written
+no-text x xs e =
+    let n : length (lineText x ++ (10 ∷ written xs)) ≡ 0 = ap length e in
+    omega (arith, n, length-append (lineText x) (10 ∷ written xs))
+
+one-reading : {f g h k : Reading} (xs ys : List Line) → Follow f xs g → Follow h ys k → written xs ≡ written ys → xs ≡ ys
+one-reading [] [] end end e = refl
+one-reading [] (y ∷ ys) end (next f w a r) e = absurd (no-text y ys (sym e))
+one-reading (x ∷ xs) [] (next f w a r) end e = absurd (no-text x xs e)
+one-reading (x ∷ xs) (y ∷ ys) (next f w a r) (next f′ w′ a′ r′) e =
+    let p : _ = both x xs y ys e in
+    let q : x ≡ y = same (sym (line-read x f w) ∙ ap lineOf (p .0) ∙ line-read y f′ w′) in
+    ap (λ (z : Line). z ∷ xs) q ∙ ap (λ (zs : List Line). y ∷ zs) (one-reading xs ys r r′ (p .1))
+
+pub oneReading : OneReading
+oneReading xs ys g h p q e = one-reading xs ys p q e
+
+-- The parts after the first are those of the text after it.
+parts-rest : (c : ℕ) (s l m : List ℕ) (ls : List (List ℕ)) → parts c s ≡ l ∷ m ∷ ls → parts c (unparts c (m ∷ ls)) ≡ m ∷ ls
+unfolding parts
+parts-rest c [] l m ls e = absurd (short e)
+  where
+    short : [] ∷ [] ≡ l ∷ m ∷ ls → ⊥
+    short e = let z : 1 ≡ suc (suc (length ls)) = ap length e in omega arith
+parts-rest c (b ∷ s) l m ls e = go (eqb b c) (parts c s) refl (parts-rest c s) e
+  where
+    go : (q : Bool) (ps : List (List ℕ)) → parts c s ≡ ps
+        → ((k n : List ℕ) (ns : List (List ℕ)) → parts c s ≡ k ∷ n ∷ ns → parts c (unparts c (n ∷ ns)) ≡ n ∷ ns)
+        → (if q then [] ∷ ps else grown b ps) ≡ l ∷ m ∷ ls
+        → parts c (unparts c (m ∷ ls)) ≡ m ∷ ls
+    go true ps i h e =
+        let t : ps ≡ m ∷ ls = cc in
+        ap (λ (a : List (List ℕ)). parts c (unparts c a)) (sym t ∙ sym i) ∙ ap (parts c) (unparts-parts c s) ∙ i ∙ t
+    go false [] i h e = absurd (let z : 1 ≡ suc (suc (length ls)) = ap length e in omega arith)
+    go false (p ∷ ps) i h e =
+        let t : ps ≡ m ∷ ls = cc in
+        h p m ls (i ∙ ap (λ (a : List (List ℕ)). p ∷ a) t)
+
+good-bad : {B : Type 0} {n : ℕ} {g : Reading} → good g ≡ bad n → B
+good-bad e = let z : _≡_ {A = ℕ} 0 1 = cc in absurd (omega arith)
+
+same-bad : {m n : ℕ} → bad m ≡ bad n → m ≡ n
+same-bad e = cc
+
+-- A line's text at the front of a text is its first part, and there are more.
+front : (s : List ℕ) (x : Line) (r : List ℕ) (ps : List (List ℕ)) → parts 10 s ≡ ps → s ≡ lineText x ++ (10 ∷ r) → ps ≡ lineText x ∷ parts 10 r
+front s x r ps i e = sym i ∙ ap (parts 10) e ∙ parts-cut r (line-clear x)
+
+-- Bad where it stands: the lines before are none.
+here : (g : Reading) (s : List ℕ) (n m : ℕ) → n ≡ m
+    → ((x : Line) (r : List ℕ) → s ≡ lineText x ++ (10 ∷ r) → fits (x .name) (length (x .numbers)) (x .numbers) ≡ true
+    → Within (x .numbers) → admitted (g .heading) (x .name) (getD (x .numbers) 0 0) ≡ true → ⊥)
+    → (s ≡ [] → g .heading .section ≡ 0)
+    → FirstBad g s n m
+unfolding written
+here g s n m e k u = record { lines = []; after = g; rest = s; text = refl; follow = end; number = omega (arith, e); stuck = k; unfinished = u }
+
+bad-ended : (g : Reading) (s l : List ℕ) (n m : ℕ) → parts 10 s ≡ l ∷ [] → ended g n l ≡ bad m → FirstBad g s n m
+bad-ended g s l n m i e = here g s n m (number-of l e) (λ x r z f w a. two x r z) (λ z. opened l (sym (unparts-parts 10 s) ∙ ap (unparts 10) i ∙ append-nil l) z e)
+  where
+    number-of : (l : List ℕ) → ended g n l ≡ bad m → n ≡ m
+    number-of (b ∷ l) e = same-bad e
+    number-of [] e = pickN (eqb (g .heading .section) 0) e
+      where
+        pickN : (q : Bool) → (if q then bad n else good g) ≡ bad m → n ≡ m
+        pickN true e = same-bad e
+        pickN false e = good-bad e
+
+    two : (x : Line) (r : List ℕ) → s ≡ lineText x ++ (10 ∷ r) → ⊥
+    two x r z =
+        let q : l ∷ [] ≡ lineText x ∷ parts 10 r = front s x r (l ∷ []) i z in
+        let j : 1 ≡ suc (length (parts 10 r)) = ap length q in
+        omega (arith, j, some-part 10 r)
+
+    opened : (l : List ℕ) → s ≡ l → s ≡ [] → ended g n l ≡ bad m → g .heading .section ≡ 0
+    opened (b ∷ l) p z e = absurd (let j : suc (length l) ≡ 0 = ap length (sym p ∙ z) in omega arith)
+    opened [] p z e = pickS (eqb (g .heading .section) 0) refl e
+      where
+        pickS : (q : Bool) → eqb (g .heading .section) 0 ≡ q → (if q then bad n else good g) ≡ bad m → g .heading .section ≡ 0
+        pickS true i e = eqb-true (g .heading .section) 0 i
+        pickS false i e = good-bad e
+
+line-and : (l : List ℕ) (x : Line) (r : List ℕ) (xs : List Line) (t : List ℕ) → l ≡ lineText x → r ≡ written xs ++ t → l ++ (10 ∷ r) ≡ written (x ∷ xs) ++ t
+unfolding written
+line-and l x r xs t e f = rw (e, f) (sym (append-assoc (lineText x) (10 ∷ written xs) t))
+
+bad-next : (g : Reading) (s l k : List ℕ) (ls : List (List ℕ)) (n m : ℕ) → parts 10 s ≡ l ∷ k ∷ ls
+    → (rest : Reading → Meant)
+    → ((g′ : Reading) → rest g′ ≡ bad m → FirstBad g′ (unparts 10 (k ∷ ls)) (n + 1) m)
+    → (o : Option Line) → lineOf l ≡ o → orBad n (accepted g o) rest ≡ bad m → FirstBad g s n m
+bad-next g s l k ls n m i rest h o j e = go o j e
+  where
+    whole : s ≡ l ++ (10 ∷ unparts 10 (k ∷ ls))
+    whole = sym (unparts-parts 10 s) ∙ ap (unparts 10) i
+
+    some-text : s ≡ [] → g .heading .section ≡ 0
+    some-text z = absurd (let q : length (l ++ (10 ∷ unparts 10 (k ∷ ls))) ≡ 0 = ap length (sym whole ∙ z) in omega (arith, q, length-append l (10 ∷ unparts 10 (k ∷ ls))))
+
+    first-line : (x : Line) (r : List ℕ) → s ≡ lineText x ++ (10 ∷ r) → fits (x .name) (length (x .numbers)) (x .numbers) ≡ true → Within (x .numbers) → lineOf l ≡ some x
+    first-line x r z f w =
+        let q : l ∷ k ∷ ls ≡ lineText x ∷ parts 10 r = front s x r (l ∷ k ∷ ls) i z in
+        let p : l ≡ lineText x = cc in
+        ap lineOf p ∙ line-read x f w
+
+    more-lines : (x : Line) → lineOf l ≡ some x → admitted (g .heading) (x .name) (getD (x .numbers) 0 0) ≡ true → FirstBad (taken g x) (unparts 10 (k ∷ ls)) (n + 1) m → FirstBad g s n m
+    more-lines x j a t =
+        let u : Read l x = line-text l x j in
+        record {
+          lines = x ∷ t .lines;
+          after = t .after;
+          rest = t .rest;
+          text = whole ∙ line-and l x (unparts 10 (k ∷ ls)) (t .lines) (t .rest) (u .text) (t .text);
+          follow = next (u .fit) (u .within) a (t .follow);
+          number = omega (arith, t .number);
+          stuck = t .stuck;
+          unfinished = t .unfinished;
+        }
+
+    tried : (x : Line) → lineOf l ≡ some x → (q : Bool) → admitted (g .heading) (x .name) (getD (x .numbers) 0 0) ≡ q
+        → orBad n (if q then some (taken g x) else none) rest ≡ bad m → FirstBad g s n m
+    tried x j true a e = more-lines x j a (h (taken g x) e)
+    tried x j false a e = here g s n m (same-bad e)
+        (λ y r z f w b.
+        let p : x ≡ y = same (sym j ∙ first-line y r z f w) in
+        let c : admitted (g .heading) (x .name) (getD (x .numbers) 0 0) ≡ true = subst (λ (v : Line). admitted (g .heading) (v .name) (getD (v .numbers) 0 0) ≡ true) (sym p) b in
+        true≢false (sym c ∙ a))
+        some-text
+
+    go : (o : Option Line) → lineOf l ≡ o → orBad n (accepted g o) rest ≡ bad m → FirstBad g s n m
+    go none j e = here g s n m (same-bad e) (λ y r z f w b. never (sym j ∙ first-line y r z f w)) some-text
+    go (some x) j e = tried x j (admitted (g .heading) (x .name) (getD (x .numbers) 0 0)) refl e
+
+bad-read : (ps : List (List ℕ)) (s : List ℕ) (g : Reading) (n m : ℕ) → parts 10 s ≡ ps → readLines g n ps ≡ bad m → FirstBad g s n m
+unfolding readLines
+bad-read [] s g n m i e = absurd (let q : length (parts 10 s) ≡ 0 = ap length i in omega (arith, q, some-part 10 s))
+bad-read (l ∷ []) s g n m i e = bad-ended g s l n m i e
+bad-read (l ∷ k ∷ ls) s g n m i e =
+    bad-next g s l k ls n m i (λ g′. readLines g′ (n + 1) (k ∷ ls)) (λ g′. bad-read (k ∷ ls) (unparts 10 (k ∷ ls)) g′ (n + 1) m (parts-rest 10 s l k ls i)) (lineOf l) refl e
+
+pub badLine : BadLine
+unfolding meant
+badLine s n l e =
+    let r : readLines unread 1 (parts 10 s) ≡ bad n = rw (le-ltb 60000 (length s) l) at e in
+    bad-read (parts 10 s) s unread 1 n refl r

@@ -1,0 +1,115 @@
+-- A line by its name and its numbers, as the code holds them. Assumes nothing.
+use mathlib.Core.Path.{_≡_, refl, ap, sym, _∙_}
+use mathlib.Core.Bool.{Bool, true, false, true≢false}
+use mathlib.Core.List.{List, [], _∷_, _++_, tail}
+use mathlib.Core.Option.{Option, none, some}
+use Prim.Native.Nat.{ℕ, zero, suc, _+_, _-_, _≤_, _<_}
+use native.Mathlib.Omega.{arith}
+use lib.Dec.{eqb}
+use lib.ListN.{length, getD, take, drop, replicate}
+use borrow.Author.Tests.{lt-ltb, le-ltb}
+use Rattle.words.specs.Tests.{if_then_else_}
+use Rattle.job.specs.Text.{parts, upTo, numbersOf, eight}
+use Rattle.job.specs.Lines.{nameOf, jobFits, entryFits, nodeFits, bindingFits, fits, lineFrom, lineOf, numbersHeld, noLine, lineHeld, takenAt}
+use Rattle.job.specs.declared.Numbers.{Numbers}
+use Rattle.job.proofs.Parts.{parts-first, upTo-take, length-upTo, upTo-stops}
+
+-- Zeros after numbers read as nothing does.
+getD-zeros : (m i : ℕ) → _≡_ {A = ℕ} (getD (replicate m 0) i 0) 0
+getD-zeros zero i = refl
+getD-zeros (suc m) zero = refl
+getD-zeros (suc m) (suc i) = getD-zeros m i
+
+getD-more : (vs : List ℕ) (m i : ℕ) → getD (vs ++ replicate m 0) i 0 ≡ getD vs i 0
+getD-more [] m i = getD-zeros m i
+getD-more (v ∷ vs) m zero = refl
+getD-more (v ∷ vs) m (suc i) = getD-more vs m i
+
+pub getD-eight : (vs : List ℕ) (i : ℕ) → getD (eight vs) i 0 ≡ getD vs i 0
+unfolding eight
+getD-eight vs i = getD-more vs (8 - length vs) i
+
+-- So numbers fit a name as their eight places do.
+pub fits-eight : (k n : ℕ) (vs : List ℕ) → fits k n (eight vs) ≡ fits k n vs
+unfolding fits jobFits entryFits nodeFits bindingFits
+fits-eight k n vs = rw (getD-eight vs 3, getD-eight vs 0, getD-eight vs 1)
+
+-- Nine numbers fit no name.
+fits-nine : (k : ℕ) (vs : List ℕ) → fits k 9 vs ≡ false
+unfolding fits jobFits entryFits nodeFits bindingFits
+fits-nine k vs = go (eqb k 0) (eqb k 1) (eqb k 2) (eqb k 3)
+  where
+    go : (a b c d : Bool) → (if a then false else (if b then false else (if c then false else (if d then false else false)))) ≡ false
+    go true b c d = refl
+    go false true c d = refl
+    go false false true d = refl
+    go false false false true = refl
+    go false false false false = refl
+
+module _ (k next : ℕ) (got : Numbers) where
+  -- Numbers that do not fit make no line.
+  pub line-none : (o : Option (List ℕ)) → got ≡ numbersHeld o → fits k (got .count) (got .at) ≡ false → noLine 4 next ≡ lineHeld (lineFrom k o) next
+  line-none none e f = refl
+  line-none (some vs) e f =
+      let g : fits k (length vs) vs ≡ false = sym (fits-eight k (length vs) vs) ∙ sym (ap (λ (n : Numbers). fits k (n .count) (n .at)) e) ∙ f in
+      rw g
+
+  -- Those that fit make the line.
+  pub line-some : (o : Option (List ℕ))
+      → got ≡ numbersHeld o
+      → fits k (got .count) (got .at) ≡ true
+      → record { name = k; count = got .count; at = got .at; next = next } ≡ lineHeld (lineFrom k o) next
+  line-some none e f =
+      absurd (true≢false (sym f ∙ ap (λ (n : Numbers). fits k (n .count) (n .at)) e ∙ fits-nine k (replicate 8 0)))
+  line-some (some vs) e f =
+      let g : fits k (length vs) vs ≡ true = sym (fits-eight k (length vs) vs) ∙ sym (ap (λ (n : Numbers). fits k (n .count) (n .at)) e) ∙ f in
+      rw (g, e)
+
+module _ (l : List ℕ) (e : ℕ) (z : e ≡ 0 + length (upTo 9 l)) where
+  -- The name ends at a tab or at the end.
+  pub name-end : (e ≤ length l) × (e < length l → getD l e 0 ≡ 9)
+  name-end =
+      let n : e ≡ length (upTo 9 l) = omega arith in
+      (omega (arith, length-upTo 9 l), λ m. ap (λ (i : ℕ). getD l i 0) n ∙ upTo-stops 9 l (omega arith))
+
+  -- The line is that of the name and of the fields after it.
+  pub line-fields : lineOf l ≡ lineFrom (nameOf (take e l)) (numbersOf 8 (tail (parts 9 (drop e l))))
+  unfolding lineOf
+  line-fields =
+      let n : length (upTo 9 l) ≡ e = omega arith in
+      let f : upTo 9 l ≡ take e l = upTo-take 9 l ∙ ap (λ (i : ℕ). take i l) n in
+      rw (parts-first 9 l, n, f)
+
+  module _ (k next : ℕ) (got : Numbers) (named : k ≡ nameOf (take e l)) (held : got ≡ numbersHeld (numbersOf 8 (tail (parts 9 (drop e l))))) where
+    whole : lineHeld (lineFrom k (numbersOf 8 (tail (parts 9 (drop e l))))) next ≡ lineHeld (lineOf l) next
+    whole = rw (line-fields, named)
+
+    -- The line is bad where the numbers do not fit the name.
+    pub bad-line : fits k (got .count) (got .at) ≡ false → noLine 4 next ≡ lineHeld (lineOf l) next
+    bad-line f = line-none k next got (numbersOf 8 (tail (parts 9 (drop e l)))) held f ∙ whole
+
+    -- Where they fit it is the line.
+    pub good-line : fits k (got .count) (got .at) ≡ true → record { name = k; count = got .count; at = got .at; next = next } ≡ lineHeld (lineOf l) next
+    good-line f = line-some k next got (numbersOf 8 (tail (parts 9 (drop e l)))) held f ∙ whole
+
+module _ (s : List ℕ) (at e : ℕ) (z : e ≡ at + length (upTo 10 (drop at s))) where
+  -- A line's bytes stand between its place and its end.
+  pub line-part : upTo 10 (drop at s) ≡ take (e - at) (drop at s)
+  line-part =
+      let n : length (upTo 10 (drop at s)) ≡ e - at = omega arith in
+      upTo-take 10 (drop at s) ∙ ap (λ (i : ℕ). take i (drop at s)) n
+
+  -- A line with its line feed.
+  pub taken-line : e < length s → lineHeld (lineOf (take (e - at) (drop at s))) (e + 1) ≡ takenAt s at
+  unfolding takenAt
+  taken-line l = rw (← z, lt-ltb _ _ l, line-part)
+
+  -- No line feed is left.
+  pub taken-short : length s ≤ e → at < length s → noLine 4 (length s) ≡ takenAt s at
+  unfolding takenAt
+  taken-short l m = rw (← z, le-ltb _ _ l, lt-ltb _ _ m)
+
+-- Nothing is left.
+pub taken-none : (s : List ℕ) (at : ℕ) → length s ≤ at → noLine 5 (length s) ≡ takenAt s at
+unfolding takenAt
+taken-none s at m = rw (le-ltb (at + length (upTo 10 (drop at s))) (length s) (omega arith), le-ltb at (length s) m)

@@ -1,0 +1,56 @@
+-- `job::answer::put_bindings` meets its contract. The loop's invariant: the lines of the bound variables below v are put. Assumes nothing.
+use Prim.Native.Nat.{ℕ}
+use mathlib.Core.Path.{subst}
+use mathlib.Core.Path.{_≡_, refl, _∙_}
+use Prim.Native.Nat.{_-_, _≤_}
+use borrow.Author.Needs.{needs}
+use native.Mathlib.Omega.{arith}
+use lib.ListN.{length}
+use Rattle.job.specs.Written.{written}
+use Rattle.job.specs.Answer.{Put, bindingLines}
+use Rattle.job.proofs.Answers.{bindings-none, bindings-more, length-bindings}
+use Rattle.job.proofs.answer.put_bindings.Statement.{statement}
+use Rattle.job.proofs.answer.put_bindings.Tie as tie
+
+abbrev Inv-loop : tie.InvT-loop
+Inv-loop buf₀ start bindings at₀ v₀ buf at v = (v ≤ 32) × (length buf ≡ length buf₀) × Put buf₀ start (written (bindingLines bindings v)) buf at
+
+abbrev μ-loop : tie.MeasureT-loop
+μ-loop buf₀ start bindings at₀ v₀ buf at v = 32 - v
+
+loop-holds : tie.Need-loop-holds Inv-loop μ-loop
+loop-holds c = (omega arith, refl, bindings-none (c .before .before .args .buf .now) (c .before .before .args .bindings .now) (c .before .before .args .start))
+
+put-binding-requires : tie.Need-put-binding-requires Inv-loop μ-loop
+put-binding-requires c κs = (omega (arith, c .before .before .before .before .before .pre .0, c .before .before .loop .inv .1, c .before .before .loop .inv .2 .place, length-bindings (c .before .before .before .before .before .args .bindings .now) (c .before .before .loop .v), c .before .loop-test .taken), omega (arith, c .before .before .before .before .before .pre .1, c .before .loop-test .taken))
+
+add-v : tie.Need-add-v Inv-loop μ-loop
+add-v c = search needs
+
+loop-less : tie.Need-loop-less Inv-loop μ-loop
+loop-less c = search needs
+
+loop-again : tie.Need-loop-again Inv-loop μ-loop
+loop-again c = (omega arith, c .before .before .put-binding .kept .0 ∙ c .before .before .before .before .before .loop .inv .1, bindings-more (c .before .before .before .before .before .before .before .before .args .bindings .now) (c .before .before .before .before .before .loop .v) (omega (arith, c .before .before .before .before .before .before .before .before .pre .0, c .before .before .before .before .loop-test .taken)) (c .before .before .before .before .before .loop .inv .2) (c .before .before .put-binding .ensures))
+
+same-length : tie.Need-same-length Inv-loop μ-loop
+same-length c = search needs
+
+returns : tie.Need-returns Inv-loop μ-loop
+returns c =
+    let e : c .before .loop .v ≡ 32 = omega arith in
+    subst (λ (j : ℕ). Put (c .before .before .before .before .args .buf .now) (c .before .before .before .before .args .start) (written (bindingLines (c .before .before .before .before .args .bindings .now) j)) (c .before .loop .buf) (c .before .loop .at)) e (c .before .loop .inv .2)
+
+pub put-bindings-spec : {M : Type 1} → statement M
+put-bindings-spec =
+    tie.close
+    (tie.spec
+    Inv-loop
+    μ-loop
+    loop-holds
+    put-binding-requires
+    add-v
+    loop-less
+    loop-again
+    same-length
+    returns)

@@ -1,0 +1,43 @@
+-- `job::answer::put_name` meets its contract, byte by byte. Assumes nothing.
+use borrow.Author.Needs.{needs}
+use native.Mathlib.Omega.{arith}
+use Rattle.job.proofs.Put.{put-more}
+use Rattle.job.proofs.answer.put_name.Statement.{statement}
+use Rattle.job.proofs.answer.put_name.Tie as tie
+
+put-byte-requires : tie.Need-put-byte-requires
+put-byte-requires c κs = search needs
+
+put-byte-requires-2 : tie.Need-put-byte-requires-2
+put-byte-requires-2 c κs = omega (arith, c .before .before .before .before .before .before .pre, c .before .before .before .put-byte .ensures .place, c .before .before .before .put-byte .kept .0)
+
+put-byte-requires-3 : tie.Need-put-byte-requires-3
+put-byte-requires-3 c κs = omega (arith, c .before .before .before .before .before .before .before .before .before .before .pre, c .before .before .before .before .before .before .before .put-byte .ensures .place, c .before .before .before .before .before .before .before .put-byte .kept .0, c .before .before .before .put-byte2 .ensures .place, c .before .before .before .put-byte2 .kept .0)
+
+put-byte-requires-4 : tie.Need-put-byte-requires-4
+put-byte-requires-4 c κs = omega (arith, c .before .before .before .before .before .before .before .before .before .before .before .before .before .before .pre, c .before .before .before .before .before .before .before .before .before .before .before .put-byte .ensures .place, c .before .before .before .before .before .before .before .before .before .before .before .put-byte .kept .0, c .before .before .before .before .before .before .before .put-byte2 .ensures .place, c .before .before .before .before .before .before .before .put-byte2 .kept .0, c .before .before .before .put-byte3 .ensures .place, c .before .before .before .put-byte3 .kept .0)
+
+put-byte-requires-5 : tie.Need-put-byte-requires-5
+put-byte-requires-5 c κs = omega (arith, c .before .before .before .before .before .before .before .before .before .before .before .before .before .before .before .before .before .before .pre, c .before .before .before .before .before .before .before .before .before .before .before .before .before .before .before .put-byte .ensures .place, c .before .before .before .before .before .before .before .before .before .before .before .before .before .before .before .put-byte .kept .0, c .before .before .before .before .before .before .before .before .before .before .before .put-byte2 .ensures .place, c .before .before .before .before .before .before .before .before .before .before .before .put-byte2 .kept .0, c .before .before .before .before .before .before .before .put-byte3 .ensures .place, c .before .before .before .before .before .before .before .put-byte3 .kept .0, c .before .before .before .put-byte4 .ensures .place, c .before .before .before .put-byte4 .kept .0)
+
+put-byte-requires-6 : tie.Need-put-byte-requires-6
+put-byte-requires-6 c κs = omega (arith, c .before .before .before .before .before .before .before .before .before .before .before .before .before .before .before .before .before .before .before .before .before .before .pre, c .before .before .before .before .before .before .before .before .before .before .before .before .before .before .before .before .before .before .before .put-byte .ensures .place, c .before .before .before .before .before .before .before .before .before .before .before .before .before .before .before .before .before .before .before .put-byte .kept .0, c .before .before .before .before .before .before .before .before .before .before .before .before .before .before .before .put-byte2 .ensures .place, c .before .before .before .before .before .before .before .before .before .before .before .before .before .before .before .put-byte2 .kept .0, c .before .before .before .before .before .before .before .before .before .before .before .put-byte3 .ensures .place, c .before .before .before .before .before .before .before .before .before .before .before .put-byte3 .kept .0, c .before .before .before .before .before .before .before .put-byte4 .ensures .place, c .before .before .before .before .before .before .before .put-byte4 .kept .0, c .before .before .before .put-byte5 .ensures .place, c .before .before .before .put-byte5 .kept .0)
+
+same-length : tie.Need-same-length
+same-length c = search needs
+
+returns : tie.Need-returns
+returns c = put-more (omega arith) (put-more (omega arith) (put-more (omega arith) (put-more (omega arith) (put-more (omega arith) (c .before .before .before .before .before .before .before .before .before .before .before .before .before .before .before .before .before .before .before .before .before .before .put-byte .ensures) (c .before .before .before .before .before .before .before .before .before .before .before .before .before .before .before .before .before .before .put-byte2 .ensures)) (c .before .before .before .before .before .before .before .before .before .before .before .before .before .before .put-byte3 .ensures)) (c .before .before .before .before .before .before .before .before .before .before .put-byte4 .ensures)) (c .before .before .before .before .before .before .put-byte5 .ensures)) (c .before .before .put-byte6 .ensures)
+
+pub put-name-spec : {M : Type 1} → statement M
+put-name-spec =
+    tie.close
+    (tie.spec
+    put-byte-requires
+    put-byte-requires-2
+    put-byte-requires-3
+    put-byte-requires-4
+    put-byte-requires-5
+    put-byte-requires-6
+    same-length
+    returns)

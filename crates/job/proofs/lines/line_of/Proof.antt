@@ -1,0 +1,41 @@
+-- `job::lines::line_of` meets its contract: the name ends at the first tab, and the numbers fit it or do not. Assumes nothing.
+use mathlib.Core.Path.{sym, _∙_}
+use borrow.Author.Needs.{needs}
+use lib.Seq.{length-take-le}
+use borrow.Author.Tests.{not-true, not-false}
+use Rattle.job.proofs.Shapes.{name-end, bad-line, good-line}
+use Rattle.job.proofs.lines.line_of.Statement.{statement}
+use Rattle.job.proofs.lines.line_of.Tie as tie
+
+next-at-requires : tie.Need-next-at-requires
+next-at-requires c κs = search needs
+
+numbers-requires : tie.Need-numbers-requires
+numbers-requires c κs = name-end (c .before .before .args .line .now) (c .next-at .result) (c .next-at .ensures)
+
+slice-aggregate-name : tie.Need-slice-aggregate-name
+slice-aggregate-name c = sym (length-take-le (c .before .before .before .next-at .result) (c .before .before .before .before .before .args .line .now) (name-end (c .before .before .before .before .before .args .line .now) (c .before .before .before .next-at .result) (c .before .before .before .next-at .ensures) .0))
+
+name-requires : tie.Need-name-requires
+name-requires c κs = search needs
+
+fits-requires : tie.Need-fits-requires
+fits-requires c κs = search needs
+
+returns : tie.Need-returns
+returns c = bad-line (c .before .before .before .before .before .before .before .before .args .line .now) (c .before .before .before .before .before .before .next-at .result) (c .before .before .before .before .before .before .next-at .ensures) (c .before .before .name .result) (c .before .before .before .before .before .before .before .before .args .next) (c .before .before .before .before .before .numbers .result) (c .before .before .name .ensures) (c .before .before .before .before .before .numbers .ensures) (sym (c .before .fits2 .ensures) ∙ not-true _ (c .if1 .taken))
+
+returns-2 : tie.Need-returns-2
+returns-2 c = good-line (c .before .before .before .before .before .before .before .before .args .line .now) (c .before .before .before .before .before .before .next-at .result) (c .before .before .before .before .before .before .next-at .ensures) (c .before .before .name .result) (c .before .before .before .before .before .before .before .before .args .next) (c .before .before .before .before .before .numbers .result) (c .before .before .name .ensures) (c .before .before .before .before .before .numbers .ensures) (sym (c .before .fits2 .ensures) ∙ not-false _ (c .if1 .left))
+
+pub line-of-spec : {M : Type 1} → statement M
+line-of-spec =
+    tie.close
+    (tie.spec
+    next-at-requires
+    numbers-requires
+    slice-aggregate-name
+    name-requires
+    fits-requires
+    returns
+    returns-2)

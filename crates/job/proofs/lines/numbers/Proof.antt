@@ -1,0 +1,119 @@
+-- `job::lines::numbers` meets its contract. The loop's invariant: the numbers so far and the fields from i on decide. Assumes nothing.
+use mathlib.Core.Path.{_≡_, refl, sym, _∙_, ap}
+use Prim.Native.Nat.{_-_, _≤_}
+use borrow.Author.Needs.{needs}
+use native.Mathlib.Omega.{arith}
+use lib.ListN.{length, drop}
+use Prim.Native.Nat.{_<_}
+use lib.ListN.{take, getD}
+use mathlib.Core.List.{tail}
+use Rattle.job.specs.Text.{parts, numbersOf}
+use Rattle.job.specs.Lines.{numbersHeld}
+use Rattle.job.proofs.Fields.{Filled, filled-none, filled-more, after, after-none, field-end, numbers-over, numbers-bad, numbers-on, numbers-end, filled-taken, numbers-held}
+use Rattle.job.specs.Held.{valueOf}
+use Rattle.job.proofs.lines.numbers.Statement.{statement}
+use Rattle.job.proofs.lines.numbers.Tie as tie
+
+abbrev Inv-loop : tie.InvT-loop
+Inv-loop line from at₀ count₀ i₀ at count i =
+    (count ≤ 8)
+    × (i ≤ length line)
+    × (i < length line → getD line i 0 ≡ 9)
+    × Filled at count
+    × (after (take count at) (numbersOf (8 - count) (tail (parts 9 (drop i line)))) ≡ numbersOf 8 (tail (parts 9 (drop from line))))
+
+abbrev μ-loop : tie.MeasureT-loop
+μ-loop line from at₀ count₀ i₀ at count i = length line - i
+
+loop-holds : tie.Need-loop-holds Inv-loop μ-loop
+loop-holds c = (omega arith, c .before .pre .0, c .before .pre .1, filled-none, after-none _)
+
+returns : tie.Need-returns Inv-loop μ-loop
+returns c = sym (ap numbersHeld (sym (c .before .before .loop .inv .4) ∙ numbers-over (c .before .before .before .before .args .line .now) (c .before .before .loop .i) (c .before .loop-test .taken) (c .before .before .loop .inv .2 (c .before .loop-test .taken)) _ (c .before .before .loop .count) _ refl (c .if1 .taken)))
+
+add-start : tie.Need-add-start Inv-loop μ-loop
+add-start c = search needs
+
+next-at-requires : tie.Need-next-at-requires Inv-loop μ-loop
+next-at-requires c κs = search needs
+
+sub-number : tie.Need-sub-number Inv-loop μ-loop
+sub-number c = let h : _ = field-end (c .before .before .before .before .before .args .line .now) (c .before .before .before .loop .i) (c .before .before .loop-test .taken) (c .before .before .before .loop .inv .2 (c .before .before .loop-test .taken)) (c .next-at .result) (c .next-at .ensures) in omega arith
+
+part-number-start : tie.Need-part-number-start Inv-loop μ-loop
+part-number-start c = let h : _ = field-end (c .before .before .before .before .before .args .line .now) (c .before .before .before .loop .i) (c .before .before .loop-test .taken) (c .before .before .before .loop .inv .2 (c .before .before .loop-test .taken)) (c .next-at .result) (c .next-at .ensures) in omega arith
+
+part-number-end : tie.Need-part-number-end Inv-loop μ-loop
+part-number-end c = let h : _ = field-end (c .before .before .before .before .before .args .line .now) (c .before .before .before .loop .i) (c .before .before .loop-test .taken) (c .before .before .before .loop .inv .2 (c .before .before .loop-test .taken)) (c .next-at .result) (c .next-at .ensures) in omega arith
+
+number-requires : tie.Need-number-requires Inv-loop μ-loop
+number-requires c κs = search needs
+
+enum-known-field : tie.Need-enum-known-field Inv-loop μ-loop
+enum-known-field c = search needs
+
+enum-told : tie.Need-enum-told Inv-loop μ-loop
+enum-told c = search needs
+
+returns-2 : tie.Need-returns-2 Inv-loop μ-loop
+returns-2 c =
+    sym (ap numbersHeld
+    (sym (c .before .before .before .before .before .before .before .loop .inv .4)
+    ∙ numbers-bad (c .before .before .before .before .before .before .before .before .before .args .line .now) (c .before .before .before .before .before .before .before .loop .i) (c .before .before .before .before .before .before .loop-test .taken) (c .before .before .before .before .before .before .before .loop .inv .2 (c .before .before .before .before .before .before .loop-test .taken)) _ (c .before .before .before .before .before .before .before .loop .count) (c .before .before .before .before .next-at .result) (c .before .before .before .before .next-at .ensures) (c .before .before .before .before .before .if1 .left) (sym (ap valueOf (c .enum-told .given .1)) ∙ c .before .before .number .ensures)))
+
+cast-at : tie.Need-cast-at Inv-loop μ-loop
+cast-at c = search needs
+
+mul-at : tie.Need-mul-at Inv-loop μ-loop
+mul-at c = search needs
+
+array-write-at : tie.Need-array-write-at Inv-loop μ-loop
+array-write-at c = search needs
+
+add-count : tie.Need-add-count Inv-loop μ-loop
+add-count c = search needs
+
+loop-less : tie.Need-loop-less Inv-loop μ-loop
+loop-less c = let h : _ = field-end (c .before .before .before .before .before .before .before .before .before .before .args .line .now) (c .before .before .before .before .before .before .before .before .loop .i) (c .before .before .before .before .before .before .before .loop-test .taken) (c .before .before .before .before .before .before .before .before .loop .inv .2 (c .before .before .before .before .before .before .before .loop-test .taken)) (c .before .before .before .before .before .next-at .result) (c .before .before .before .before .before .next-at .ensures) in omega arith
+
+loop-again : tie.Need-loop-again Inv-loop μ-loop
+loop-again c =
+    let h : _ = field-end (c .before .before .before .before .before .before .before .before .before .before .args .line .now) (c .before .before .before .before .before .before .before .before .loop .i) (c .before .before .before .before .before .before .before .loop-test .taken) (c .before .before .before .before .before .before .before .before .loop .inv .2 (c .before .before .before .before .before .before .before .loop-test .taken)) (c .before .before .before .before .before .next-at .result) (c .before .before .before .before .before .next-at .ensures) in (
+      omega arith,
+      h .1,
+      h .2,
+      filled-more (c .before .before .before .before .before .before .before .before .loop .at) (c .before .before .before .before .before .before .before .before .loop .count) (c .before .before .before .before .before .before .before .before .loop .inv .3) (c .before .field .given .0 .0) (c .before .before .before .before .before .before .if1 .left),
+      rw (filled-taken (c .before .before .before .before .before .before .before .before .loop .at) (c .before .before .before .before .before .before .before .before .loop .count) (c .before .before .before .before .before .before .before .before .loop .inv .3) (c .before .field .given .0 .0) (c .before .before .before .before .before .before .if1 .left))
+          (numbers-on (c .before .before .before .before .before .before .before .before .before .before .args .line .now) (c .before .before .before .before .before .before .before .before .loop .i) (c .before .before .before .before .before .before .before .loop-test .taken) (c .before .before .before .before .before .before .before .before .loop .inv .2 (c .before .before .before .before .before .before .before .loop-test .taken)) (take (c .before .before .before .before .before .before .before .before .loop .count) (c .before .before .before .before .before .before .before .before .loop .at)) (c .before .before .before .before .before .before .before .before .loop .count) (c .before .before .before .before .before .next-at .result) (c .before .before .before .before .before .next-at .ensures) (c .before .before .before .before .before .before .if1 .left) (c .before .field .given .0 .0) (sym (ap valueOf (c .before .field .given .1)) ∙ c .before .before .before .number .ensures)
+          ∙ c .before .before .before .before .before .before .before .before .loop .inv .4),
+    )
+
+returns-3 : tie.Need-returns-3 Inv-loop μ-loop
+returns-3 c =
+    let w : _ = sym (c .before .loop .inv .4) ∙ numbers-end (c .before .before .before .args .line .now) (c .before .loop .i) _ (take (c .before .loop .count) (c .before .loop .at)) (c .loop-test .left) in
+    numbers-held (c .before .loop .at) (c .before .loop .count) (c .before .loop .inv .3) (c .before .loop .inv .0) ∙ sym (ap numbersHeld w)
+
+pub numbers-spec : {M : Type 1} → statement M
+numbers-spec =
+    tie.close
+    (tie.spec
+    Inv-loop
+    μ-loop
+    loop-holds
+    returns
+    add-start
+    next-at-requires
+    sub-number
+    part-number-start
+    part-number-end
+    number-requires
+    enum-known-field
+    enum-told
+    returns-2
+    cast-at
+    mul-at
+    array-write-at
+    add-count
+    loop-less
+    loop-again
+    returns-3)

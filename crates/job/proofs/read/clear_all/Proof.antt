@@ -1,0 +1,43 @@
+-- `job::read::clear_all` meets its contract. Assumes nothing.
+use mathlib.Core.Path.{_∙_}
+use borrow.Author.Needs.{needs}
+use Rattle.job.proofs.Readings.{cleared-zeros}
+use Rattle.job.proofs.read.clear_all.Statement.{statement}
+use Rattle.job.proofs.read.clear_all.Tie as tie
+
+clear-from-requires : tie.Need-clear-from-requires
+clear-from-requires c κs = search needs
+
+clear-from-requires-2 : tie.Need-clear-from-requires-2
+clear-from-requires-2 c κs = search needs
+
+clear-from-requires-3 : tie.Need-clear-from-requires-3
+clear-from-requires-3 c κs = search needs
+
+same-length : tie.Need-same-length
+same-length c = search needs
+
+same-length-2 : tie.Need-same-length-2
+same-length-2 c = search needs
+
+same-length-3 : tie.Need-same-length-3
+same-length-3 c = search needs
+
+returns : tie.Need-returns
+returns c = (
+  c .before .before .before .before .before .before .before .before .before .before .clear-from .ensures ∙ cleared-zeros (c .before .before .before .before .before .before .before .before .before .before .before .before .before .before .before .args .table .now) 4096 (c .before .before .before .before .before .before .before .before .before .before .before .before .before .before .before .pre .0),
+  c .before .before .before .before .before .before .clear-from2 .ensures ∙ cleared-zeros (c .before .before .before .before .before .before .before .before .before .before .before .before .before .before .before .args .store .now) 8192 (c .before .before .before .before .before .before .before .before .before .before .before .before .before .before .before .pre .1),
+  c .before .before .clear-from3 .ensures ∙ cleared-zeros (c .before .before .before .before .before .before .before .before .before .before .before .before .before .before .before .args .bindings .now) 32 (c .before .before .before .before .before .before .before .before .before .before .before .before .before .before .before .pre .2),
+)
+
+pub clear-all-spec : {M : Type 1} → statement M
+clear-all-spec =
+    tie.close
+    (tie.spec
+    clear-from-requires
+    clear-from-requires-2
+    clear-from-requires-3
+    same-length
+    same-length-2
+    same-length-3
+    returns)

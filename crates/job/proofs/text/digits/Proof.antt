@@ -1,0 +1,75 @@
+-- `job::text::digits` meets its contract. The loop's invariant: the number so far and the digits from i on decide. Assumes nothing.
+use mathlib.Core.Path.{_≡_, refl, sym, _∙_}
+use Prim.Native.Nat.{_-_, _≤_}
+use borrow.Author.Needs.{needs}
+use native.Mathlib.Omega.{arith}
+use lib.ListN.{length, drop}
+use Rattle.job.specs.Text.{valued}
+use Rattle.job.proofs.Parts.{valued-low, valued-high, valued-over, valued-on, valued-end}
+use Rattle.job.proofs.text.digits.Statement.{statement}
+use Rattle.job.proofs.text.digits.Tie as tie
+
+abbrev Inv-loop : tie.InvT-loop
+Inv-loop field value₀ i₀ value i = (i ≤ length field) × (value ≤ 4294967295) × (valued value (drop i field) ≡ valued 0 field)
+
+abbrev μ-loop : tie.MeasureT-loop
+μ-loop field value₀ i₀ value i = length field - i
+
+loop-holds : tie.Need-loop-holds Inv-loop μ-loop
+loop-holds c = (omega arith, omega arith, refl)
+
+shared-slice-read-b : tie.Need-shared-slice-read-b Inv-loop μ-loop
+shared-slice-read-b c = search needs
+
+returns : tie.Need-returns Inv-loop μ-loop
+returns c = sym (valued-low (c .before .before .before .before .args .field .now) (c .before .before .before .loop .i) (c .before .before .before .loop .value) (c .before .before .loop-test .taken) (c .if1 .taken)) ∙ c .before .before .before .loop .inv .2
+
+returns-2 : tie.Need-returns-2 Inv-loop μ-loop
+returns-2 c = sym (valued-high (c .before .before .before .before .before .args .field .now) (c .before .before .before .before .loop .i) (c .before .before .before .before .loop .value) (c .before .before .before .loop-test .taken) (c .before .if1 .left) (c .if2 .taken)) ∙ c .before .before .before .before .loop .inv .2
+
+mul-value : tie.Need-mul-value Inv-loop μ-loop
+mul-value c = search needs
+
+cast-value : tie.Need-cast-value Inv-loop μ-loop
+cast-value c = search needs
+
+add-value : tie.Need-add-value Inv-loop μ-loop
+add-value c = search needs
+
+returns-3 : tie.Need-returns-3 Inv-loop μ-loop
+returns-3 c = sym (valued-over (c .before .before .before .before .before .before .args .field .now) (c .before .before .before .before .before .loop .i) (c .before .before .before .before .before .loop .value) (c .before .before .before .before .loop-test .taken) (c .before .before .if1 .left) (c .before .if2 .left) (c .if3 .taken)) ∙ c .before .before .before .before .before .loop .inv .2
+
+add-i : tie.Need-add-i Inv-loop μ-loop
+add-i c = search needs
+
+loop-less : tie.Need-loop-less Inv-loop μ-loop
+loop-less c = search needs
+
+loop-again : tie.Need-loop-again Inv-loop μ-loop
+loop-again c = (omega arith, c .if3 .left, sym (valued-on (c .before .before .before .before .before .before .args .field .now) (c .before .before .before .before .before .loop .i) (c .before .before .before .before .before .loop .value) (c .before .before .before .before .loop-test .taken) (c .before .before .if1 .left) (c .before .if2 .left) (c .if3 .left)) ∙ c .before .before .before .before .before .loop .inv .2)
+
+cast-t11 : tie.Need-cast-t11 Inv-loop μ-loop
+cast-t11 c = search needs
+
+returns-4 : tie.Need-returns-4 Inv-loop μ-loop
+returns-4 c = sym (valued-end (c .before .before .args .field .now) (c .before .loop .i) (c .before .loop .value) (c .loop-test .left)) ∙ c .before .loop .inv .2
+
+pub digits-spec : {M : Type 1} → statement M
+digits-spec =
+    tie.close
+    (tie.spec
+    Inv-loop
+    μ-loop
+    loop-holds
+    shared-slice-read-b
+    returns
+    returns-2
+    mul-value
+    cast-value
+    add-value
+    returns-3
+    add-i
+    loop-less
+    loop-again
+    cast-t11
+    returns-4)

@@ -1,0 +1,71 @@
+-- `job::write::put_fields` meets its contract. The loop's invariant: the first i numbers are put. Assumes nothing.
+use mathlib.Core.Path.{_≡_, refl, _∙_}
+use Prim.Native.Nat.{_-_, _≤_}
+use borrow.Author.Needs.{needs}
+use native.Mathlib.Omega.{arith}
+use lib.ListN.{length}
+use Prim.Native.Nat.{ℕ}
+use mathlib.Core.Path.{subst}
+use lib.ListN.{take}
+use Rattle.job.specs.Written.{numbersText}
+use Rattle.job.specs.Answer.{Put}
+use Rattle.job.proofs.Put.{put-none, fields-more, length-fields}
+use Rattle.job.proofs.write.put_fields.Statement.{statement}
+use Rattle.job.proofs.write.put_fields.Tie as tie
+
+abbrev Inv-loop : tie.InvT-loop
+Inv-loop buf₀ start n numbers at₀ i₀ buf at i = (i ≤ n) × (length numbers ≡ 8) × (length buf ≡ length buf₀) × Put buf₀ start (numbersText (take i numbers)) buf at
+
+abbrev μ-loop : tie.MeasureT-loop
+μ-loop buf₀ start n numbers at₀ i₀ buf at i = n - i
+
+loop-holds : tie.Need-loop-holds Inv-loop μ-loop
+unfolding numbersText
+loop-holds c = (omega arith, search needs, refl, put-none (c .before .args .buf .now) (c .before .args .start))
+
+mul-put-field : tie.Need-mul-put-field Inv-loop μ-loop
+mul-put-field c = search needs
+
+array-read-put-field : tie.Need-array-read-put-field Inv-loop μ-loop
+array-read-put-field c = search needs
+
+put-field-requires : tie.Need-put-field-requires Inv-loop μ-loop
+put-field-requires c κs = omega (arith, c .before .before .before .before .pre .1, c .before .before .loop .inv .2, c .before .before .loop .inv .3 .place, length-fields (c .before .before .before .before .args .t4) (c .before .before .loop .i), c .before .loop-test .taken)
+
+add-i : tie.Need-add-i Inv-loop μ-loop
+add-i c = search needs
+
+loop-less : tie.Need-loop-less Inv-loop μ-loop
+loop-less c = search needs
+
+loop-again : tie.Need-loop-again Inv-loop μ-loop
+loop-again c = (
+  omega arith,
+  c .before .before .before .before .before .loop .inv .1,
+  c .before .before .put-field .kept .0 ∙ c .before .before .before .before .before .loop .inv .2,
+  fields-more (c .before .before .before .before .before .before .before .args .t4) (c .before .before .before .before .before .loop .i) (omega (arith, c .before .before .before .before .before .before .before .pre .0, c .before .before .before .before .before .loop .inv .1)) (omega (arith, c .before .before .before .before .before .before .before .pre .1, length-fields (c .before .before .before .before .before .before .before .args .t4) (c .before .before .before .before .before .loop .i))) (c .before .before .before .before .before .loop .inv .3) (c .before .before .put-field .ensures),
+)
+
+same-length : tie.Need-same-length Inv-loop μ-loop
+same-length c = search needs
+
+returns : tie.Need-returns Inv-loop μ-loop
+returns c =
+    let e : c .before .loop .i ≡ c .before .before .before .args .n = omega arith in
+    subst (λ (j : ℕ). Put (c .before .before .before .args .buf .now) (c .before .before .before .args .start) (numbersText (take j (c .before .before .before .args .t4))) (c .before .loop .buf) (c .before .loop .at)) e (c .before .loop .inv .3)
+
+pub put-fields-spec : {M : Type 1} → statement M
+put-fields-spec =
+    tie.close
+    (tie.spec
+    Inv-loop
+    μ-loop
+    loop-holds
+    mul-put-field
+    array-read-put-field
+    put-field-requires
+    add-i
+    loop-less
+    loop-again
+    same-length
+    returns)
