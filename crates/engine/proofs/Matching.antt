@@ -2,11 +2,12 @@
 use mathlib.Core.Path.{_≡_, refl, ap, sym, _∙_}
 use mathlib.Core.Bool.{Bool, true, false}
 use mathlib.Core.Option.{none, some}
-use mathlib.Core.Logic.{⊎-elim}
+use mathlib.Core.Logic.{⊎-elim, inr}
 use mathlib.Core.List.{List, [], _∷_, _++_}
 use Prim.Native.Nat.{ℕ, _+_, _-_, _*_, _%_, _^_, _≤_, _<_}
 use native.Mathlib.Omega.{arith}
-use lib.Dec.{lit<}
+use lib.Dec.{lit<, eqb}
+use borrow.Author.Tests.{eqb-true, eqb-false}
 use lib.ListN.{length, getD, set, drop}
 use lib.Seq.{getD-set-other}
 use lib.Bits.{bitOr}
@@ -21,10 +22,10 @@ use Rattle.meaning.specs.Limits.{units, nesting, ended, lost, runPlan}
 use Rattle.meaning.specs.Store.{on, Ran, children}
 use Rattle.engine.specs.declared.answers.Answer.{Answer}
 use Rattle.engine.specs.declared.answers.Answer.the-variants.{Done, Failed, Cut}
-use Rattle.engine.specs.Answers.{toldOf, packed, nodeIn, unitsIn, failedWord, unitsWord, nestingWord}
+use Rattle.engine.specs.Answers.{toldOf, packed, nodeIn, unitsIn, failedWord, unitsWord, nestingWord, stoppedWord}
 use Rattle.engine.specs.Record.{markOf, maskOf, bitOf, held, bound, Framed}
 use Rattle.engine.specs.Visits.{countOf, agreeing, visit, plan, meaning, out, giving, kept, Pattern, Entries, Ready, Gives, Fitting}
-use Rattle.engine.proofs.Telling.{out-done, out-failed, out-told, kept-done, kept-failed, kept-units, kept-nesting, kept-told, node-packed, units-packed, packed-again, done-node}
+use Rattle.engine.proofs.Telling.{stopped-units, stopped-nesting, told-stopped, out-done, out-failed, out-told, kept-done, kept-failed, kept-units, kept-nesting, kept-told, node-packed, units-packed, packed-again, done-node}
 use Rattle.engine.proofs.Asking.{Tagged, last}
 use Rattle.engine.proofs.Kind.{counted, no-units, no-nesting, pattern-variable, pattern-con}
 use Rattle.engine.proofs.Keeping.{node-small}
@@ -162,6 +163,13 @@ module _ {t w : List ℕ} {n p g : ℕ} {b st : List ℕ} {u i q x : ℕ} (c : T
       ∙ kept-nesting w w (nodeIn g) (held st) m u (c .few)
       ∙ sym (walk-cut t n w m u (before m) (held st) _ (match q x) rest u w nesting (no-nesting t n _ w m u z d)))
 
+  fits-stopped : {r : ℕ} → r ≡ stoppedWord u → n ≡ 0 → Fitting t w n p g b r st
+  fits-stopped {r} e d = go (eqb u 0) refl
+    where
+      go : (a : Bool) → eqb u 0 ≡ a → Fitting t w n p g b r st
+      go true h = let z : u ≡ 0 = eqb-true u 0 h in fits-units (e ∙ stopped-units u z) z
+      go false h = let z : u ≡ 0 → ⊥ = eqb-false u 0 h in fits-nesting (e ∙ stopped-nesting u z) z d
+
   module _ (z : u ≡ 0 → ⊥) (d : n ≡ 0 → ⊥) where
     less : u - 1 < 4294967296
     less = let l : u < 4294967296 = c .few in omega arith
@@ -243,6 +251,38 @@ module _ {t w : List ℕ} {n p g : ℕ} {b st : List ℕ} {u i q x : ℕ} (c : T
 
             pub inner-stops : Tagged a 1 2 → Fitting t w n p g b r st′
             inner-stops j = stopped r st′ (f .frame) (f .mark) fitted a told j
+
+-- with no nesting left no child is visited
+nothing-fits : (t w : List ℕ) (n p g : ℕ) (b : List ℕ) → Entries t → p < 4096 → kindOf t p ≡ 19 → agreeing t w p (nodeIn g) ≡ true → (operandCount t p ≡ 0 → ⊥) → n ≡ 0 → {r : ℕ} → r ≡ stoppedWord (unitsIn g) → Fitting t w n p g b r b
+nothing-fits t w n p g b en inside kind agreed o d e =
+    fits-stopped
+    {q = wordAt t p 2}
+    {x = wordAt w (nodeIn g) 2}
+    (record {
+      so-far = matched-none t w n p g b;
+      entries = en;
+      inside = inside;
+      kind = kind;
+      agreed = agreed;
+      below = omega (arith, o);
+      operand = refl;
+      child = refl;
+      few = omega arith;
+    })
+    e
+    d
+
+-- so that an operand with children of its own stops the walk
+pub inner-stopped : {t w : List ℕ} {n p g : ℕ} {b st : List ℕ} {u i q x : ℕ} (c : Turn t w n p g b st u i q x) → (u ≡ 0 → ⊥) → kindOf t q ≡ 19 → agreeing t w q x ≡ true → (operandCount t q ≡ 0 → ⊥) → n ≡ 1 → {r : ℕ} → r ≡ stoppedWord (u - 1) → Fitting t w n p g b r st
+inner-stopped {t} {w} {n} {p} {g} {b} {st} {u} {i} {q} {x} c z kind e o d {r} f =
+    let l : u - 1 < 4294967296 = omega (arith, c .few) in
+    let x-is : nodeIn (packed x (u - 1)) ≡ x = node-packed x (u - 1) l in
+    let u-is : unitsIn (packed x (u - 1)) ≡ u - 1 = units-packed x (u - 1) l in
+    inner-stops c z (λ a. omega arith) kind e refl r st
+    (nothing-fits t w (n - 1) q (packed x (u - 1)) st (c .entries) (operand-is c .0) kind (ap (λ x. agreeing t w q x) x-is ∙ e) o (omega arith) (f ∙ ap (λ u. stoppedWord u) (sym u-is)))
+    (Cut r)
+    (sym (ap (λ r. toldOf r) f ∙ told-stopped (u - 1) l ∙ ap (λ r. Cut r) (sym f)))
+    (inr refl)
 
 -- an answer's word, told as a: with any record where it is no success
 out-kept : (st w : List ℕ) (r x : ℕ) (b : Bindings ℕ) (m : ℕ) (a : Answer) → a ≡ toldOf r → Tagged a 1 2 → out r st w ≡ kept r x b w m
@@ -358,3 +398,12 @@ module _ {t w st : List ℕ} {p g : ℕ} (c : Ready t w st p g) (n : ℕ) where
           root-fits y k r′ h s =
               ended-root r′ k st′ s (omega (arith, done-node r y k (sym told ∙ h))) (f .mark) (f .frame)
               (sym root-fitted ∙ kept-is w r (nodeIn g) (held st′) (markOf st) a told y k h)
+
+        -- no nesting is left for them
+        pub root-stopped : (operandCount t p ≡ 0 → ⊥) → n ≡ 1 → {r : ℕ} → r ≡ stoppedWord (unitsIn g - 1) → Gives root st r st w
+        root-stopped o k {r} f =
+            root-stops r st
+            (nothing-fits t w (n - 1) p (g - 1) st (c .entries) (c .inside) kind root-handed o (omega arith) (f ∙ ap (λ u. stoppedWord u) (sym units-less)))
+            (Cut r)
+            (sym (ap (λ r. toldOf r) f ∙ told-stopped (unitsIn g - 1) (omega arith) ∙ ap (λ r. Cut r) (sym f)))
+            (inr refl)

@@ -6,7 +6,7 @@ use mathlib.Core.Logic.{_⊎_, ⊎-elim}
 use Prim.Native.Nat.{ℕ, _+_, _*_, _/_, _%_, _<_, _≤_}
 use native.Mathlib.Omega.{arith}
 use lib.Dec.{eqb, ltb}
-use borrow.Author.Tests.{ne-eqb, lt-ltb, le-ltb, ltb-true}
+use borrow.Author.Tests.{ne-eqb, eqb-true, eqb-false, lt-ltb, le-ltb, ltb-true}
 use denote.Enum.Declared.{tagOf}
 use Rattle.words.specs.Tests.{if_then_else_}
 use Rattle.meaning.specs.Bindings.{Bindings}
@@ -17,7 +17,7 @@ use Rattle.engine.specs.declared.answers.Answer.{Answer}
 use Rattle.engine.specs.declared.answers.Answer.the-variants.{Done, Failed, Cut}
 use Rattle.engine.specs.declared.answers.Heard.{Heard}
 use Rattle.engine.specs.declared.answers.Heard.the-variants.{Ended, Cut as Off}
-use Rattle.engine.specs.Answers.{packed, nodeIn, unitsIn, failedWord, unitsWord, roomWord, nestingWord, toldOf, heardOf}
+use Rattle.engine.specs.Answers.{packed, nodeIn, unitsIn, failedWord, unitsWord, roomWord, nestingWord, stoppedWord, toldOf, heardOf}
 use Rattle.engine.specs.Record.{markOf, held}
 use Rattle.engine.specs.Visits.{limitOf, meaning, out, giving, kept}
 
@@ -46,6 +46,22 @@ told-failed u l =
 told-cut : (c : ℕ) → 4294967292 ≤ nodeIn c → (nodeIn c ≡ 4294967295 → ⊥) → toldOf c ≡ Cut c
 unfolding toldOf
 told-cut c h n = rw (ne-eqb (nodeIn c) 4294967295 n, le-ltb (nodeIn c) 4294967292 h)
+
+-- no nesting is left: the units' word where none are left, else the nesting's; a cut-off in both cases
+pub stopped-units : (u : ℕ) → u ≡ 0 → stoppedWord u ≡ unitsWord
+unfolding stoppedWord
+stopped-units u z = rw z
+
+pub stopped-nesting : (u : ℕ) → (u ≡ 0 → ⊥) → stoppedWord u ≡ nestingWord u
+unfolding stoppedWord
+stopped-nesting u z = rw (ne-eqb u 0 z)
+
+pub told-stopped : (u : ℕ) → u < 4294967296 → toldOf (stoppedWord u) ≡ Cut (stoppedWord u)
+told-stopped u l = go (eqb u 0) refl
+  where
+    go : (b : Bool) → eqb u 0 ≡ b → toldOf (stoppedWord u) ≡ Cut (stoppedWord u)
+    go true h = rw (stopped-units u (eqb-true u 0 h)) (told-cut unitsWord (omega arith) (λ e. omega arith))
+    go false h = rw (stopped-nesting u (eqb-false u 0 h)) (told-cut (nestingWord u) (omega arith) (λ e. omega arith))
 
 -- what an answer's word says with record and store
 module _ (st w : List ℕ) where

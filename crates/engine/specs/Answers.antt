@@ -31,6 +31,10 @@ roomWord u = 18446744060824649728 + u
 abbrev pub nestingWord : ℕ → ℕ
 nestingWord u = 18446744056529682432 + u
 
+-- the word of a visit for which no nesting is left: units are tested first
+unfoldable pub stoppedWord : ℕ → ℕ
+stoppedWord u = if eqb u 0 then unitsWord else nestingWord u
+
 -- the word told
 unfoldable pub toldOf : ℕ → Answer
 toldOf r =

@@ -1,7 +1,7 @@
 // The answer of a visit in one word: node × 2³² + units left. The four highest node numbers, which no store has, stand
 // for failed, units, room and nesting. A word crosses a call in one register, and is told as an enum on the spot.
 ghost use mathlib.Core.Path.{_≡_};
-ghost use Rattle.engine.specs.Answers.{packed, failedWord, unitsWord, roomWord, nestingWord, toldOf, heardOf};
+ghost use Rattle.engine.specs.Answers.{packed, failedWord, unitsWord, roomWord, nestingWord, stoppedWord, toldOf, heardOf};
 
 // A visit's answer: the node and the units left, or the units left, or the word of a cut-off.
 pub enum Answer {
@@ -69,4 +69,14 @@ pub fn no_nesting(left: u32) -> u64
     ensures { λ r. ⌜ r ≡ nestingWord left ⌝ }
 {
     18446744056529682432 + left as u64
+}
+
+// What stops a visit for which no nesting is left: the units, which are tested first, where none of them are left either.
+pub fn stopped(left: u32) -> u64
+    ensures { λ r. ⌜ r ≡ stoppedWord left ⌝ }
+{
+    if left == 0 {
+        return no_units();
+    }
+    no_nesting(left)
 }

@@ -5,6 +5,7 @@ use crate::answers::done;
 use crate::answers::failure;
 use crate::answers::no_nesting;
 use crate::answers::no_units;
+use crate::answers::stopped;
 use crate::answers::told;
 use crate::compare::same;
 use crate::reading::agree;
@@ -29,9 +30,10 @@ pub struct Fitted {
     pub binds: Bindings,
 }
 
-// A PCON whose constructor and count agree with the node's, after its own visit: child by child.
+// A PCON whose constructor and count agree with the node's, after its own visit: child by child. Some nesting is left for
+// the children, so that the loop does not test it; its caller does.
 pub fn fits(table: &[u32; 32768], store: &[u32], p: u32, s: u64, b: Bindings, deep: u32) -> Fitted
-    requires { ⌜ Entries (now table) × (p < 4096) × (kindOf (now table) p ≡ 19) × (agreeing (now table) (now store) p (nodeIn s) ≡ true) ⌝ }
+    requires { ⌜ Entries (now table) × (p < 4096) × (kindOf (now table) p ≡ 19) × (agreeing (now table) (now store) p (nodeIn s) ≡ true) × (0 < deep) ⌝ }
     ensures { λ r. ⌜ Fitting (now (table .entry)) (now (store .entry)) deep p s (b .words) (r .got) (r .binds .words) ⌝ }
 {
     let t = (s / 4294967296) as u32;
@@ -48,12 +50,6 @@ pub fn fits(table: &[u32; 32768], store: &[u32], p: u32, s: u64, b: Bindings, de
                 binds: Bindings { words },
             };
         }
-        if deep == 0 {
-            return Fitted {
-                got: no_nesting(u),
-                binds: Bindings { words },
-            };
-        }
         u -= 1;
         if kind(table, q) == 18 {
             let v = entry(table, q, 1);
@@ -67,8 +63,8 @@ pub fn fits(table: &[u32; 32768], store: &[u32], p: u32, s: u64, b: Bindings, de
                 };
                 u = left;
             } else {
-                let set = bind(Bindings { words }, v, c);
-                words = set.words;
+                words[v as usize] = c;
+                words[33] = words[33] | (1 << v);
             }
         } else {
             if !agree(table, store, q, c) {
@@ -78,6 +74,12 @@ pub fn fits(table: &[u32; 32768], store: &[u32], p: u32, s: u64, b: Bindings, de
                 };
             }
             if operands(table, q) != 0 {
+                if deep == 1 {
+                    return Fitted {
+                        got: stopped(u),
+                        binds: Bindings { words },
+                    };
+                }
                 let f = fits(table, store, q, done(c, u), Bindings { words }, deep - 1);
                 let got = f.got;
                 let Answer::Done(_, left) = told(got) else {
@@ -125,8 +127,9 @@ pub fn matching(
             };
             return done(t, u);
         }
-        st[v as usize] = t;
-        st[33] = st[33] | (1 << v);
+        let set = bind(Bindings { words: *st }, v, t);
+        let w = set.words;
+        *st = w;
         return s - 1;
     }
     if !agree(table, store, p, t) {
@@ -134,6 +137,9 @@ pub fn matching(
     }
     if operands(table, p) == 0 {
         return s - 1;
+    }
+    if deep == 1 {
+        return stopped(left - 1);
     }
     let f = fits(table, store, p, s - 1, Bindings { words: *st }, deep - 1);
     let got = f.got;

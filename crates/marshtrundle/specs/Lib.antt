@@ -3,4 +3,5 @@
 pub mod Refused
 pub mod Loaded
 pub mod Run
+pub mod Exported
 pub mod Promises

@@ -1,4 +1,5 @@
 // What the linker links is `run`, in running: it has no `requires` and refuses by number. The other modules are its parts.
+pub mod exported;
 pub mod loading;
 pub mod refusals;
 pub mod running;

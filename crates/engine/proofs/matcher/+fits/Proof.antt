@@ -11,7 +11,7 @@ use Rattle.checks.specs.Good.{kindOf, operandCount}
 use Rattle.engine.specs.Record.{held}
 use Rattle.engine.specs.Visits.{agreeing}
 use Rattle.engine.proofs.Telling.{done-node}
-use Rattle.engine.proofs.Matching.{Matched, Turn, matched-none, matched-at, matched-all, operand-is, variable-small, constructor-is, fits-units, fits-nesting, free-matched, bound-matched, bound-stops, other, leaf-matched, handed, inner-matched, inner-stops}
+use Rattle.engine.proofs.Matching.{Matched, set-bound, Turn, matched-none, matched-at, matched-all, operand-is, variable-small, constructor-is, fits-units, inner-stopped, free-matched, bound-matched, bound-stops, other, leaf-matched, handed, inner-matched, inner-stops}
 use Prim.Native.Nat.{ℕ, _+_, _-_, _<_, _≤_}
 use borrow.Fn.Kinds.{In}
 use borrow.Fn.PlainCycle.{Measures, is, falls, and}
@@ -20,7 +20,7 @@ use Rattle.engine.proofs.matcher.fits.Kinds as fits-kinds
 use Rattle.engine.proofs.matcher.+fits.Lts-fits as fits-lts
 use Rattle.engine.proofs.answers.done.Reads as done-reads
 use Rattle.engine.proofs.answers.failure.Reads as failure-reads
-use Rattle.engine.proofs.answers.no_nesting.Reads as no-nesting-reads
+use Rattle.engine.proofs.answers.stopped.Reads as stopped-reads
 use Rattle.engine.proofs.answers.no_units.Reads as no-units-reads
 use Rattle.engine.proofs.answers.told.Reads as told-reads
 use Rattle.engine.proofs.compare.same.Reads as same-reads
@@ -28,7 +28,6 @@ use Rattle.engine.proofs.reading.agree.Reads as agree-reads
 use Rattle.engine.proofs.reading.entry.Reads as entry-reads
 use Rattle.engine.proofs.reading.kind.Reads as kind-reads
 use Rattle.engine.proofs.reading.operands.Reads as operands-reads
-use Rattle.engine.proofs.record.bind.Reads as bind-reads
 use Rattle.engine.proofs.record.bit.Reads as bit-reads
 use Rattle.words.proofs.word.Reads as word-reads
 use Rattle.engine.proofs.matcher.+fits.{statement}
@@ -44,7 +43,7 @@ abbrev fits-below : ℕ → In 2 fits-kinds.ps
 fits-below t = and 2 fits-kinds.ps (falls 2 fits-kinds.ps _<_ μ-fits t) fits.Pre
 
 abbrev fits-calls : ℕ → fits-lts.Claims
-fits-calls t = (operands-reads.Asked, operands-reads.Learnt, entry-reads.Asked, entry-reads.Learnt, word-reads.Asked, word-reads.Learnt, no-units-reads.Asked, no-units-reads.Learnt, no-nesting-reads.Asked, no-nesting-reads.Learnt, kind-reads.Asked, kind-reads.Learnt, bit-reads.Asked, bit-reads.Learnt, same-reads.Asked, same-reads.Learnt, told-reads.Asked, told-reads.Learnt, bind-reads.Asked, bind-reads.Learnt, agree-reads.Asked, agree-reads.Learnt, failure-reads.Asked, failure-reads.Learnt, done-reads.Asked, done-reads.Learnt, fits-below t, fits.Post)
+fits-calls t = (operands-reads.Asked, operands-reads.Learnt, entry-reads.Asked, entry-reads.Learnt, word-reads.Asked, word-reads.Learnt, no-units-reads.Asked, no-units-reads.Learnt, kind-reads.Asked, kind-reads.Learnt, bit-reads.Asked, bit-reads.Learnt, same-reads.Asked, same-reads.Learnt, told-reads.Asked, told-reads.Learnt, agree-reads.Asked, agree-reads.Learnt, failure-reads.Asked, failure-reads.Learnt, stopped-reads.Asked, stopped-reads.Learnt, done-reads.Asked, done-reads.Learnt, fits-below t, fits.Post)
 
 abbrev fits-Inv-loop : fits-lts.InvT-loop
 fits-Inv-loop table store p s deep t u₀ words₀ n i₀ u words i =
@@ -70,37 +69,42 @@ turn t c =
       few = i .2;
     }
 
+-- some nesting is left
+levels : (t : ℕ) (c : fits-lts.After-word (fits-calls t) (fits-at t) fits.Post fits-Inv-loop fits-μ-loop) → c .before .before .before .before .before .before .before .args .deep ≡ 0 → ⊥
+levels t c e = omega (arith, c .before .before .before .before .before .before .before .pre .1 .4)
+
 -- the operand is a variable, or a constructor that agrees with the child's
-is-variable : (t : ℕ) (c : fits-lts.Then3 (fits-calls t) (fits-at t) fits.Post fits-Inv-loop fits-μ-loop) → kindOf (c .before .before .before .before .before .before .before .before .before .before .before .args .table .now) (c .before .before .before .before .before .entry .result) ≡ 18
-is-variable t c = sym (c .before .kind .ensures) ∙ c .if3 .taken
+is-variable : (t : ℕ) (c : fits-lts.Then2 (fits-calls t) (fits-at t) fits.Post fits-Inv-loop fits-μ-loop) → kindOf (c .before .before .before .before .before .before .before .before .before .before .args .table .now) (c .before .before .before .before .entry .result) ≡ 18
+is-variable t c = sym (c .before .kind .ensures) ∙ c .if2 .taken
 
-is-constructor : (t : ℕ) (c : fits-lts.Else3 (fits-calls t) (fits-at t) fits.Post fits-Inv-loop fits-μ-loop) → kindOf (c .before .before .before .before .before .before .before .before .before .before .before .args .table .now) (c .before .before .before .before .before .entry .result) ≡ 19
-is-constructor t c = constructor-is (turn t (c .before .before .before .before)) (c .before .kind .ensures) (c .if3 .left)
+is-constructor : (t : ℕ) (c : fits-lts.Else2 (fits-calls t) (fits-at t) fits.Post fits-Inv-loop fits-μ-loop) → kindOf (c .before .before .before .before .before .before .before .before .before .before .args .table .now) (c .before .before .before .before .entry .result) ≡ 19
+is-constructor t c = constructor-is (turn t (c .before .before .before)) (c .before .kind .ensures) (c .if2 .left)
 
-agrees : (t : ℕ) (c : fits-lts.Else5 (fits-calls t) (fits-at t) fits.Post fits-Inv-loop fits-μ-loop) → agreeing (c .before .before .before .before .before .before .before .before .before .before .before .before .before .args .table .now) (c .before .before .before .before .before .before .before .before .before .before .before .before .before .args .store .now) (c .before .before .before .before .before .before .before .entry .result) (c .before .before .before .before .before .before .word .result) ≡ true
-agrees t c = sym (c .before .agree .ensures) ∙ not-false _ (c .if5 .left)
+agrees : (t : ℕ) (c : fits-lts.Else4 (fits-calls t) (fits-at t) fits.Post fits-Inv-loop fits-μ-loop) → agreeing (c .before .before .before .before .before .before .before .before .before .before .before .before .args .table .now) (c .before .before .before .before .before .before .before .before .before .before .before .before .args .store .now) (c .before .before .before .before .before .before .entry .result) (c .before .before .before .before .before .word .result) ≡ true
+agrees t c = sym (c .before .agree .ensures) ∙ not-false _ (c .if4 .left)
 
 -- what each way through a turn comes to
-came : (t : ℕ) (c : fits-lts.Joined3 (fits-calls t) (fits-at t) fits.Post fits-Inv-loop fits-μ-loop) → let a = c .before .before .before .before .before .before .before .before .before .before .before .args in (c .if3 .u < 4294967296) × Matched (a .table .now) (a .store .now) (a .deep) (a .p) (a .s) (a .b .words) (c .if3 .words) (c .if3 .u) (c .before .before .before .before .before .before .before .loop .i + 1)
+came : (t : ℕ) (c : fits-lts.Joined2 (fits-calls t) (fits-at t) fits.Post fits-Inv-loop fits-μ-loop) → let a = c .before .before .before .before .before .before .before .before .before .before .args in (c .if2 .u < 4294967296) × Matched (a .table .now) (a .store .now) (a .deep) (a .p) (a .s) (a .b .words) (c .if2 .words) (c .if2 .u) (c .before .before .before .before .before .before .loop .i + 1)
 came t c =
-    let l = c .before .before .before .before .before .before .before .loop in
-    let k = turn t (c .before .before .before .before) in
-    let z = c .before .before .before .if1 .left in
-    let d = c .before .before .if2 .left in
+    let l = c .before .before .before .before .before .before .loop in
+    let k = turn t (c .before .before .before) in
+    let z = c .before .before .if1 .left in
+    let d = levels t (c .before .before .before) in
     let e = c .before .kind .ensures in
     let less : l .u - 1 < 4294967296 = omega (arith, l .inv .2) in
     ⊎-elim
     (λ w. matched-at _ _ _ _ _ _ _ _ _ _ _ (w .10) (w .9) (omega (arith, done-node _ _ _ (sym (w .5 .ensures) ∙ w .7 .given .1)))
     (bound-matched k z d (sym e ∙ w .0 .taken) (w .1 .ensures) (sym (w .2 .ensures) ∙ w .3 .taken) _ (λ m. w .4 .ensures _ (held (l .words)) m) _ (w .5 .ensures) _ _ (w .7 .given .1)))
     (⊎-elim
-    (λ w. matched-at _ _ _ _ _ _ _ _ _ _ _ (w .7) (w .6) less
-    (free-matched k z d (sym e ∙ w .0 .taken) (w .1 .ensures) (l .inv .3) (λ f. w .3 .left (w .2 .ensures ∙ f)) (w .4 .ensures)))
+    (λ w. matched-at _ _ _ _ _ _ _ _ _ _ _ (w .5) (w .4) less
+    (free-matched k z d (sym e ∙ w .0 .taken) (w .1 .ensures) (l .inv .3) (λ f. w .3 .left (w .2 .ensures ∙ f))
+    (set-bound _ _ _ (variable-small k (sym e ∙ w .0 .taken) (w .1 .ensures)))))
     (⊎-elim
-    (λ w. matched-at _ _ _ _ _ _ _ _ _ _ _ (w .14) (w .13) (omega (arith, done-node _ _ _ (sym (w .7 .ensures) ∙ w .9 .given .1)))
-    (inner-matched k z d (constructor-is k e (w .0 .left)) (sym (w .1 .ensures) ∙ not-false _ (w .2 .left)) (w .5 .ensures) _ _ (w .6 .ensures) _ (w .7 .ensures) _ _ (w .9 .given .1)))
+    (λ w. matched-at _ _ _ _ _ _ _ _ _ _ _ (w .15) (w .14) (omega (arith, done-node _ _ _ (sym (w .8 .ensures) ∙ w .10 .given .1)))
+    (inner-matched k z d (constructor-is k e (w .0 .left)) (sym (w .1 .ensures) ∙ not-false _ (w .2 .left)) (w .6 .ensures) _ _ (w .7 .ensures) _ (w .8 .ensures) _ _ (w .10 .given .1)))
     (λ w. matched-at _ _ _ _ _ _ _ _ _ _ _ (w .6) (w .5) less
     (leaf-matched k z d (constructor-is k e (w .0 .left)) (sym (w .1 .ensures) ∙ not-false _ (w .2 .left)) (sym (w .3 .ensures) ∙ w .4 .left)))))
-    (c .if3 .came)
+    (c .if2 .came)
 
 fits-cast-t : (t : ℕ) → fits-lts.Need-cast-t (fits-calls t) (fits-at t) fits.Post fits-Inv-loop fits-μ-loop
 fits-cast-t t c = search needs
@@ -132,35 +136,29 @@ fits-no-units-requires t c κs = search needs
 fits-returns : (t : ℕ) → fits-lts.Need-returns (fits-calls t) (fits-at t) fits.Post fits-Inv-loop fits-μ-loop
 fits-returns t c = fits-units (turn t (c .before .before)) (c .no-units .ensures) (c .before .if1 .taken)
 
-fits-no-nesting-requires : (t : ℕ) → fits-lts.Need-no-nesting-requires (fits-calls t) (fits-at t) fits.Post fits-Inv-loop fits-μ-loop
-fits-no-nesting-requires t c κs = search needs
-
-fits-returns-2 : (t : ℕ) → fits-lts.Need-returns-2 (fits-calls t) (fits-at t) fits.Post fits-Inv-loop fits-μ-loop
-fits-returns-2 t c = fits-nesting (turn t (c .before .before .before)) (c .no-nesting .ensures) (c .before .before .if1 .left) (c .before .if2 .taken)
-
 fits-sub-u : (t : ℕ) → fits-lts.Need-sub-u (fits-calls t) (fits-at t) fits.Post fits-Inv-loop fits-μ-loop
 fits-sub-u t c = search needs
 
 fits-kind-requires : (t : ℕ) → fits-lts.Need-kind-requires (fits-calls t) (fits-at t) fits.Post fits-Inv-loop fits-μ-loop
-fits-kind-requires t c κs = operand-is (turn t (c .before .before)) .0
+fits-kind-requires t c κs = operand-is (turn t (c .before)) .0
 
 fits-entry-requires-2 : (t : ℕ) → fits-lts.Need-entry-requires-2 (fits-calls t) (fits-at t) fits.Post fits-Inv-loop fits-μ-loop
-fits-entry-requires-2 t c κs = (operand-is (turn t (c .before .before .before .before)) .0, omega arith)
+fits-entry-requires-2 t c κs = (operand-is (turn t (c .before .before .before)) .0, omega arith)
 
 fits-array-read-bit : (t : ℕ) → fits-lts.Need-array-read-bit (fits-calls t) (fits-at t) fits.Post fits-Inv-loop fits-μ-loop
 fits-array-read-bit t c = search needs
 
 fits-bit-requires : (t : ℕ) → fits-lts.Need-bit-requires (fits-calls t) (fits-at t) fits.Post fits-Inv-loop fits-μ-loop
-fits-bit-requires t c κs = variable-small (turn t (c .before .before .before .before .before)) (is-variable t (c .before)) (c .entry2 .ensures)
+fits-bit-requires t c κs = variable-small (turn t (c .before .before .before .before)) (is-variable t (c .before)) (c .entry2 .ensures)
 
 fits-cast-same : (t : ℕ) → fits-lts.Need-cast-same (fits-calls t) (fits-at t) fits.Post fits-Inv-loop fits-μ-loop
 fits-cast-same t c = search needs
 
 fits-mul-same : (t : ℕ) → fits-lts.Need-mul-same (fits-calls t) (fits-at t) fits.Post fits-Inv-loop fits-μ-loop
-fits-mul-same t c = let v = variable-small (turn t (c .before .before .before .before .before .before .before)) (is-variable t (c .before .before .before)) (c .before .before .entry2 .ensures) in omega arith
+fits-mul-same t c = let v = variable-small (turn t (c .before .before .before .before .before .before)) (is-variable t (c .before .before .before)) (c .before .before .entry2 .ensures) in omega arith
 
 fits-array-read-same : (t : ℕ) → fits-lts.Need-array-read-same (fits-calls t) (fits-at t) fits.Post fits-Inv-loop fits-μ-loop
-fits-array-read-same t c = let v = variable-small (turn t (c .before .before .before .before .before .before .before)) (is-variable t (c .before .before .before)) (c .before .before .entry2 .ensures) in omega arith
+fits-array-read-same t c = let v = variable-small (turn t (c .before .before .before .before .before .before)) (is-variable t (c .before .before .before)) (c .before .before .entry2 .ensures) in omega arith
 
 fits-sub-same : (t : ℕ) → fits-lts.Need-sub-same (fits-calls t) (fits-at t) fits.Post fits-Inv-loop fits-μ-loop
 fits-sub-same t c = search needs
@@ -174,23 +172,45 @@ fits-told-requires t c κs = search needs
 fits-enum-known-left : (t : ℕ) → fits-lts.Need-enum-known-left (fits-calls t) (fits-at t) fits.Post fits-Inv-loop fits-μ-loop
 fits-enum-known-left t c = search needs
 
-fits-returns-3 : (t : ℕ) → fits-lts.Need-returns-3 (fits-calls t) (fits-at t) fits.Post fits-Inv-loop fits-μ-loop
-fits-returns-3 t c = bound-stops (turn t (c .before .before .before .before .before .before .before .before .before .before)) (c .before .before .before .before .before .before .before .before .before .if1 .left) (c .before .before .before .before .before .before .before .before .if2 .left) (is-variable t (c .before .before .before .before .before .before)) (c .before .before .before .before .before .entry2 .ensures) (sym (c .before .before .before .before .bit .ensures) ∙ c .before .before .before .if4 .taken) _ (λ m. c .before .before .same .ensures _ (held (c .before .before .before .before .before .before .before .before .before .before .before .before .before .loop .words)) m) _ (c .before .told .ensures) (c .match .keys2)
+fits-returns-2 : (t : ℕ) → fits-lts.Need-returns-2 (fits-calls t) (fits-at t) fits.Post fits-Inv-loop fits-μ-loop
+fits-returns-2 t c = bound-stops (turn t (c .before .before .before .before .before .before .before .before .before)) (c .before .before .before .before .before .before .before .before .if1 .left) (levels t (c .before .before .before .before .before .before .before .before .before)) (is-variable t (c .before .before .before .before .before .before)) (c .before .before .before .before .before .entry2 .ensures) (sym (c .before .before .before .before .bit .ensures) ∙ c .before .before .before .if3 .taken) _ (λ m. c .before .before .same .ensures _ (held (c .before .before .before .before .before .before .before .before .before .before .before .before .loop .words)) m) _ (c .before .told .ensures) (c .match .keys2)
 
-fits-bind-requires : (t : ℕ) → fits-lts.Need-bind-requires (fits-calls t) (fits-at t) fits.Post fits-Inv-loop fits-μ-loop
-fits-bind-requires t c κs = variable-small (turn t (c .before .before .before .before .before .before .before)) (is-variable t (c .before .before .before)) (c .before .before .entry2 .ensures)
+fits-cast-words : (t : ℕ) → fits-lts.Need-cast-words (fits-calls t) (fits-at t) fits.Post fits-Inv-loop fits-μ-loop
+fits-cast-words t c = search needs
+
+fits-mul-words : (t : ℕ) → fits-lts.Need-mul-words (fits-calls t) (fits-at t) fits.Post fits-Inv-loop fits-μ-loop
+fits-mul-words t c = let v = variable-small (turn t (c .before .before .before .before .before .before)) (is-variable t (c .before .before .before)) (c .before .before .entry2 .ensures) in omega arith
+
+fits-array-write-words : (t : ℕ) → fits-lts.Need-array-write-words (fits-calls t) (fits-at t) fits.Post fits-Inv-loop fits-μ-loop
+fits-array-write-words t c = let v = variable-small (turn t (c .before .before .before .before .before .before)) (is-variable t (c .before .before .before)) (c .before .before .entry2 .ensures) in omega arith
+
+fits-array-read-words : (t : ℕ) → fits-lts.Need-array-read-words (fits-calls t) (fits-at t) fits.Post fits-Inv-loop fits-μ-loop
+fits-array-read-words t c = search needs
+
+fits-shl-words : (t : ℕ) → fits-lts.Need-shl-words (fits-calls t) (fits-at t) fits.Post fits-Inv-loop fits-μ-loop
+fits-shl-words t c = let v = variable-small (turn t (c .before .before .before .before .before .before)) (is-variable t (c .before .before .before)) (c .before .before .entry2 .ensures) in omega arith
+
+fits-array-write-words-2 : (t : ℕ) → fits-lts.Need-array-write-words-2 (fits-calls t) (fits-at t) fits.Post fits-Inv-loop fits-μ-loop
+fits-array-write-words-2 t c = search needs
 
 fits-agree-requires : (t : ℕ) → fits-lts.Need-agree-requires (fits-calls t) (fits-at t) fits.Post fits-Inv-loop fits-μ-loop
-fits-agree-requires t c κs = operand-is (turn t (c .before .before .before .before)) .0
+fits-agree-requires t c κs = operand-is (turn t (c .before .before .before)) .0
 
 fits-failure-requires : (t : ℕ) → fits-lts.Need-failure-requires (fits-calls t) (fits-at t) fits.Post fits-Inv-loop fits-μ-loop
 fits-failure-requires t c κs = search needs
 
-fits-returns-4 : (t : ℕ) → fits-lts.Need-returns-4 (fits-calls t) (fits-at t) fits.Post fits-Inv-loop fits-μ-loop
-fits-returns-4 t c = other (turn t (c .before .before .before .before .before .before .before)) (c .before .before .before .before .before .before .if1 .left) (c .before .before .before .before .before .if2 .left) (is-constructor t (c .before .before .before)) (c .failure .ensures) (sym (c .before .before .agree .ensures) ∙ not-true _ (c .before .if5 .taken))
+fits-returns-3 : (t : ℕ) → fits-lts.Need-returns-3 (fits-calls t) (fits-at t) fits.Post fits-Inv-loop fits-μ-loop
+fits-returns-3 t c = other (turn t (c .before .before .before .before .before .before)) (c .before .before .before .before .before .if1 .left) (levels t (c .before .before .before .before .before .before)) (is-constructor t (c .before .before .before)) (c .failure .ensures) (sym (c .before .before .agree .ensures) ∙ not-true _ (c .before .if4 .taken))
 
 fits-operands-requires-2 : (t : ℕ) → fits-lts.Need-operands-requires-2 (fits-calls t) (fits-at t) fits.Post fits-Inv-loop fits-μ-loop
-fits-operands-requires-2 t c κs = operand-is (turn t (c .before .before .before .before .before .before)) .0
+fits-operands-requires-2 t c κs = operand-is (turn t (c .before .before .before .before .before)) .0
+
+fits-stopped-requires : (t : ℕ) → fits-lts.Need-stopped-requires (fits-calls t) (fits-at t) fits.Post fits-Inv-loop fits-μ-loop
+fits-stopped-requires t c κs = search needs
+
+fits-returns-4 : (t : ℕ) → fits-lts.Need-returns-4 (fits-calls t) (fits-at t) fits.Post fits-Inv-loop fits-μ-loop
+fits-returns-4 t c =
+    inner-stopped (turn t (c .before .before .before .before .before .before .before .before .before)) (c .before .before .before .before .before .before .before .before .if1 .left) (is-constructor t (c .before .before .before .before .before .before)) (agrees t (c .before .before .before .before)) (λ z. c .before .before .if5 .taken (c .before .before .before .operands2 .ensures ∙ z)) (c .before .if6 .taken) (c .stopped .ensures)
 
 fits-done-requires : (t : ℕ) → fits-lts.Need-done-requires (fits-calls t) (fits-at t) fits.Post fits-Inv-loop fits-μ-loop
 fits-done-requires t c κs = search needs
@@ -199,7 +219,7 @@ fits-sub-fits : (t : ℕ) → fits-lts.Need-sub-fits (fits-calls t) (fits-at t) 
 fits-sub-fits t c = search needs
 
 fits-fits-requires : (t : ℕ) → fits-lts.Need-fits-requires (fits-calls t) (fits-at t) fits.Post fits-Inv-loop fits-μ-loop
-fits-fits-requires t c κs = (omega arith, (c .before .before .before .before .before .before .before .before .before .before .before .before .before .before .before .before .pre .1 .0, operand-is (turn t (c .before .before .before .before .before .before .before .before .before)) .0, is-constructor t (c .before .before .before .before .before), handed (turn t (c .before .before .before .before .before .before .before .before .before)) (c .before .before .before .before .before .before .before .before .if1 .left) (c .before .before .before .before .before .before .before .if2 .left) (is-constructor t (c .before .before .before .before .before)) (agrees t (c .before .before .before)) (c .done .ensures)))
+fits-fits-requires t c κs = (omega arith, (c .before .before .before .before .before .before .before .before .before .before .before .before .before .before .before .before .pre .1 .0, operand-is (turn t (c .before .before .before .before .before .before .before .before .before)) .0, is-constructor t (c .before .before .before .before .before .before), handed (turn t (c .before .before .before .before .before .before .before .before .before)) (c .before .before .before .before .before .before .before .before .if1 .left) (levels t (c .before .before .before .before .before .before .before .before .before)) (is-constructor t (c .before .before .before .before .before .before)) (agrees t (c .before .before .before .before)) (c .done .ensures), omega (arith, c .before .if6 .left)))
 
 fits-told-requires-2 : (t : ℕ) → fits-lts.Need-told-requires-2 (fits-calls t) (fits-at t) fits.Post fits-Inv-loop fits-μ-loop
 fits-told-requires-2 t c κs = search needs
@@ -208,7 +228,7 @@ fits-enum-known-left-2 : (t : ℕ) → fits-lts.Need-enum-known-left-2 (fits-cal
 fits-enum-known-left-2 t c = search needs
 
 fits-returns-5 : (t : ℕ) → fits-lts.Need-returns-5 (fits-calls t) (fits-at t) fits.Post fits-Inv-loop fits-μ-loop
-fits-returns-5 t c = inner-stops (turn t (c .before .before .before .before .before .before .before .before .before .before .before .before)) (c .before .before .before .before .before .before .before .before .before .before .before .if1 .left) (c .before .before .before .before .before .before .before .before .before .before .if2 .left) (is-constructor t (c .before .before .before .before .before .before .before .before)) (agrees t (c .before .before .before .before .before .before)) (c .before .before .before .done .ensures) _ _ (c .before .before .fits2 .ensures) _ (c .before .told2 .ensures) (c .match2 .keys2)
+fits-returns-5 t c = inner-stops (turn t (c .before .before .before .before .before .before .before .before .before .before .before .before)) (c .before .before .before .before .before .before .before .before .before .before .before .if1 .left) (levels t (c .before .before .before .before .before .before .before .before .before .before .before .before)) (is-constructor t (c .before .before .before .before .before .before .before .before .before)) (agrees t (c .before .before .before .before .before .before .before)) (c .before .before .before .done .ensures) _ _ (c .before .before .fits2 .ensures) _ (c .before .told2 .ensures) (c .match2 .keys2)
 
 fits-add-i : (t : ℕ) → fits-lts.Need-add-i (fits-calls t) (fits-at t) fits.Post fits-Inv-loop fits-μ-loop
 fits-add-i t c = search needs
@@ -218,7 +238,7 @@ fits-loop-less t c = search needs
 
 fits-loop-again : (t : ℕ) → fits-lts.Need-loop-again (fits-calls t) (fits-at t) fits.Post fits-Inv-loop fits-μ-loop
 fits-loop-again t c =
-    let i = c .before .before .before .before .before .before .before .loop .inv in
+    let i = c .before .before .before .before .before .before .loop .inv in
     let n = came t c in
     (search needs, i .1, n .0, n .1 .frame .long ∙ sym (i .4 .frame .long) ∙ i .3, n .1)
 
@@ -244,8 +264,6 @@ pub +fits-spec : {M : Type 1} → statement M
     (fits-word-requires t)
     (fits-no-units-requires t)
     (fits-returns t)
-    (fits-no-nesting-requires t)
-    (fits-returns-2 t)
     (fits-sub-u t)
     (fits-kind-requires t)
     (fits-entry-requires-2 t)
@@ -258,12 +276,19 @@ pub +fits-spec : {M : Type 1} → statement M
     (fits-same-requires t)
     (fits-told-requires t)
     (fits-enum-known-left t)
-    (fits-returns-3 t)
-    (fits-bind-requires t)
+    (fits-returns-2 t)
+    (fits-cast-words t)
+    (fits-mul-words t)
+    (fits-array-write-words t)
+    (fits-array-read-words t)
+    (fits-shl-words t)
+    (fits-array-write-words-2 t)
     (fits-agree-requires t)
     (fits-failure-requires t)
-    (fits-returns-4 t)
+    (fits-returns-3 t)
     (fits-operands-requires-2 t)
+    (fits-stopped-requires t)
+    (fits-returns-4 t)
     (fits-done-requires t)
     (fits-sub-fits t)
     (fits-fits-requires t)

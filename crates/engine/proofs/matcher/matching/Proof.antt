@@ -9,7 +9,7 @@ use Rattle.engine.specs.Answers.{nodeIn}
 use Rattle.engine.specs.Record.{markOf, held}
 use Rattle.engine.specs.Visits.{agreeing}
 use Rattle.engine.proofs.Patterns.{no-variable}
-use Rattle.engine.proofs.Matching.{set-bound, root-units, root-nesting, root-small, root-free, root-bound, root-bound-stops, root-other, root-leaf, root-handed, root-stops, root-fits}
+use Rattle.engine.proofs.Matching.{root-units, root-nesting, root-small, root-free, root-bound, root-bound-stops, root-other, root-leaf, root-handed, root-stops, root-stopped, root-fits}
 use borrow.Author.Needs.{needs}
 use Rattle.engine.proofs.matcher.matching.Statement.{statement}
 use Rattle.engine.proofs.matcher.matching.Tie as tie
@@ -91,29 +91,14 @@ done-requires c κs = search needs
 returns-4 : tie.Need-returns-4
 returns-4 c = root-bound (c .before .before .before .before .before .before .before .before .before .before .before .before .before .before .before .before .pre .0) _ (c .before .before .before .before .before .before .before .before .before .before .before .before .before .before .if1 .left) (c .before .before .before .before .before .before .before .before .before .before .before .before .before .if2 .left) (is-variable (c .before .before .before .before .before .before .before .before .before .before)) (c .before .before .before .before .before .before .before .before .before .before .entry .ensures) (sym (c .before .before .before .before .before .before .before .before .bit .ensures) ∙ c .before .before .before .before .before .before .before .if4 .taken) _ (c .before .before .before .before .before .same .ensures _ (held (c .before .before .before .before .before .before .before .before .before .before .before .before .before .before .before .before .args .st .now)) (markOf (c .before .before .before .before .before .before .before .before .before .before .before .before .before .before .before .before .args .st .now))) _ (c .before .before .before .before .told .ensures) _ _ _ (c .before .before .u .given .1) (c .done .ensures)
 
-cast-st : tie.Need-cast-st
-cast-st c = search needs
-
-mul-st : tie.Need-mul-st
-mul-st c = search needs
-
-element-write-st : tie.Need-element-write-st
-element-write-st c = let v = small (c .before .before .before) in omega arith
-
-element-copy-out-st : tie.Need-element-copy-out-st
-element-copy-out-st c = search needs
-
-shl-st : tie.Need-shl-st
-shl-st c = let v = small (c .before .before .before .before) in omega arith
-
-element-write-st-2 : tie.Need-element-write-st-2
-element-write-st-2 c = search needs
+bind-requires : tie.Need-bind-requires
+bind-requires c κs = let v = small (c .before .before .before .before) in omega arith
 
 sub-result : tie.Need-sub-result
 sub-result c = search needs
 
 returns-5 : tie.Need-returns-5
-returns-5 c = root-free (c .before .before .before .before .before .before .before .before .before .before .pre .0) _ (c .before .before .before .before .before .before .before .before .if1 .left) (c .before .before .before .before .before .before .before .if2 .left) (is-variable (c .before .before .before .before)) (c .before .before .before .before .entry .ensures) (λ e. c .before .if4 .left (c .before .before .bit .ensures ∙ e)) (set-bound _ _ _ (small (c .before .before .before .before)))
+returns-5 c = root-free (c .before .before .before .before .before .before .before .before .before .before .before .before .pre .0) _ (c .before .before .before .before .before .before .before .before .before .before .if1 .left) (c .before .before .before .before .before .before .before .before .before .if2 .left) (is-variable (c .before .before .before .before .before .before)) (c .before .before .before .before .before .before .entry .ensures) (λ e. c .before .before .before .if4 .left (c .before .before .before .before .bit .ensures ∙ e)) (c .before .bind .ensures)
 
 agree-requires : tie.Need-agree-requires
 agree-requires c κs = search needs
@@ -136,6 +121,16 @@ sub-result-2 c = search needs
 returns-7 : tie.Need-returns-7
 returns-7 c = root-leaf (c .before .before .before .before .before .before .before .before .before .pre .0) _ (c .before .before .before .before .before .before .before .if1 .left) (c .before .before .before .before .before .before .if2 .left) (is-constructor (c .before .before .before .before)) (agrees (c .before .before)) (sym (c .before .operands .ensures) ∙ c .if6 .taken)
 
+sub-stopped : tie.Need-sub-stopped
+sub-stopped c = search needs
+
+stopped-requires : tie.Need-stopped-requires
+stopped-requires c κs = search needs
+
+returns-8 : tie.Need-returns-8
+returns-8 c =
+    root-stopped (c .before .before .before .before .before .before .before .before .before .before .before .pre .0) _ (c .before .before .before .before .before .before .before .before .before .if1 .left) (c .before .before .before .before .before .before .before .before .if2 .left) (is-constructor (c .before .before .before .before .before .before)) (agrees (c .before .before .before .before)) (λ z. c .before .before .if6 .left (c .before .before .before .operands .ensures ∙ z)) (c .before .if7 .taken) (c .stopped .ensures)
+
 sub-fits : tie.Need-sub-fits
 sub-fits c = search needs
 
@@ -143,7 +138,7 @@ sub-fits-2 : tie.Need-sub-fits-2
 sub-fits-2 c = search needs
 
 fits-requires : tie.Need-fits-requires
-fits-requires c κs = (c .before .before .before .before .before .before .before .before .before .before .pre .0 .entries, c .before .before .before .before .before .before .before .before .before .before .pre .0 .inside, is-constructor (c .before .before .before .before .before), root-handed (c .before .before .before .before .before .before .before .before .before .before .pre .0) _ (c .before .before .before .before .before .before .before .before .if1 .left) (c .before .before .before .before .before .before .before .if2 .left) (is-constructor (c .before .before .before .before .before)) (agrees (c .before .before .before)))
+fits-requires c κs = (c .before .before .before .before .before .before .before .before .before .before .before .pre .0 .entries, c .before .before .before .before .before .before .before .before .before .before .before .pre .0 .inside, is-constructor (c .before .before .before .before .before .before), root-handed (c .before .before .before .before .before .before .before .before .before .before .before .pre .0) _ (c .before .before .before .before .before .before .before .before .before .if1 .left) (c .before .before .before .before .before .before .before .before .if2 .left) (is-constructor (c .before .before .before .before .before .before)) (agrees (c .before .before .before .before)), omega (arith, c .before .if7 .left))
 
 told-requires-2 : tie.Need-told-requires-2
 told-requires-2 c κs = search needs
@@ -151,14 +146,14 @@ told-requires-2 c κs = search needs
 enum-known-u-2 : tie.Need-enum-known-u-2
 enum-known-u-2 c = search needs
 
-returns-8 : tie.Need-returns-8
-returns-8 c = root-stops (c .before .before .before .before .before .before .before .before .before .before .before .before .before .pre .0) _ (c .before .before .before .before .before .before .before .before .before .before .before .if1 .left) (c .before .before .before .before .before .before .before .before .before .before .if2 .left) (is-constructor (c .before .before .before .before .before .before .before .before)) (agrees (c .before .before .before .before .before .before)) _ _ (c .before .before .fits2 .ensures) _ (c .before .told2 .ensures) (c .match2 .keys2)
+returns-9 : tie.Need-returns-9
+returns-9 c = root-stops (c .before .before .before .before .before .before .before .before .before .before .before .before .before .before .pre .0) _ (c .before .before .before .before .before .before .before .before .before .before .before .before .if1 .left) (c .before .before .before .before .before .before .before .before .before .before .before .if2 .left) (is-constructor (c .before .before .before .before .before .before .before .before .before)) (agrees (c .before .before .before .before .before .before .before)) _ _ (c .before .before .fits2 .ensures) _ (c .before .told2 .ensures) (c .match2 .keys2)
 
 done-requires-2 : tie.Need-done-requires-2
 done-requires-2 c κs = search needs
 
-returns-9 : tie.Need-returns-9
-returns-9 c = root-fits (c .before .before .before .before .before .before .before .before .before .before .before .before .before .before .before .before .before .before .pre .0) _ (c .before .before .before .before .before .before .before .before .before .before .before .before .before .before .before .before .if1 .left) (c .before .before .before .before .before .before .before .before .before .before .before .before .before .before .before .if2 .left) (is-constructor (c .before .before .before .before .before .before .before .before .before .before .before .before .before)) (agrees (c .before .before .before .before .before .before .before .before .before .before .before)) _ _ (c .before .before .before .before .before .before .before .fits2 .ensures) _ (c .before .before .before .before .before .before .told2 .ensures) _ _ _ (c .before .before .before .before .u2 .given .1) (c .done2 .ensures)
+returns-10 : tie.Need-returns-10
+returns-10 c = root-fits (c .before .before .before .before .before .before .before .before .before .before .before .before .before .before .before .before .before .before .before .pre .0) _ (c .before .before .before .before .before .before .before .before .before .before .before .before .before .before .before .before .before .if1 .left) (c .before .before .before .before .before .before .before .before .before .before .before .before .before .before .before .before .if2 .left) (is-constructor (c .before .before .before .before .before .before .before .before .before .before .before .before .before .before)) (agrees (c .before .before .before .before .before .before .before .before .before .before .before .before)) _ _ (c .before .before .before .before .before .before .before .fits2 .ensures) _ (c .before .before .before .before .before .before .told2 .ensures) _ _ _ (c .before .before .before .before .u2 .given .1) (c .done2 .ensures)
 
 pub matching-spec : {M : Type 1} → statement M
 matching-spec =
@@ -185,12 +180,7 @@ matching-spec =
     returns-3
     done-requires
     returns-4
-    cast-st
-    mul-st
-    element-write-st
-    element-copy-out-st
-    shl-st
-    element-write-st-2
+    bind-requires
     sub-result
     returns-5
     agree-requires
@@ -200,11 +190,14 @@ matching-spec =
     operands-requires
     sub-result-2
     returns-7
+    sub-stopped
+    stopped-requires
+    returns-8
     sub-fits
     sub-fits-2
     fits-requires
     told-requires-2
     enum-known-u-2
-    returns-8
+    returns-9
     done-requires-2
-    returns-9)
+    returns-10)

@@ -1,0 +1,19 @@
+-- The numbers that an exported function leaves in the array that its caller lends, as what the function itself returns.
+use mathlib.Core.List.{List}
+use Prim.Native.Nat.{ℕ}
+use lib.ListN.{getD}
+use Rattle.checks.specs.declared.Checked.{Checked}
+use Rattle.free.specs.declared.FreeVariables.{FreeVariables}
+use Rattle.marshtrundle.specs.declared.running.Outcome.{Outcome}
+
+-- answer and place
+abbrev pub two : List ℕ → Checked
+two w = record { answer = getD w 0 0; place = getD w 1 0 }
+
+-- answer, place and mask
+abbrev pub three : List ℕ → FreeVariables
+three w = record { answer = getD w 0 0; place = getD w 1 0; mask = getD w 2 0 }
+
+-- answer, place, subject, mark and units used
+abbrev pub five : List ℕ → Outcome
+five w = record { answer = getD w 0 0; place = getD w 1 0; subject = getD w 2 0; mark = getD w 3 0; units = getD w 4 0 }

@@ -1,0 +1,56 @@
+// What a program in C or Rust calls, from the archive. A slice is a pointer and a number of words. The numbers that come
+// back go into an array that the caller lends. The contracts are those of the functions called, over that array.
+use crate::running::run;
+use checks::entries::check_table;
+use checks::nodes::check_store;
+use free::free_variables;
+ghost use mathlib.Core.Path.{_≡_};
+ghost use Rattle.checks.specs.Checked.{tableChecked, storeChecked};
+ghost use Rattle.free.specs.Answered.{Answered};
+ghost use Rattle.marshtrundle.specs.Run.{input, back, runOf};
+ghost use Rattle.marshtrundle.specs.Exported.{two, three, five};
+
+// The run: answer, place, subject, mark and units used.
+#[no_mangle]
+pub extern "C" fn marshtrundle_run(
+    table: &[u32],
+    store: &mut [u32],
+    bindings: &mut [u32],
+    mark: u32,
+    start: u32,
+    subject: u32,
+    units: u32,
+    numbers: &mut [u32; 5],
+)
+    ensures { λ _. ⌜ back (five (now (numbers .exit))) (now (store .exit)) (now (bindings .exit)) ≡ runOf (input (now (table .entry)) (now (store .entry)) (now (bindings .entry)) mark start subject units) ⌝ }
+{
+    let r = run(table, store, bindings, mark, start, subject, units);
+    *numbers = [r.answer, r.place, r.subject, r.mark, r.units];
+}
+
+// The question of free variables: answer, place and mask.
+#[no_mangle]
+pub extern "C" fn marshtrundle_free_variables(table: &[u32], entry: u32, numbers: &mut [u32; 3])
+    ensures { λ _. ⌜ Answered (now (table .entry)) entry (three (now (numbers .exit))) ⌝ }
+{
+    let r = free_variables(table, entry);
+    *numbers = [r.answer, r.place, r.mask];
+}
+
+// The table check: answer and place.
+#[no_mangle]
+pub extern "C" fn marshtrundle_check_table(table: &[u32], numbers: &mut [u32; 2])
+    ensures { λ _. ⌜ two (now (numbers .exit)) ≡ tableChecked (now (table .entry)) ⌝ }
+{
+    let r = check_table(table);
+    *numbers = [r.answer, r.place];
+}
+
+// The store check: answer and place.
+#[no_mangle]
+pub extern "C" fn marshtrundle_check_store(store: &[u32], mark: u32, numbers: &mut [u32; 2])
+    ensures { λ _. ⌜ two (now (numbers .exit)) ≡ storeChecked (now (store .entry)) mark ⌝ }
+{
+    let r = check_store(store, mark);
+    *numbers = [r.answer, r.place];
+}
