@@ -677,8 +677,14 @@ def write():
     print("answers: " + ", ".join("%d of %d" % (tally[a], a) for a in sorted(tally)))
 
 
-threading.stack_size(512 * 2**20)
-sys.setrecursionlimit(100000)
-worker = threading.Thread(target=write)
-worker.start()
-worker.join()
+def deeply(work):
+    """Does the work on a stack that holds a run nested 4,096 deep."""
+    threading.stack_size(512 * 2**20)
+    sys.setrecursionlimit(100000)
+    worker = threading.Thread(target=work)
+    worker.start()
+    worker.join()
+
+
+if __name__ == "__main__":
+    deeply(write)

@@ -1,0 +1,106 @@
+-- `whole_job::answer_in` meets its contract: a bad line, or a job of which as much is lent as was read. Assumes nothing.
+use mathlib.Core.Path.{sym}
+use native.Mathlib.Omega.{arith}
+use lib.ListN.{length-take}
+use lib.Seq.{length-take-le}
+use borrow.Author.Needs.{needs}
+use Rattle.whole_job.proofs.Answering.{put-good, put-bad, read-bad, read-good, read-sized}
+use Rattle.whole_job.proofs.answer_in.Statement.{statement}
+use Rattle.whole_job.proofs.answer_in.Tie as tie
+
+read-requires : tie.Need-read-requires
+read-requires c κs = search needs
+
+enum-known-o : tie.Need-enum-known-o
+enum-known-o c = search needs
+
+answer-requires : tie.Need-answer-requires
+answer-requires c κs = search needs
+
+enum-known-o-2 : tie.Need-enum-known-o-2
+enum-known-o-2 c = search needs
+
+cast-entries : tie.Need-cast-entries
+cast-entries c = search needs
+
+mul-entries : tie.Need-mul-entries
+mul-entries c = search needs
+
+cast-room : tie.Need-cast-room
+cast-room c = search needs
+
+mul-room : tie.Need-mul-room
+mul-room c = search needs
+
+slice-reshare-prefix-answer-run : tie.Need-slice-reshare-prefix-answer-run
+slice-reshare-prefix-answer-run c = let z = read-sized (c .before .before .before .before .before .before .before .before .before .before .before .before .before .before .before .before .before .before .before .before .args .text .now) (c .before .before .before .before .before .before .before .before .before .before .before .read .ensures) (c .before .before .before .o2 .given .1) in omega (arith, z .entries, z .table)
+
+slice-aggregate-answer-run : tie.Need-slice-aggregate-answer-run
+slice-aggregate-answer-run c = let z = read-sized (c .before .before .before .before .before .before .before .before .before .before .before .before .before .before .before .before .before .before .before .before .before .args .text .now) (c .before .before .before .before .before .before .before .before .before .before .before .before .read .ensures) (c .before .before .before .before .o2 .given .1) in sym (length-take-le _ _ (omega (arith, z .entries, z .table)))
+
+slice-relend-prefix-answer-run : tie.Need-slice-relend-prefix-answer-run
+slice-relend-prefix-answer-run c = let z = read-sized (c .before .before .before .before .before .before .before .before .before .before .before .before .before .before .before .before .before .before .before .before .before .args .text .now) (c .before .before .before .before .before .before .before .before .before .before .before .before .read .ensures) (c .before .before .before .before .o2 .given .1) in omega (arith, z .room, z .store)
+
+slice-aggregate-answer-run-2 : tie.Need-slice-aggregate-answer-run-2
+slice-aggregate-answer-run-2 c = let z = read-sized (c .before .before .before .before .before .before .before .before .before .before .before .before .before .before .before .before .before .before .before .before .before .before .args .text .now) (c .before .before .before .before .before .before .before .before .before .before .before .before .before .read .ensures) (c .before .before .before .before .before .o2 .given .1) in sym (length-take-le _ _ (omega (arith, z .room, z .store)))
+
+answer-run-requires : tie.Need-answer-run-requires
+answer-run-requires c κs = let z = read-sized (c .before .before .before .before .before .before .before .before .before .before .before .before .before .before .before .before .before .before .before .before .before .before .before .before .args .text .now) (c .before .before .before .before .before .before .before .before .before .before .before .before .before .before .before .read .ensures) (c .before .before .before .before .before .before .before .o2 .given .1) in (c .before .before .before .before .before .before .before .before .before .before .before .before .before .before .before .before .before .before .before .before .before .before .before .before .pre .3, simp length-take (omega (arith, z .store)), z .bindings, z .nodes)
+
+same-length : tie.Need-same-length
+same-length c = search needs
+
+same-length-2 : tie.Need-same-length-2
+same-length-2 c = search needs
+
+same-length-3 : tie.Need-same-length-3
+same-length-3 c = search needs
+
+same-length-4 : tie.Need-same-length-4
+same-length-4 c = search needs
+
+returns : tie.Need-returns
+returns c = put-bad (c .before .before .before .before .before .before .before .before .before .before .before .before .before .before .before .before .before .before .before .before .before .before .before .before .args .text .now) _ _ (read-bad (c .before .before .before .before .before .before .before .before .before .before .before .before .before .before .before .before .before .before .before .before .before .before .before .before .args .text .now) (c .before .before .before .before .before .before .before .before .before .before .before .before .before .before .before .read .ensures) (c .before .before .before .before .before .before .before .o .given .1)) (c .before .before .answer .ensures)
+
+same-length-5 : tie.Need-same-length-5
+same-length-5 c = search needs
+
+same-length-6 : tie.Need-same-length-6
+same-length-6 c = search needs
+
+same-length-7 : tie.Need-same-length-7
+same-length-7 c = search needs
+
+same-length-8 : tie.Need-same-length-8
+same-length-8 c = search needs
+
+returns-2 : tie.Need-returns-2
+returns-2 c = put-good (c .before .before .before .before .before .before .before .before .before .before .before .before .before .before .before .before .before .before .before .before .before .before .before .before .before .before .before .before .before .before .before .args .text .now) (read-good (c .before .before .before .before .before .before .before .before .before .before .before .before .before .before .before .before .before .before .before .before .before .before .before .before .before .before .before .before .before .before .before .args .text .now) (c .before .before .before .before .before .before .before .before .before .before .before .before .before .before .before .before .before .before .before .before .before .before .read .ensures) (c .before .before .before .before .before .before .before .before .before .before .before .before .before .before .o2 .given .1)) (c .before .before .before .before .before .before .answer-run .ensures)
+
+pub answer-in-spec : {M : Type 1} → statement M
+answer-in-spec =
+    tie.close
+    (tie.spec
+    read-requires
+    enum-known-o
+    answer-requires
+    enum-known-o-2
+    cast-entries
+    mul-entries
+    cast-room
+    mul-room
+    slice-reshare-prefix-answer-run
+    slice-aggregate-answer-run
+    slice-relend-prefix-answer-run
+    slice-aggregate-answer-run-2
+    answer-run-requires
+    same-length
+    same-length-2
+    same-length-3
+    same-length-4
+    returns
+    same-length-5
+    same-length-6
+    same-length-7
+    same-length-8
+    returns-2)

@@ -1,0 +1,37 @@
+-- Document 01's job and its answer, byte for byte, computed from the definitions alone.
+use mathlib.Core.Path.{_≡_, refl}
+use mathlib.Core.List.{List, [], _∷_}
+use Prim.Native.Nat.{ℕ}
+use Rattle.words.specs.Tests.{every, rejected}
+use Rattle.words.specs.Words.{putRow, clearedFrom}
+use Rattle.checks.specs.Kinds.{lines, lineOf as kindLine, kind, sortOf, takes}
+use Rattle.checks.specs.Good.{countFits, argumentFits, operandPlaced, operandSorted, goodEntry, goodNode}
+use Rattle.checks.specs.Checked.{tableLengthFits, storeLengthFits, tableChecked, storeChecked}
+use Rattle.meaning.specs.Bindings.{bind, has, masked}
+use Rattle.meaning.specs.Table.{byKind, table}
+use Rattle.meaning.specs.Rules.{nth, put, zip, agree, when, given, again, walk, strategy, variable, matching, building, does}
+use Rattle.meaning.specs.Limits.{roomFor, settled, after, runPlan, run}
+use Rattle.meaning.specs.Store.{row, named, bindings, ran}
+use Rattle.meaning.specs.Answer.{number, bindingWord, bindingWords, returned}
+use Rattle.marshtrundle.specs.Refused.{sizesFit, boundBelow, startFits, refused}
+use Rattle.marshtrundle.specs.Run.{runOf}
+use Rattle.job.specs.Text.{parts, valued, numberOf, numbersOf, digits}
+use Rattle.job.specs.Lines.{letterOf, nameOf, jobFits, entryFits, nodeFits, bindingFits, fits, lineOf, entryRow, nodeRow}
+use Rattle.job.specs.Job.{zeros, admitted, headed, tableWith, storeWith, bindingsWith, with, readLines, meant}
+use Rattle.job.specs.Written.{nameText, numbersText, lineText, written}
+use Rattle.job.specs.Answer.{nodeShown, nodeNumbers, nodeLines, bindingLine, bindingLines, shown, answerLine, answered}
+use Rattle.job.specs.Example.{jobText}
+use Rattle.whole_job.specs.Whole.{runText, meantText, answerTo}
+
+-- the answer's bytes
+abbrev pub answerText : List ℕ
+answerText =
+    97 ∷ 110 ∷ 115 ∷ 119 ∷ 101 ∷ 114 ∷ 9 ∷ 48 ∷ 9 ∷ 48 ∷ 9 ∷ 51 ∷ 9 ∷ 52 ∷ 9 ∷ 49 ∷ 48 ∷ 10
+    ∷ 110 ∷ 9 ∷ 49 ∷ 10
+    ∷ 110 ∷ 9 ∷ 50 ∷ 10
+    ∷ 110 ∷ 9 ∷ 53 ∷ 9 ∷ 48 ∷ 9 ∷ 49 ∷ 10
+    ∷ 110 ∷ 9 ∷ 53 ∷ 9 ∷ 49 ∷ 9 ∷ 48 ∷ 10 ∷ []
+
+job-answered : answerTo jobText ≡ answerText
+unfolding every rejected putRow clearedFrom lines kindLine kind sortOf takes countFits argumentFits operandPlaced operandSorted goodEntry goodNode tableLengthFits storeLengthFits tableChecked storeChecked bind has masked byKind table nth put zip agree when given again walk strategy variable matching building does roomFor settled after runPlan run row named bindings ran number bindingWord bindingWords returned sizesFit boundBelow startFits refused runOf parts valued numberOf numbersOf digits letterOf nameOf jobFits entryFits nodeFits bindingFits fits lineOf entryRow nodeRow zeros admitted headed tableWith storeWith bindingsWith with readLines meant nameText numbersText lineText written nodeShown nodeNumbers nodeLines bindingLine bindingLines shown answerLine answered runText meantText answerTo
+job-answered = refl

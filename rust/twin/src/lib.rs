@@ -1,0 +1,50 @@
+//! A second interpreter of System S, written from document 01 alone.
+//!
+//! It exists to be compared with another implementation. So it shares no code
+//! with it, and it takes the plainest way: recursive functions over the words.
+//! Each piece quotes the sentence of 01 that it carries out.
+//!
+//! The files in reading order: `checks` (the table check, the store check),
+//! `free` (free variables), `engine` (the run), `job` (the job program), then
+//! `text` (cases as lines), `random`, `generate` and `statistics`.
+//!
+//! A run may go 4,096 visits deep, and each visit is a call. So runs belong on
+//! a thread with a big stack: see [`with_big_stack`].
+
+#![forbid(unsafe_code)]
+#![warn(missing_docs)]
+
+pub mod checks;
+pub mod engine;
+pub mod free;
+pub mod generate;
+pub mod job;
+pub mod random;
+pub mod statistics;
+pub mod text;
+
+pub use checks::{check_store, check_table};
+pub use engine::{run, Outcome};
+pub use free::free_variables;
+pub use job::job;
+
+/// The stack, in bytes, that is ample for 4,096 nested visits in any build.
+pub const STACK_BYTES: usize = 256 << 20;
+
+/// Runs `work` on a thread with a stack of [`STACK_BYTES`] and gives its result.
+///
+/// # Panics
+///
+/// When the thread cannot be started, or when `work` itself panics.
+pub fn with_big_stack<T, F>(work: F) -> T
+where
+    T: Send + 'static,
+    F: FnOnce() -> T + Send + 'static,
+{
+    std::thread::Builder::new()
+        .stack_size(STACK_BYTES)
+        .spawn(work)
+        .expect("a thread with a big stack")
+        .join()
+        .expect("the work ends without a panic")
+}

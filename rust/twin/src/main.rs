@@ -1,0 +1,122 @@
+//! The program `twin`: makes cases, answers them and counts them.
+//!
+//! `twin generate run|free|jobs SEED COUNT` writes cases.
+//! `twin answer run|free|jobs` reads cases and writes answers.
+//! `twin job` reads one job's text and writes its answer.
+//! `twin statistics run|free|jobs SEED COUNT` counts what the cases cover.
+
+#![forbid(unsafe_code)]
+
+use std::io::{self, BufRead, BufWriter, Read, Write};
+use std::process::ExitCode;
+use twin::generate::{free_case, job_text, run_case};
+use twin::text::{push_framed, take_framed, FreeCase, RunCase};
+
+/// How the program is used.
+const USAGE: &str = "usage: twin generate run|free|jobs SEED COUNT
+       twin answer run|free|jobs
+       twin job
+       twin statistics run|free|jobs SEED COUNT";
+
+/// Writes COUNT cases of a kind.
+fn generate(kind: &str, seed: u64, count: u64) -> Result<(), String> {
+    let mut output = BufWriter::new(io::stdout());
+    for index in 0..count {
+        let bytes = match kind {
+            "run" => run_case(seed, index).line().into_bytes(),
+            "free" => free_case(seed, index).line().into_bytes(),
+            "jobs" => {
+                let mut framed = Vec::new();
+                push_framed(&mut framed, &job_text(seed, index));
+                framed
+            }
+            _ => return Err(USAGE.to_string()),
+        };
+        output.write_all(&bytes).map_err(|e| e.to_string())?;
+        if kind != "jobs" {
+            output.write_all(b"\n").map_err(|e| e.to_string())?;
+        }
+    }
+    output.flush().map_err(|e| e.to_string())
+}
+
+/// Answers all cases on standard input.
+fn answer(kind: &str) -> Result<(), String> {
+    let mut output = BufWriter::new(io::stdout());
+    match kind {
+        "run" | "free" => {
+            for line in io::stdin().lock().lines() {
+                let line = line.map_err(|e| e.to_string())?;
+                let answer = if kind == "run" {
+                    RunCase::parse(&line)?.answer()
+                } else {
+                    FreeCase::parse(&line)?.answer()
+                };
+                writeln!(output, "{}", answer).map_err(|e| e.to_string())?;
+            }
+        }
+        "jobs" => {
+            let bytes = read_all()?;
+            let mut stream = &bytes[..];
+            while let Some(text) = take_framed(&mut stream)? {
+                let mut framed = Vec::new();
+                push_framed(&mut framed, &twin::job(text));
+                output.write_all(&framed).map_err(|e| e.to_string())?;
+            }
+        }
+        _ => return Err(USAGE.to_string()),
+    }
+    output.flush().map_err(|e| e.to_string())
+}
+
+/// All of standard input.
+fn read_all() -> Result<Vec<u8>, String> {
+    let mut bytes = Vec::new();
+    io::stdin()
+        .lock()
+        .read_to_end(&mut bytes)
+        .map_err(|e| e.to_string())?;
+    Ok(bytes)
+}
+
+/// Answers one job on standard input.
+fn one_job() -> Result<(), String> {
+    let answer = twin::job(&read_all()?);
+    io::stdout().write_all(&answer).map_err(|e| e.to_string())
+}
+
+/// Prints what COUNT cases of a kind cover.
+fn statistics(kind: &str, seed: u64, count: u64) -> Result<(), String> {
+    let report = match kind {
+        "run" => twin::statistics::of_runs(seed, count),
+        "free" => twin::statistics::of_frees(seed, count),
+        "jobs" => twin::statistics::of_jobs(seed, count),
+        _ => return Err(USAGE.to_string()),
+    };
+    print!("{}", report);
+    Ok(())
+}
+
+/// Does what the words of the command line ask for.
+fn work(words: &[String]) -> Result<(), String> {
+    let number = |text: &str| text.parse::<u64>().map_err(|_| USAGE.to_string());
+    let words: Vec<&str> = words.iter().map(|word| word.as_str()).collect();
+    match words[..] {
+        ["generate", kind, seed, count] => generate(kind, number(seed)?, number(count)?),
+        ["answer", kind] => answer(kind),
+        ["job"] => one_job(),
+        ["statistics", kind, seed, count] => statistics(kind, number(seed)?, number(count)?),
+        _ => Err(USAGE.to_string()),
+    }
+}
+
+fn main() -> ExitCode {
+    let words: Vec<String> = std::env::args().skip(1).collect();
+    match twin::with_big_stack(move || work(&words)) {
+        Ok(()) => ExitCode::SUCCESS,
+        Err(message) => {
+            eprintln!("{}", message);
+            ExitCode::FAILURE
+        }
+    }
+}

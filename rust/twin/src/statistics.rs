@@ -1,0 +1,301 @@
+//! What the generated cases cover, counted.
+
+use crate::checks::kind;
+use crate::engine::{run_watched, Watcher};
+use crate::free::free_variables;
+use crate::generate::{free_case, job_text, run_case};
+use crate::job::job;
+use std::collections::BTreeMap;
+use std::fmt::Write;
+
+/// What a watcher counts over many runs.
+#[derive(Default)]
+struct Counts {
+    visits: [u64; 20],
+    runs_with: [u64; 20],
+    seen: [bool; 20],
+    pairs: u64,
+    equal_same: u64,
+    equal_other: u64,
+    different: u64,
+    nodes: u64,
+    caught: u64,
+    caught_nodes: u64,
+    caught_bindings: u64,
+    caught_both: u64,
+    deepest: u32,
+}
+
+impl Watcher for Counts {
+    fn visited(&mut self, kind: u32, nesting: u32) {
+        self.visits[kind as usize] += 1;
+        self.seen[kind as usize] = true;
+        self.deepest = self.deepest.max(nesting);
+    }
+
+    fn compared(&mut self, nesting: u32) {
+        self.pairs += 1;
+        self.deepest = self.deepest.max(nesting);
+    }
+
+    fn judged(&mut self, left: u32, right: u32, equal: bool) {
+        match (equal, left == right) {
+            (true, true) => self.equal_same += 1,
+            (true, false) => self.equal_other += 1,
+            (false, _) => self.different += 1,
+        }
+    }
+
+    fn made(&mut self, _mark: u32) {
+        self.nodes += 1;
+    }
+
+    fn caught(&mut self, nodes: u32, bindings: bool) {
+        self.caught += 1;
+        self.caught_nodes += u64::from(nodes > 0);
+        self.caught_bindings += u64::from(bindings);
+        self.caught_both += u64::from(nodes > 0 && bindings);
+    }
+}
+
+/// The name of the span of sizes that a number falls in.
+fn span(number: u32) -> &'static str {
+    match number {
+        0 => "0",
+        1 => "1",
+        2..=3 => "2-3",
+        4..=7 => "4-7",
+        8..=15 => "8-15",
+        16..=31 => "16-31",
+        32..=127 => "32-127",
+        128..=1_023 => "128-1023",
+        1_024..=4_095 => "1024-4095",
+        _ => "4096 and more",
+    }
+}
+
+/// The spans in their order.
+const SPANS: [&str; 10] = [
+    "0",
+    "1",
+    "2-3",
+    "4-7",
+    "8-15",
+    "16-31",
+    "32-127",
+    "128-1023",
+    "1024-4095",
+    "4096 and more",
+];
+
+/// Writes one line of a report. A string takes all text, so it cannot fail.
+fn say(report: &mut String, line: std::fmt::Arguments) {
+    report.write_fmt(line).expect("a string takes all text");
+    report.push('\n');
+}
+
+/// Counts over so many generated runs. Call it on a big stack.
+pub fn of_runs(seed: u64, count: u64) -> String {
+    let mut answers = [0u64; 9];
+    let mut used: BTreeMap<&str, [u64; 9]> = BTreeMap::new();
+    let mut built: BTreeMap<&str, u64> = BTreeMap::new();
+    let mut counts = Counts::default();
+    let mut small = 0u64;
+    let mut large = 0u64;
+    let mut garbage = 0u64;
+    let mut prebound = 0u64;
+    let mut bindings_changed = 0u64;
+    let mut bindings_done = 0u64;
+    let mut deepest_exact = 0u64;
+    let mut exact_units = [0u64; 9];
+    let mut exact_room = 0u64;
+    for index in 0..count {
+        let mut case = run_case(seed, index);
+        small += u64::from(case.store.len() <= 512);
+        large += u64::from(case.table.len() > 320);
+        let first = (8 * u64::from(case.mark)).min(case.store.len() as u64) as usize;
+        garbage += u64::from(case.store[first..].iter().any(|&word| word != 0));
+        prebound += u64::from(case.bindings.iter().any(|&word| word != 0));
+        let before = case.bindings.clone();
+        counts.seen = [false; 20];
+        counts.deepest = 0;
+        let outcome = run_watched(
+            &case.table,
+            &mut case.store,
+            &mut case.bindings,
+            case.mark,
+            case.start,
+            case.subject,
+            case.units,
+            &mut counts,
+        );
+        for (kind, seen) in counts.seen.iter().enumerate() {
+            counts.runs_with[kind] += u64::from(*seen);
+        }
+        let answer = outcome.answer as usize;
+        answers[answer] += 1;
+        if !(2..=5).contains(&answer) {
+            used.entry(span(outcome.units)).or_default()[answer] += 1;
+            exact_units[answer] += u64::from(outcome.units == case.units);
+        }
+        if answer == 0 {
+            *built.entry(span(outcome.mark - case.mark)).or_default() += 1;
+            bindings_changed += u64::from(before != case.bindings);
+            bindings_done += u64::from(case.bindings.iter().any(|&word| word != 0));
+            exact_room += u64::from(
+                outcome.mark > case.mark && outcome.mark as usize == case.store.len() / 8,
+            );
+        }
+        if answer < 2 {
+            deepest_exact += u64::from(counts.deepest >= 4_090);
+        }
+    }
+
+    let mut report = String::new();
+    let text = &mut report;
+    say(text, format_args!("runs {}, seed {}", count, seed));
+    for (answer, number) in answers.iter().enumerate() {
+        let share = 100.0 * *number as f64 / count.max(1) as f64;
+        say(
+            text,
+            format_args!("answer {}: {} ({:.1} %)", answer, number, share),
+        );
+    }
+    say(
+        text,
+        format_args!("units used: number of runs with answer 0, 1, 6, 7, 8"),
+    );
+    for name in SPANS {
+        if let Some(row) = used.get(name) {
+            say(
+                text,
+                format_args!(
+                    "  {}: {} {} {} {} {}",
+                    name, row[0], row[1], row[6], row[7], row[8]
+                ),
+            );
+        }
+    }
+    say(
+        text,
+        format_args!(
+            "all given units used: done {}, failed {}, room {}",
+            exact_units[0], exact_units[1], exact_units[7]
+        ),
+    );
+    say(text, format_args!("done runs by new nodes kept"));
+    for name in SPANS {
+        if let Some(number) = built.get(name) {
+            say(text, format_args!("  {}: {}", name, number));
+        }
+    }
+    say(
+        text,
+        format_args!("done runs that fill the store exactly: {}", exact_room),
+    );
+    say(
+        text,
+        format_args!(
+            "done runs that change the bindings: {}, that end with some: {}",
+            bindings_changed, bindings_done
+        ),
+    );
+    say(
+        text,
+        format_args!("done or failed at a nesting from 4090: {}", deepest_exact),
+    );
+    say(text, format_args!("kind: visits, runs that visit it"));
+    for (kind, name) in kind::NAMES.iter().enumerate() {
+        say(
+            text,
+            format_args!(
+                "  {}: {}, {}",
+                name, counts.visits[kind], counts.runs_with[kind]
+            ),
+        );
+    }
+    say(text, format_args!("pairs compared: {}", counts.pairs));
+    say(
+        text,
+        format_args!(
+            "bound variables met: equal by the same node {}, equal by another node {}, different {}",
+            counts.equal_same, counts.equal_other, counts.different
+        ),
+    );
+    say(text, format_args!("nodes made: {}", counts.nodes));
+    say(
+        text,
+        format_args!(
+            "failures caught: {}, dropping nodes {}, dropping bindings {}, both {}",
+            counts.caught, counts.caught_nodes, counts.caught_bindings, counts.caught_both
+        ),
+    );
+    say(
+        text,
+        format_args!(
+            "stores of 64 nodes or fewer: {}; tables over 40 entries: {}; garbage above the mark: {}; bindings given: {}",
+            small, large, garbage, prebound
+        ),
+    );
+    report
+}
+
+/// Counts over so many questions of free variables.
+pub fn of_frees(seed: u64, count: u64) -> String {
+    let mut answers = [0u64; 9];
+    let mut sizes: BTreeMap<u32, u64> = BTreeMap::new();
+    for index in 0..count {
+        let case = free_case(seed, index);
+        let (answer, _, mask) = free_variables(&case.table, case.entry);
+        answers[answer as usize] += 1;
+        if answer == 0 {
+            *sizes.entry(mask.count_ones()).or_default() += 1;
+        }
+    }
+    let mut report = String::new();
+    let text = &mut report;
+    say(text, format_args!("questions {}, seed {}", count, seed));
+    for &answer in &[0, 2, 3, 5] {
+        say(text, format_args!("answer {}: {}", answer, answers[answer]));
+    }
+    say(text, format_args!("free variables: number of questions"));
+    for (size, number) in sizes {
+        say(text, format_args!("  {}: {}", size, number));
+    }
+    report
+}
+
+/// Counts over so many job texts. Call it on a big stack.
+pub fn of_jobs(seed: u64, count: u64) -> String {
+    let mut answers = [0u64; 10];
+    let mut places: BTreeMap<&str, u64> = BTreeMap::new();
+    for index in 0..count {
+        let text = job(&job_text(seed, index));
+        let line = String::from_utf8_lossy(&text).into_owned();
+        let numbers: Vec<u32> = line
+            .lines()
+            .next()
+            .unwrap_or("")
+            .split('\t')
+            .skip(1)
+            .map(|field| field.parse().expect("an answer is a line of numbers"))
+            .collect();
+        answers[numbers[0] as usize] += 1;
+        if numbers[0] == 9 {
+            *places.entry(span(numbers[1])).or_default() += 1;
+        }
+    }
+    let mut report = String::new();
+    let text = &mut report;
+    say(text, format_args!("jobs {}, seed {}", count, seed));
+    for (answer, number) in answers.iter().enumerate() {
+        say(text, format_args!("answer {}: {}", answer, number));
+    }
+    say(text, format_args!("answer 9 by its place"));
+    for name in SPANS {
+        if let Some(number) = places.get(name) {
+            say(text, format_args!("  {}: {}", name, number));
+        }
+    }
+    report
+}
