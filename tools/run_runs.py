@@ -566,7 +566,8 @@ def deep():
     for name, head, chain in (("TEST", (16 * TEST + 1, 0, 0), 1), ("WHERE", (16 * WHERE + 1, 0, 0), 1), ("NOT", (16 * NOT + 1, 0, 0), 1),
                               ("SCOPE", (16 * SCOPE + 1, 3, 0), 1), ("PATH", (16 * PATH + 1, 1, 0), 4096), ("CONG", (16 * CONG + 1, 1, 0), 4096),
                               ("ALL", (16 * ALL + 1, 0, 0), 4096), ("ONE", (16 * ONE + 1, 0, 0), 4096), ("SOME", (16 * SOME + 1, 0, 0), 4096),
-                              ("SEQ", (16 * SEQ + 2, 0, 4095), 1), ("LEFT", (16 * LEFT + 2, 0, 4095), 1), ("REC", (16 * REC + 1, 0, 0), 1)):
+                              ("SEQ", (16 * SEQ + 2, 0, 4095), 1), ("LEFT", (16 * LEFT + 2, 0, 4095), 1),
+                              ("CHOICE", (16 * CHOICE + 2, 0, 4095), 1), ("REC", (16 * REC + 1, 0, 0), 1)):
         more = dict(tlen=32768, mark=chain, fill=3, head=head, units=100000, bound=[(0, 0)], slen=8 * (2 * chain + 2))
         case("%s nested 4096 deep" % name, **more)
         case("%s nested 4097 deep" % name, {0: entry(REC, 0, 1), 4095: entry(CALL, 0, 0)}, **more)
@@ -670,7 +671,7 @@ def write():
     for part in (small_runs, refusals, needed, children, bindings, limits, deep, full, random_jobs):
         part()
     out = pathlib.Path(sys.argv[1])
-    assert len("".join(cases)) < 131072
+    assert all(len(c) <= 131072 for c in cases)
     (out / "stdin").write_text("".join(cases))
     (out / "stdout").write_text("".join(answers))
     print("%d cases, %d bytes in, %d bytes out" % (len(cases), len("".join(cases)), len("".join(answers))))

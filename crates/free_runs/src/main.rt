@@ -167,7 +167,7 @@ fn run_all(text: &[u8], words: &mut [u32; 32784]) {
 }
 
 fn main() {
-    let mut text = io::large_buffer();
+    let mut text = [0u8; 262144];
     let n = io::read_full(STDIN_FILENO, &mut text);
     let mut words = [0u32; 32784];
     run_all(&text[..n], &mut words);

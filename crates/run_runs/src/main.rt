@@ -1,4 +1,4 @@
-// Runs `run` on the cases of standard input and prints what comes back. A case is a line:
+// Runs `run` on the cases of standard input and prints what comes back. A case is a line, of at most 131,072 bytes:
 //
 //     TABLE STORE BINDINGS MARK START SUBJECT UNITS FILL HEAD ARGUMENT SECOND PATCHES (SLICE WORD VALUE).. LABEL
 //
@@ -74,21 +74,6 @@ fn heads(line: &[u8]) -> Given {
         i += 1;
     }
     Given { words, next: at }
-}
-
-// Where the line that holds `start` ends.
-fn line_end(text: &[u8], start: usize) -> usize
-    requires { ⌜ start ≤ length (now text) ⌝ }
-    ensures { λ r. ⌜ (start ≤ r) × (r ≤ length (now (text .entry))) ⌝ }
-{
-    let mut i = start;
-    while i < text.len() {
-        if text[i] == b'\n' {
-            return i;
-        }
-        i += 1;
-    }
-    i
 }
 
 // The table of n entries of which each but the last has these words and the next entry as its first operand.
@@ -325,31 +310,66 @@ fn case(line: &[u8], table: &mut [u32], store: &mut [u32], bindings: &mut [u32])
     );
 }
 
-// The cases of the text, line by line.
-fn cases(text: &[u8], table: &mut [u32], store: &mut [u32], bindings: &mut [u32]) {
-    let mut at = 0;
-    while at < text.len() {
-        let end = line_end(text, at);
-        case(&text[at..end], table, store, bindings);
-        at = end + 1;
-    }
+fn wide(b: u8) -> u32 {
+    b as u32
 }
 
-// The cases of the text, run in arrays that are one row longer than the longest.
+// The next byte of standard input; 256 where there is none.
+fn next_byte() -> u32 {
+    let mut one = [0u8; 1];
+    if io::read_full(STDIN_FILENO, &mut one) == 0 {
+        return 256;
+    }
+    wide(one[0])
+}
+
+// Reads a line, without its line feed: how long it is, or one more than the buffer holds at the end of the input.
+fn read_line(text: &mut [u8]) -> usize
+    ensures { λ r. ⌜ r ≤ length (now (text .entry)) + 1 ⌝ }
+{
+    let mut n: usize = 0;
+    while n < text.len() {
+        let b = next_byte();
+        if b == 10 {
+            return n;
+        }
+        if 255 < b {
+            return text.len() + 1;
+        }
+        text[n] = b as u8;
+        n += 1;
+    }
+    n
+}
+
+// The case of the next line: whether there is one.
+fn next_case(text: &mut [u8], table: &mut [u32], store: &mut [u32], bindings: &mut [u32]) -> bool {
+    let n = read_line(text);
+    if text.len() < n {
+        return false;
+    }
+    case(&text[..n], table, store, bindings);
+    true
+}
+
+// The cases of standard input, run in arrays that are one row longer than the longest. Nothing says that the input ends, so
+// the turns are counted down from a number that no run uses up.
 fn run_all(
-    text: &[u8],
+    text: &mut [u8; 131072],
     table: &mut [u32; 32776],
     store: &mut [u32; 1048584],
     bindings: &mut [u32; 40],
 ) {
-    cases(text, table, store, bindings);
+    let mut turns = u64::MAX;
+    while turns > 0 && next_case(text, table, store, bindings) {
+        turns -= 1;
+    }
 }
 
 fn main() {
     let mut text = [0u8; 131072];
-    let n = io::read_full(STDIN_FILENO, &mut text);
     let mut table = [0u32; 32776];
     let mut store = [0u32; 1048584];
     let mut bindings = [0u32; 40];
-    run_all(&text[..n], &mut table, &mut store, &mut bindings);
+    run_all(&mut text, &mut table, &mut store, &mut bindings);
 }
