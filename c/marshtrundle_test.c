@@ -1,0 +1,172 @@
+/*
+ * Calls the library by its C header: the job of document 01, the refusals, and null with length 0 everywhere. Prints what is
+ * wrong, or one line that nothing is. Plain C99. Of the C library it takes puts alone, and declares it, so that it compiles
+ * where the C library's headers are not at hand.
+ */
+#include "marshtrundle.h"
+
+int puts(const char *text);
+
+static int wrong = 0;
+static int held = 0;
+
+static void hold(int what, const char *text)
+{
+    if (what) {
+        held++;
+    } else {
+        wrong++;
+        puts(text);
+    }
+}
+
+static int same(const uint32_t *a, const uint32_t *b, size_t words)
+{
+    size_t i;
+    for (i = 0; i < words; i++)
+        if (a[i] != b[i])
+            return 0;
+    return 1;
+}
+
+static int is(const uint32_t *numbers, uint32_t a, uint32_t b, uint32_t c, uint32_t d, uint32_t e)
+{
+    return numbers[MT_ANSWER] == a && numbers[MT_PLACE] == b && numbers[MT_SUBJECT] == c && numbers[MT_MARK] == d &&
+           numbers[MT_UNITS] == e;
+}
+
+/* Swaps a pair: the first job of document 01. */
+static const uint32_t table[64] = {
+    MT_ENTRY(MT_SCOPE, 1), 3, 1, 0, 0, 0, 0, 0, /* 0 */
+    MT_ENTRY(MT_SEQ, 2),   0, 2, 3, 0, 0, 0, 0, /* 1 */
+    MT_ENTRY(MT_MATCH, 1), 0, 4, 0, 0, 0, 0, 0, /* 2 */
+    MT_ENTRY(MT_BUILD, 1), 0, 5, 0, 0, 0, 0, 0, /* 3 */
+    MT_ENTRY(MT_PCON, 2),  5, 6, 7, 0, 0, 0, 0, /* 4 */
+    MT_ENTRY(MT_PCON, 2),  5, 7, 6, 0, 0, 0, 0, /* 5 */
+    MT_ENTRY(MT_PVAR, 0),  0, 0, 0, 0, 0, 0, 0, /* 6 */
+    MT_ENTRY(MT_PVAR, 0),  1, 0, 0, 0, 0, 0, 0  /* 7 */
+};
+
+/* The nodes 1, 2 and 5(0, 1), and room for one more. The room holds what was there before. */
+static const uint32_t given[32] = {1, 0, 0, 0, 0, 0, 0, 0, 2, 0, 0, 0, 0, 0, 0, 0,
+                                   5, 2, 0, 1, 0, 0, 0, 0, 9, 9, 9, 9, 9, 9, 9, 9};
+static const uint32_t after[32] = {1, 0, 0, 0, 0, 0, 0, 0, 2, 0, 0, 0, 0, 0, 0, 0,
+                                   5, 2, 0, 1, 0, 0, 0, 0, 5, 2, 1, 0, 0, 0, 0, 0};
+
+static uint32_t store[32];
+static uint32_t bindings[MT_VARIABLES];
+static uint32_t numbers[5];
+
+static void fresh(void)
+{
+    size_t i;
+    for (i = 0; i < 32; i++) {
+        store[i] = given[i];
+        bindings[i] = 0;
+        numbers[i % 5] = 77;
+    }
+}
+
+static void the_job(void)
+{
+    static const uint32_t zeros[32];
+    fresh();
+    mt_run(table, 64, store, 32, bindings, 32, 3, 0, 2, 10, numbers);
+    hold(is(numbers, MT_DONE, 0, 3, 4, 10), "S1: the numbers");
+    hold(same(store, after, 32), "S1: the store");
+    hold(same(bindings, zeros, 32), "S1: the bindings");
+    fresh();
+    mt_run(table, 64, store, 32, bindings, 32, 3, 0, 2, 9, numbers);
+    hold(is(numbers, MT_OUT_OF_UNITS, 0, 2, 3, 9), "S2: the numbers");
+    hold(same(store, given, 24) && same(store + 24, zeros, 8), "S2: the store");
+    fresh();
+    mt_run(table, 64, store, 24, bindings, 32, 3, 0, 2, 10, numbers);
+    hold(is(numbers, MT_OUT_OF_ROOM, 0, 2, 3, 10), "S3: the numbers");
+    hold(same(store, given, 32), "S3: the store");
+    mt_check_table(table, 64, numbers);
+    hold(numbers[0] == MT_DONE && numbers[1] == 0, "the table check");
+    mt_check_store(given, 32, 3, numbers);
+    hold(numbers[0] == MT_DONE && numbers[1] == 0, "the store check");
+    mt_check_store(given, 32, 4, numbers);
+    hold(numbers[0] == MT_BAD_NODE && numbers[1] == 3, "the store check of the room");
+    mt_free_variables(table, 64, 0, numbers);
+    hold(numbers[0] == MT_DONE && numbers[1] == 0 && numbers[MT_MASK] == 0, "free variables of the scope");
+    mt_free_variables(table, 64, 1, numbers);
+    hold(numbers[0] == MT_DONE && numbers[1] == 0 && numbers[MT_MASK] == 3, "free variables of the sequence");
+    mt_free_variables(table, 64, 4, numbers);
+    hold(numbers[0] == MT_BAD_START && numbers[MT_MASK] == 0, "free variables of a pattern");
+}
+
+static void refused(uint32_t answer, uint32_t place, uint32_t subject, uint32_t mark, const char *text)
+{
+    static const uint32_t zeros[32];
+    hold(is(numbers, answer, place, subject, mark, 0), text);
+    hold(same(store, given, 32) && same(bindings, zeros, 32), "a refusal wrote something");
+    fresh();
+}
+
+static void refusals(void)
+{
+    static const uint32_t bad[16] = {0, 0, 0, 0, 0, 0, 0, 0, MT_ENTRY(20, 0), 0, 0, 0, 0, 0, 0, 0};
+    fresh();
+    mt_run(table, 63, store, 32, bindings, 32, 3, 0, 2, 10, numbers);
+    refused(MT_BAD_SIZES, 0, 2, 3, "a table of 63 words");
+    mt_run(table, 64, store, 31, bindings, 32, 3, 0, 2, 10, numbers);
+    refused(MT_BAD_SIZES, 0, 2, 3, "a store of 31 words");
+    mt_run(table, 64, store, 32, bindings, 31, 3, 0, 2, 10, numbers);
+    refused(MT_BAD_SIZES, 0, 2, 3, "bindings of 31 words");
+    mt_run(table, 64, store, 32, bindings, 32, 5, 0, 2, 10, numbers);
+    refused(MT_BAD_SIZES, 0, 2, 5, "a mark above the store's nodes");
+    mt_run(bad, 16, store, 32, bindings, 32, 3, 0, 2, 10, numbers);
+    refused(MT_BAD_ENTRY, 1, 2, 3, "a kind above 19");
+    mt_run(table, 64, store, 32, bindings, 32, 4, 0, 2, 10, numbers);
+    refused(MT_BAD_NODE, 3, 2, 4, "a bad node");
+    mt_run(table, 64, store, 32, bindings, 32, 3, 8, 2, 10, numbers);
+    refused(MT_BAD_START, 0, 2, 3, "a start outside the table");
+    mt_run(table, 64, store, 32, bindings, 32, 3, 6, 2, 10, numbers);
+    refused(MT_BAD_START, 0, 2, 3, "a start that is a pattern");
+    mt_run(table, 64, store, 32, bindings, 32, 3, 0, 3, 10, numbers);
+    refused(MT_BAD_START, 0, 3, 3, "a subject at the mark");
+}
+
+static void empty_slices(void)
+{
+    static const uint32_t zeros[8];
+    fresh();
+    mt_run(NULL, 0, NULL, 0, NULL, 0, 0, 0, 0, 0, numbers);
+    refused(MT_BAD_SIZES, 0, 0, 0, "null everywhere");
+    mt_run(NULL, 0, NULL, 0, NULL, 0, 1, 2, 3, 4, numbers);
+    refused(MT_BAD_SIZES, 0, 3, 1, "null everywhere, and numbers");
+    mt_run(NULL, 0, store, 32, bindings, 32, 3, 0, 2, 10, numbers);
+    refused(MT_BAD_SIZES, 0, 2, 3, "a null table");
+    mt_run(table, 64, NULL, 0, bindings, 32, 3, 0, 2, 10, numbers);
+    refused(MT_BAD_SIZES, 0, 2, 3, "a null store and a mark");
+    mt_run(table, 64, NULL, 0, bindings, 32, 0, 0, 0, 10, numbers);
+    refused(MT_BAD_START, 0, 0, 0, "a null store without nodes");
+    mt_run(table, 64, store, 32, NULL, 0, 3, 0, 2, 10, numbers);
+    refused(MT_BAD_SIZES, 0, 2, 3, "null bindings");
+    mt_run(NULL, 64, NULL, 32, NULL, 32, 0, 0, 0, 10, numbers);
+    refused(MT_BAD_SIZES, 0, 0, 0, "null is empty whatever its length");
+    mt_check_table(NULL, 0, numbers);
+    hold(numbers[0] == MT_BAD_SIZES && numbers[1] == 0, "the check of a null table");
+    mt_check_store(NULL, 0, 0, numbers);
+    hold(numbers[0] == MT_DONE && numbers[1] == 0, "the check of a null store");
+    mt_check_store(NULL, 0, 1, numbers);
+    hold(numbers[0] == MT_BAD_SIZES && numbers[1] == 0, "the check of a null store and a mark");
+    mt_free_variables(NULL, 0, 0, numbers);
+    hold(numbers[0] == MT_BAD_SIZES && numbers[1] == 0 && numbers[2] == 0, "free variables of a null table");
+    fresh();
+    mt_run(zeros, 8, store, 32, bindings, 32, 3, 0, 2, 0, numbers);
+    hold(is(numbers, MT_OUT_OF_UNITS, 0, 2, 3, 0), "no units");
+}
+
+int main(void)
+{
+    the_job();
+    refusals();
+    empty_slices();
+    if (wrong > 0 || held == 0)
+        return 1;
+    puts("the C header: all answers are right");
+    return 0;
+}

@@ -1,0 +1,190 @@
+/*
+ * Marshtrundle: runs System S strategies over a store of terms.
+ *
+ * Link with libmarshtrundle.a, which `rt staticlib marshtrundle` writes to target/staticlib. It is x86-64 code for the
+ * System V calling convention. It needs memcpy and memset of the C library and nothing else. C99 or later, or C++.
+ *
+ * Call the mt_ functions below. They take any words, any lengths and any numbers, and always give an answer.
+ *
+ * SLICES. A slice is a pointer and a number of 32-bit words, not of bytes. The pointer is aligned to 4 bytes and valid for
+ * that many words. A null pointer is an empty slice. What is written (store, bindings, numbers) overlaps nothing else that
+ * is passed in the same call. The table is only read, and the checks only read. Nothing else is asked of the caller.
+ *
+ * OWNERSHIP. All memory is the caller's. Nothing is allocated, no pointer is kept after the call, nothing is freed.
+ *
+ * THREADS. There is no global state. Calls in several threads may run at the same time if none writes what another uses.
+ * Several runs may share one table.
+ *
+ * THE STACK. Give a thread that calls mt_run MT_STACK bytes (2 MiB). A run nests at most 4,096 visits, and each form of
+ * visit takes its own number of bytes. The deepest, a nested pattern, takes 1.8 MiB in all; in this is a copy of the table,
+ * 128 KiB whatever the table's size. It is measured, not proved: the Rust crate's tests run 4,096 levels of each form on a
+ * thread of exactly 2 MiB. The other functions take less than 64 KiB. On a smaller stack a deep run ends in the thread's
+ * guard page, if it has one: the code touches every page of a large frame in order.
+ *
+ * THE STORE. Eight words to a node. Node k has words 8k to 8k + 7:
+ *   word 0       the constructor, 0 to 65,535
+ *   word 1       n, the number of children, 0 to 6
+ *   words 2..    n child nodes, each a number below k
+ *   the rest     zero
+ * At most 131,072 nodes. The mark is the number of nodes in use; they are nodes 0 to mark - 1. What stands behind them is
+ * room for new nodes and may hold anything. A term is a node below the mark. Two terms are equal when constructors, counts
+ * and children are, whatever their node numbers.
+ *
+ * THE BINDINGS. 32 words, one for each variable. 0 is unbound; any other word is a node number plus one.
+ *
+ * THE TABLE. Eight words to an entry, 1 to 4,096 entries. An entry's words:
+ *   word 0       16 * kind + number of operands; MT_ENTRY(kind, operands) gives it
+ *   word 1       the argument, zero where none is named
+ *   words 2..    the operands: entry numbers above the entry's own. CALL alone may name any REC.
+ *   the rest     zero
+ *
+ *   kind            operands  argument
+ *   MT_ID             0                      gives the term back
+ *   MT_FAIL           0                      fails
+ *   MT_TEST           1                      succeeds when the operand does; restores term and bindings
+ *   MT_NOT            1                      succeeds when the operand fails
+ *   MT_SEQ            2                      the first, then the second on what it gives
+ *   MT_CHOICE         2                      the first; where it fails the second, from the beginning
+ *   MT_LEFT           2                      as MT_CHOICE
+ *   MT_REC            1                      runs its body
+ *   MT_CALL           1                      runs the REC that it names
+ *   MT_PATH           1       1 to 6         runs on the child at this position
+ *   MT_CONG           0 to 6  constructor    needs constructor and count; each operand runs on its child
+ *   MT_ALL            1                      runs on every child, and needs every one to succeed
+ *   MT_ONE            1                      runs on the leftmost child that succeeds
+ *   MT_SOME           1                      runs on every child, and needs one to succeed
+ *   MT_MATCH          1                      compares with a pattern, binds its unbound variables
+ *   MT_BUILD          1                      makes a pattern's term; fails at an unbound variable
+ *   MT_SCOPE          1       mask           unbinds the variables of the mask, runs, puts them back
+ *   MT_WHERE          1                      runs, restores the term, keeps the bindings
+ *   MT_PVAR           0       0 to 31        pattern: a variable
+ *   MT_PCON           0 to 6  constructor    pattern: a constructor over patterns
+ * MATCH, BUILD and PCON take patterns; all others take strategies. In a mask bit v stands for variable v.
+ */
+#ifndef MARSHTRUNDLE_H
+#define MARSHTRUNDLE_H
+
+#include <stddef.h>
+#include <stdint.h>
+
+#ifdef __cplusplus
+extern "C" {
+#endif
+
+/* The most nodes of a store, entries of a table, levels of nesting; the words of the bindings; the stack for mt_run. */
+#define MT_NODES 131072
+#define MT_ENTRIES 4096
+#define MT_NESTING 4096
+#define MT_VARIABLES 32
+#define MT_STACK 2097152
+
+/* Word 0 of an entry. */
+#define MT_ENTRY(kind, operands) (16u * (uint32_t)(kind) + (uint32_t)(operands))
+
+enum mt_kind {
+    MT_ID = 0,
+    MT_FAIL = 1,
+    MT_TEST = 2,
+    MT_NOT = 3,
+    MT_SEQ = 4,
+    MT_CHOICE = 5,
+    MT_LEFT = 6,
+    MT_REC = 7,
+    MT_CALL = 8,
+    MT_PATH = 9,
+    MT_CONG = 10,
+    MT_ALL = 11,
+    MT_ONE = 12,
+    MT_SOME = 13,
+    MT_MATCH = 14,
+    MT_BUILD = 15,
+    MT_SCOPE = 16,
+    MT_WHERE = 17,
+    MT_PVAR = 18,
+    MT_PCON = 19
+};
+
+/*
+ * The answers. They are asked in the order 2, 3, 4, 5, then comes the run.
+ * In answers 2 to 5 nothing is written but the numbers.
+ * In answers 0, 1, 6, 7 and 8 the nodes below the given mark are unchanged, and every store word from the returned mark to
+ * the end is zero. In answers 1, 6, 7 and 8 the bindings are as given.
+ */
+enum mt_answer {
+    MT_DONE = 0,         /* new subject, mark and bindings */
+    MT_FAILED = 1,       /* the strategy failed */
+    MT_BAD_SIZES = 2,    /* the table is empty, over 32,768 words or no multiple of 8; the store is over 1,048,576 words or
+                            no multiple of 8; the bindings are not 32 words; the mark exceeds the store's nodes */
+    MT_BAD_ENTRY = 3,    /* an entry is malformed; the place is the lowest such entry */
+    MT_BAD_NODE = 4,     /* a node below the mark is malformed; the place is the lowest such node */
+    MT_BAD_START = 5,    /* the start is outside the table or a pattern; the subject is not below the mark; a binding
+                            word exceeds the mark */
+    MT_OUT_OF_UNITS = 6, /* all units were used */
+    MT_OUT_OF_ROOM = 7,  /* a node was to be made and the mark equals the store's nodes */
+    MT_TOO_DEEP = 8      /* a visit would have been nested deeper than 4,096 */
+    /* 9 is an answer of the job program alone: its text is malformed. No function here gives it. */
+};
+
+/* Where each number stands in `numbers`. */
+enum mt_number {
+    MT_ANSWER = 0,  /* one of enum mt_answer */
+    MT_PLACE = 1,   /* the bad entry or node in answers 3 and 4, and 0 otherwise */
+    MT_SUBJECT = 2, /* mt_run: the new subject in answer 0, and the given one otherwise */
+    MT_MARK = 3,    /* mt_run: the new mark in answer 0, and the given one otherwise */
+    MT_UNITS = 4,   /* mt_run: the visits counted; 0 in answers 2 to 5 */
+    MT_MASK = 2     /* mt_free_variables: the mask in answer 0, and 0 otherwise */
+};
+
+/* The archive's functions. They take no null pointer, not even with length 0: call the mt_ functions instead. */
+void marshtrundle_run(const uint32_t *table, size_t table_words, uint32_t *store, size_t store_words,
+                      uint32_t *bindings, size_t bindings_words, uint32_t mark, uint32_t start, uint32_t subject,
+                      uint32_t units, uint32_t numbers[5]);
+void marshtrundle_free_variables(const uint32_t *table, size_t table_words, uint32_t entry, uint32_t numbers[3]);
+void marshtrundle_check_table(const uint32_t *table, size_t words, uint32_t numbers[2]);
+void marshtrundle_check_store(const uint32_t *store, size_t words, uint32_t mark, uint32_t numbers[2]);
+
+/*
+ * Runs the strategy at entry `start` on the term at node `subject`, with at most `units` visits. One visit is an entry
+ * applied as a strategy, a pattern position met, or a pair of nodes compared. Any number of units is allowed.
+ * `numbers` gets answer, place, subject, mark and units used.
+ */
+static inline void mt_run(const uint32_t *table, size_t table_words, uint32_t *store, size_t store_words,
+                          uint32_t *bindings, size_t bindings_words, uint32_t mark, uint32_t start,
+                          uint32_t subject, uint32_t units, uint32_t numbers[5])
+{
+    uint32_t none[3] = {0, 0, 0};
+    marshtrundle_run(table ? table : &none[0], table ? table_words : 0, store ? store : &none[1],
+                     store ? store_words : 0, bindings ? bindings : &none[2], bindings ? bindings_words : 0, mark,
+                     start, subject, units, numbers);
+}
+
+/*
+ * Asks which variables the strategy at `entry` leaves free. `numbers` gets answer, place and mask. The answers are 0, 2
+ * (the table's length), 3 and 5 (`entry` is outside the table or a pattern).
+ */
+static inline void mt_free_variables(const uint32_t *table, size_t table_words, uint32_t entry,
+                                     uint32_t numbers[3])
+{
+    const uint32_t none = 0;
+    marshtrundle_free_variables(table ? table : &none, table ? table_words : 0, entry, numbers);
+}
+
+/* Checks a table as mt_run does. `numbers` gets answer (0, 2 or 3) and place. */
+static inline void mt_check_table(const uint32_t *table, size_t words, uint32_t numbers[2])
+{
+    const uint32_t none = 0;
+    marshtrundle_check_table(table ? table : &none, table ? words : 0, numbers);
+}
+
+/* Checks a store as mt_run does. `numbers` gets answer (0, 2 or 4) and place. */
+static inline void mt_check_store(const uint32_t *store, size_t words, uint32_t mark, uint32_t numbers[2])
+{
+    const uint32_t none = 0;
+    marshtrundle_check_store(store ? store : &none, store ? words : 0, mark, numbers);
+}
+
+#ifdef __cplusplus
+}
+#endif
+
+#endif

@@ -1,0 +1,163 @@
+//! What comes back from a run, and what a builder refuses.
+use crate::store::Node;
+use std::error::Error;
+use std::fmt;
+
+/// How a run ended. The number of each answer is document 01's, and [`Answer::number`] gives it.
+#[derive(Clone, Copy, Debug, PartialEq, Eq, Hash)]
+pub enum Answer {
+    /// 0: the strategy succeeded. The outcome has the new subject and mark; the bindings are the new ones.
+    Done,
+    /// 1: the strategy failed. Subject, mark and bindings are as given.
+    Failed,
+    /// 2: a length or the mark is bad. Nothing was written.
+    RefusedSizes,
+    /// 3: this entry is the lowest bad entry of the table. Nothing was written.
+    BadEntry(u32),
+    /// 4: this node is the lowest bad node below the mark. Nothing was written.
+    BadNode(u32),
+    /// 5: the start is outside the table or a pattern, the subject is not below the mark, or a binding names no node below
+    /// the mark. Nothing was written.
+    BadStart,
+    /// 6: all units were used before the run could end. Subject, mark and bindings are as given.
+    OutOfUnits,
+    /// 7: a node was to be made and the store was full. Subject, mark and bindings are as given.
+    OutOfRoom,
+    /// 8: a visit would have been nested deeper than 4,096. Subject, mark and bindings are as given.
+    TooDeep,
+}
+
+impl Answer {
+    /// The answer for the first two numbers that the archive gives back. Its contracts leave no answer above 8.
+    pub(crate) fn told(answer: u32, place: u32) -> Answer {
+        match answer {
+            0 => Answer::Done,
+            1 => Answer::Failed,
+            2 => Answer::RefusedSizes,
+            3 => Answer::BadEntry(place),
+            4 => Answer::BadNode(place),
+            5 => Answer::BadStart,
+            6 => Answer::OutOfUnits,
+            7 => Answer::OutOfRoom,
+            _ => Answer::TooDeep,
+        }
+    }
+
+    /// `Ok` for answer 0, and the answer itself otherwise.
+    pub(crate) fn checked(numbers: [u32; 2]) -> Result<(), Answer> {
+        match Answer::told(numbers[0], numbers[1]) {
+            Answer::Done => Ok(()),
+            other => Err(other),
+        }
+    }
+
+    /// The answer's number, 0 to 8.
+    pub fn number(self) -> u32 {
+        match self {
+            Answer::Done => 0,
+            Answer::Failed => 1,
+            Answer::RefusedSizes => 2,
+            Answer::BadEntry(_) => 3,
+            Answer::BadNode(_) => 4,
+            Answer::BadStart => 5,
+            Answer::OutOfUnits => 6,
+            Answer::OutOfRoom => 7,
+            Answer::TooDeep => 8,
+        }
+    }
+
+    /// The number of the bad entry or node, and 0 in all other answers.
+    pub fn place(self) -> u32 {
+        match self {
+            Answer::BadEntry(place) | Answer::BadNode(place) => place,
+            _ => 0,
+        }
+    }
+
+    /// True for answers 2 to 5: the input is malformed and nothing was run.
+    pub fn is_refusal(self) -> bool {
+        (2..=5).contains(&self.number())
+    }
+
+    /// True for answers 6 to 8: a limit was met.
+    pub fn is_cut_off(self) -> bool {
+        self.number() > 5
+    }
+}
+
+impl fmt::Display for Answer {
+    fn fmt(&self, f: &mut fmt::Formatter<'_>) -> fmt::Result {
+        match self {
+            Answer::Done => f.write_str("done"),
+            Answer::Failed => f.write_str("failed"),
+            Answer::RefusedSizes => f.write_str("a length or the mark is bad"),
+            Answer::BadEntry(e) => write!(f, "entry {e} is bad"),
+            Answer::BadNode(k) => write!(f, "node {k} is bad"),
+            Answer::BadStart => f.write_str("the start, the subject or a binding is bad"),
+            Answer::OutOfUnits => f.write_str("all units are used"),
+            Answer::OutOfRoom => f.write_str("the store has no room"),
+            Answer::TooDeep => f.write_str("a visit is nested too deep"),
+        }
+    }
+}
+
+impl Error for Answer {}
+
+/// What a run gives back.
+#[derive(Clone, Copy, Debug, PartialEq, Eq)]
+#[must_use]
+pub struct Outcome {
+    /// How the run ended.
+    pub answer: Answer,
+    /// The new subject if the run is done, and the given one otherwise.
+    pub subject: Node,
+    /// The new mark if the run is done, and the given one otherwise.
+    pub mark: u32,
+    /// The visits that were counted. 0 where the input was refused.
+    pub units: u32,
+}
+
+/// Why a table or a store could not be built.
+#[derive(Clone, Debug, PartialEq, Eq)]
+#[non_exhaustive]
+pub enum BuildError {
+    /// The table has no strategy.
+    NoStrategy,
+    /// The table would have this many entries; 4,096 are allowed.
+    TooManyEntries(usize),
+    /// A congruence or a pattern has this many operands; 6 are allowed.
+    TooManyOperands(usize),
+    /// A child position is not 1 to 6.
+    NoSuchPosition(u32),
+    /// Two strategies of the table have this name.
+    NameTwice(String),
+    /// A call names this strategy, and the table does not define it.
+    UnknownName(String),
+    /// A call was taken out of the `rec` that it belongs to, and the table does not have that `rec`.
+    CallOutsideRec,
+    /// A node has this many children; 6 are allowed.
+    TooManyChildren(usize),
+    /// A child is not in the store.
+    NoSuchChild(Node),
+    /// The store would have this many nodes; 131,072 are allowed.
+    TooManyNodes(usize),
+}
+
+impl fmt::Display for BuildError {
+    fn fmt(&self, f: &mut fmt::Formatter<'_>) -> fmt::Result {
+        match self {
+            BuildError::NoStrategy => f.write_str("the table has no strategy"),
+            BuildError::TooManyEntries(n) => write!(f, "{n} entries; at most 4096 are allowed"),
+            BuildError::TooManyOperands(n) => write!(f, "{n} operands; at most 6 are allowed"),
+            BuildError::NoSuchPosition(i) => write!(f, "child position {i} is not 1 to 6"),
+            BuildError::NameTwice(name) => write!(f, "two strategies are named '{name}'"),
+            BuildError::UnknownName(name) => write!(f, "no strategy is defined as '{name}'"),
+            BuildError::CallOutsideRec => f.write_str("a call stands outside its rec"),
+            BuildError::TooManyChildren(n) => write!(f, "{n} children; at most 6 are allowed"),
+            BuildError::NoSuchChild(node) => write!(f, "node {} is not there", node.number()),
+            BuildError::TooManyNodes(n) => write!(f, "{n} nodes; at most 131072 are allowed"),
+        }
+    }
+}
+
+impl Error for BuildError {}

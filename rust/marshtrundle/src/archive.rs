@@ -1,0 +1,91 @@
+//! The four functions of the archive, as safe functions over slices of words. This is the only module with `unsafe` in it.
+//!
+//! The archive asks one thing of its caller: each pointer is aligned and valid for its words, and what is lent for writing
+//! overlaps nothing else. Rust's references give this, empty slices too. So every word and every number is allowed here.
+
+extern "C" {
+    fn marshtrundle_run(
+        table: *const u32,
+        table_words: usize,
+        store: *mut u32,
+        store_words: usize,
+        bindings: *mut u32,
+        bindings_words: usize,
+        mark: u32,
+        start: u32,
+        subject: u32,
+        units: u32,
+        numbers: *mut u32,
+    );
+    fn marshtrundle_free_variables(
+        table: *const u32,
+        table_words: usize,
+        entry: u32,
+        numbers: *mut u32,
+    );
+    fn marshtrundle_check_table(table: *const u32, words: usize, numbers: *mut u32);
+    fn marshtrundle_check_store(store: *const u32, words: usize, mark: u32, numbers: *mut u32);
+}
+
+/// The run: answer, place, subject, mark and units used. The calling thread needs [`STACK`](crate::STACK) bytes of stack.
+#[allow(clippy::too_many_arguments)]
+pub fn run(
+    table: &[u32],
+    store: &mut [u32],
+    bindings: &mut [u32],
+    mark: u32,
+    start: u32,
+    subject: u32,
+    units: u32,
+) -> [u32; 5] {
+    let mut numbers = [0; 5];
+    // SAFETY: each pointer comes from a reference that lives through the call, and goes with its own length. The three
+    // that are written are mutable references, so they overlap nothing. The archive keeps no pointer. A stack that is too
+    // small ends at the guard page, for the archive's one large frame touches every page of it in order.
+    unsafe {
+        marshtrundle_run(
+            table.as_ptr(),
+            table.len(),
+            store.as_mut_ptr(),
+            store.len(),
+            bindings.as_mut_ptr(),
+            bindings.len(),
+            mark,
+            start,
+            subject,
+            units,
+            numbers.as_mut_ptr(),
+        );
+    }
+    numbers
+}
+
+/// The question of free variables: answer, place and mask.
+pub fn free_variables(table: &[u32], entry: u32) -> [u32; 3] {
+    let mut numbers = [0; 3];
+    // SAFETY: as in `run`. The table is only read, and `numbers` has the three words that are written.
+    unsafe {
+        marshtrundle_free_variables(table.as_ptr(), table.len(), entry, numbers.as_mut_ptr());
+    }
+    numbers
+}
+
+/// The table check: answer and place.
+pub fn check_table(table: &[u32]) -> [u32; 2] {
+    let mut numbers = [0; 2];
+    // SAFETY: as in `run`. The table is only read, and `numbers` has the two words that are written.
+    unsafe {
+        marshtrundle_check_table(table.as_ptr(), table.len(), numbers.as_mut_ptr());
+    }
+    numbers
+}
+
+/// The store check: answer and place.
+pub fn check_store(store: &[u32], mark: u32) -> [u32; 2] {
+    let mut numbers = [0; 2];
+    // SAFETY: as in `run`. The store is only read, and `numbers` has the two words that are written.
+    unsafe {
+        marshtrundle_check_store(store.as_ptr(), store.len(), mark, numbers.as_mut_ptr());
+    }
+    numbers
+}

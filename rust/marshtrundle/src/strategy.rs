@@ -1,0 +1,268 @@
+//! Strategies and patterns as values. A [`Table`](crate::Table) is laid out from them.
+//!
+//! Each function below makes one operator of System S. A value may be cloned and used in many places: the table then has
+//! its entries once. A mistake, as a seventh operand, does not end the program. It is kept in the value, and the table
+//! builder gives it back.
+use crate::answer::BuildError;
+use crate::bindings::{Var, VarSet};
+use std::fmt;
+use std::sync::Arc;
+
+pub(crate) const REC: u32 = 7;
+pub(crate) const CALL: u32 = 8;
+
+const NAMES: [&str; 20] = [
+    "ID", "FAIL", "TEST", "NOT", "SEQ", "CHOICE", "LEFT", "REC", "CALL", "PATH", "CONG", "ALL",
+    "ONE", "SOME", "MATCH", "BUILD", "SCOPE", "WHERE", "PVAR", "PCON",
+];
+
+/// What ties a call to its REC: a token that the two share, or a name.
+#[derive(Clone)]
+pub(crate) enum Tie {
+    Token(Arc<()>),
+    Name(Arc<str>),
+}
+
+/// One operator with its operands.
+pub(crate) struct Tree {
+    pub(crate) kind: u32,
+    pub(crate) argument: u32,
+    pub(crate) operands: Vec<Arc<Tree>>,
+    pub(crate) tie: Option<Tie>,
+    pub(crate) mistake: Option<BuildError>,
+}
+
+/// A tree can be deeper than the stack allows a call for each level, so it is taken apart in a loop.
+impl Drop for Tree {
+    fn drop(&mut self) {
+        let mut rest = std::mem::take(&mut self.operands);
+        while let Some(tree) = rest.pop() {
+            if let Ok(mut tree) = Arc::try_unwrap(tree) {
+                rest.append(&mut tree.operands);
+            }
+        }
+    }
+}
+
+/// A strategy: what a run applies to a term.
+#[derive(Clone)]
+pub struct Strategy(pub(crate) Arc<Tree>);
+
+/// A pattern: what [`match_`] compares a term with and [`build`] makes a term from.
+#[derive(Clone)]
+pub struct Pattern {
+    tree: Arc<Tree>,
+    vars: VarSet,
+}
+
+impl Strategy {
+    fn new(kind: u32, argument: u32, operands: Vec<Arc<Tree>>) -> Strategy {
+        Strategy(Arc::new(Tree {
+            kind,
+            argument,
+            operands,
+            tie: None,
+            mistake: None,
+        }))
+    }
+
+    fn of(kind: u32, operand: Strategy) -> Strategy {
+        Strategy::new(kind, 0, vec![operand.0])
+    }
+
+    fn of_two(kind: u32, first: Strategy, second: Strategy) -> Strategy {
+        Strategy::new(kind, 0, vec![first.0, second.0])
+    }
+
+    pub(crate) fn tied(kind: u32, operands: Vec<Arc<Tree>>, tie: Tie) -> Strategy {
+        Strategy(Arc::new(Tree {
+            kind,
+            argument: 0,
+            operands,
+            tie: Some(tie),
+            mistake: None,
+        }))
+    }
+}
+
+impl Pattern {
+    /// The variables that the pattern names.
+    pub fn vars(&self) -> VarSet {
+        self.vars
+    }
+}
+
+impl fmt::Debug for Strategy {
+    fn fmt(&self, f: &mut fmt::Formatter<'_>) -> fmt::Result {
+        write!(f, "Strategy({})", NAMES[self.0.kind as usize % 20])
+    }
+}
+
+impl fmt::Debug for Pattern {
+    fn fmt(&self, f: &mut fmt::Formatter<'_>) -> fmt::Result {
+        write!(f, "Pattern({})", NAMES[self.tree.kind as usize % 20])
+    }
+}
+
+/// ID: gives the term back.
+pub fn id() -> Strategy {
+    Strategy::new(0, 0, vec![])
+}
+
+/// FAIL: fails.
+pub fn fail() -> Strategy {
+    Strategy::new(1, 0, vec![])
+}
+
+/// TEST: succeeds when `s` does, and gives back term and bindings as they were.
+pub fn test(s: Strategy) -> Strategy {
+    Strategy::of(2, s)
+}
+
+/// NOT: succeeds when `s` fails, with term and bindings as they were.
+pub fn not(s: Strategy) -> Strategy {
+    Strategy::of(3, s)
+}
+
+/// SEQ: `first`, then `second` on what it gives.
+pub fn seq(first: Strategy, second: Strategy) -> Strategy {
+    Strategy::of_two(4, first, second)
+}
+
+/// CHOICE: `first`, and where it fails `second` on the term and the bindings of the beginning.
+pub fn choice(first: Strategy, second: Strategy) -> Strategy {
+    Strategy::of_two(5, first, second)
+}
+
+/// LEFT: as [`choice`]. System S leaves the order of a choice open and fixes that of a left choice; here both are fixed.
+pub fn left(first: Strategy, second: Strategy) -> Strategy {
+    Strategy::of_two(6, first, second)
+}
+
+/// REC: runs its body. The body gets the call of the whole: `rec(|again| left(seq(s, again), id()))`.
+pub fn rec(body: impl FnOnce(Strategy) -> Strategy) -> Strategy {
+    let token = Arc::new(());
+    let again = Strategy::tied(CALL, vec![], Tie::Token(Arc::clone(&token)));
+    Strategy::tied(REC, vec![body(again).0], Tie::Token(token))
+}
+
+/// CALL: runs the strategy that [`TableBuilder::define`](crate::TableBuilder::define) gave this name.
+pub fn call(name: &str) -> Strategy {
+    Strategy::tied(CALL, vec![], Tie::Name(Arc::from(name)))
+}
+
+/// PATH: runs `s` on the child at a position from 1 to 6, and fails where the term has no such child.
+pub fn path(position: u32, s: Strategy) -> Strategy {
+    let mistake = (!(1..=6).contains(&position)).then_some(BuildError::NoSuchPosition(position));
+    Strategy(Arc::new(Tree {
+        kind: 9,
+        argument: position,
+        operands: vec![s.0],
+        tie: None,
+        mistake,
+    }))
+}
+
+/// CONG: fails unless constructor and count agree, and then runs each operand on its child.
+pub fn cong(constructor: u16, operands: impl IntoIterator<Item = Strategy>) -> Strategy {
+    Strategy(many(
+        10,
+        constructor,
+        operands.into_iter().map(|s| s.0).collect(),
+    ))
+}
+
+/// ALL: runs `s` on every child, and needs every one to succeed.
+pub fn all(s: Strategy) -> Strategy {
+    Strategy::of(11, s)
+}
+
+/// ONE: runs `s` on the leftmost child where it succeeds.
+pub fn one(s: Strategy) -> Strategy {
+    Strategy::of(12, s)
+}
+
+/// SOME: runs `s` on every child, keeps a child where it fails, and needs at least one success.
+pub fn some(s: Strategy) -> Strategy {
+    Strategy::of(13, s)
+}
+
+/// MATCH: compares the term with the pattern, and binds the variables that are not bound yet.
+pub fn match_(pattern: Pattern) -> Strategy {
+    Strategy::new(14, 0, vec![pattern.tree])
+}
+
+/// BUILD: makes the pattern's term from the bindings, and fails at an unbound variable.
+pub fn build(pattern: Pattern) -> Strategy {
+    Strategy::new(15, 0, vec![pattern.tree])
+}
+
+/// SCOPE: unbinds the variables, runs `s`, and puts their outer bindings back.
+pub fn scope(vars: impl IntoIterator<Item = Var>, s: Strategy) -> Strategy {
+    let vars: VarSet = vars.into_iter().collect();
+    Strategy::new(16, vars.mask(), vec![s.0])
+}
+
+/// WHERE: runs `s`, puts the term back and keeps the new bindings.
+pub fn where_(s: Strategy) -> Strategy {
+    Strategy::of(17, s)
+}
+
+/// PVAR: the pattern that is a variable.
+pub fn var(var: Var) -> Pattern {
+    Pattern {
+        tree: Strategy::new(18, var.number(), vec![]).0,
+        vars: [var].into_iter().collect(),
+    }
+}
+
+/// PCON: the pattern that is a constructor over patterns.
+pub fn con(constructor: u16, operands: impl IntoIterator<Item = Pattern>) -> Pattern {
+    let mut vars = VarSet::default();
+    let mut trees = vec![];
+    for pattern in operands {
+        vars = vars.union(pattern.vars);
+        trees.push(pattern.tree);
+    }
+    Pattern {
+        tree: many(19, constructor, trees),
+        vars,
+    }
+}
+
+fn many(kind: u32, constructor: u16, operands: Vec<Arc<Tree>>) -> Arc<Tree> {
+    let mistake = (operands.len() > 6).then_some(BuildError::TooManyOperands(operands.len()));
+    Arc::new(Tree {
+        kind,
+        argument: u32::from(constructor),
+        operands,
+        tie: None,
+        mistake,
+    })
+}
+
+/// A rewrite rule: match `from`, build `to`, in a scope of the variables of both.
+pub fn rule(from: Pattern, to: Pattern) -> Strategy {
+    let vars = from.vars().union(to.vars());
+    scope(vars.iter(), seq(match_(from), build(to)))
+}
+
+/// `s`, or the term as it is where `s` fails.
+pub fn attempt(s: Strategy) -> Strategy {
+    left(s, id())
+}
+
+/// `s` as often as it succeeds.
+pub fn repeat(s: Strategy) -> Strategy {
+    rec(|again| left(seq(s, again), id()))
+}
+
+/// `s` on every subterm, children before parents.
+pub fn bottom_up(s: Strategy) -> Strategy {
+    rec(|again| seq(all(again), s))
+}
+
+/// `s` on every subterm, parents before children.
+pub fn top_down(s: Strategy) -> Strategy {
+    rec(|again| seq(s, all(again)))
+}
