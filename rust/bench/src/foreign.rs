@@ -1,0 +1,126 @@
+//! What is called through C: the proved engine, and the clock of a thread.
+//!
+//! This is the one file with unsafe code. Each block hands over pointers and
+//! lengths of slices that live through the call and overlap nowhere.
+
+#![allow(unsafe_code)]
+
+#[link(name = "marshtrundle", kind = "static")]
+extern "C" {
+    fn marshtrundle_run(
+        table: *const u32,
+        table_words: usize,
+        store: *mut u32,
+        store_words: usize,
+        bindings: *mut u32,
+        bindings_words: usize,
+        mark: u32,
+        start: u32,
+        subject: u32,
+        units: u32,
+        numbers: *mut u32,
+    );
+    fn marshtrundle_check_table(table: *const u32, table_words: usize, numbers: *mut u32);
+    fn marshtrundle_check_store(
+        store: *const u32,
+        store_words: usize,
+        mark: u32,
+        numbers: *mut u32,
+    );
+}
+
+/// The run: answer, place, subject, mark and units used.
+pub fn run(
+    table: &[u32],
+    store: &mut [u32],
+    bindings: &mut [u32],
+    mark: u32,
+    start: u32,
+    subject: u32,
+    units: u32,
+) -> [u32; 5] {
+    let mut numbers = [0; 5];
+    // The three slices are borrowed for the call, two of them alone; `numbers`
+    // is a local of five words.
+    unsafe {
+        marshtrundle_run(
+            table.as_ptr(),
+            table.len(),
+            store.as_mut_ptr(),
+            store.len(),
+            bindings.as_mut_ptr(),
+            bindings.len(),
+            mark,
+            start,
+            subject,
+            units,
+            numbers.as_mut_ptr(),
+        );
+    }
+    numbers
+}
+
+/// The table check: answer and place.
+pub fn check_table(table: &[u32]) -> [u32; 2] {
+    let mut numbers = [0; 2];
+    // The slice is borrowed for the call; `numbers` is a local of two words.
+    unsafe {
+        marshtrundle_check_table(table.as_ptr(), table.len(), numbers.as_mut_ptr());
+    }
+    numbers
+}
+
+/// The store check: answer and place.
+pub fn check_store(store: &[u32], mark: u32) -> [u32; 2] {
+    let mut numbers = [0; 2];
+    // The slice is borrowed for the call; `numbers` is a local of two words.
+    unsafe {
+        marshtrundle_check_store(store.as_ptr(), store.len(), mark, numbers.as_mut_ptr());
+    }
+    numbers
+}
+
+/// The processor time that this thread has had, in seconds. Time in which other
+/// programs have the core is not in it. Where there is no such clock it is the
+/// time of day.
+pub fn processor_time() -> f64 {
+    clock::read()
+}
+
+#[cfg(all(target_os = "linux", target_pointer_width = "64"))]
+mod clock {
+    #[repr(C)]
+    struct Moment {
+        seconds: i64,
+        nanoseconds: i64,
+    }
+
+    extern "C" {
+        fn clock_gettime(clock: i32, moment: *mut Moment) -> i32;
+    }
+
+    /// CLOCK_THREAD_CPUTIME_ID.
+    const OF_THE_THREAD: i32 = 3;
+
+    pub fn read() -> f64 {
+        let mut moment = Moment {
+            seconds: 0,
+            nanoseconds: 0,
+        };
+        // The pointer is to a local of the form that the function writes.
+        let answer = unsafe { clock_gettime(OF_THE_THREAD, &mut moment) };
+        assert_eq!(answer, 0, "the clock of a thread can be read");
+        moment.seconds as f64 + 1e-9 * moment.nanoseconds as f64
+    }
+}
+
+#[cfg(not(all(target_os = "linux", target_pointer_width = "64")))]
+mod clock {
+    use std::time::SystemTime;
+
+    pub fn read() -> f64 {
+        SystemTime::now()
+            .duration_since(SystemTime::UNIX_EPOCH)
+            .map_or(0.0, |since| since.as_secs_f64())
+    }
+}
