@@ -1,5 +1,6 @@
 -- A pair of nodes compared: constructor and count first, then the pairs of children from left to right.
-use mathlib.Core.Path.{_≡_, ap, sym, _∙_}
+use mathlib.Core.Path.{_≡_, refl, ap, sym, _∙_}
+use mathlib.Core.Logic.{inl, inr}
 use mathlib.Core.List.{List, [], _∷_, _++_}
 use Prim.Native.Nat.{ℕ, _+_, _-_, _≤_, _<_}
 use native.Mathlib.Omega.{arith}
@@ -12,10 +13,10 @@ use Rattle.meaning.specs.Rules.{compare, Do, does, comparing, agree, when, walk
 use Rattle.meaning.specs.Limits.{lost, runPlan}
 use Rattle.meaning.specs.Store.{on, Ran, children}
 use Rattle.engine.specs.declared.answers.Answer.{Answer}
-use Rattle.engine.specs.declared.answers.Answer.the-variants.{Done}
+use Rattle.engine.specs.declared.answers.Answer.the-variants.{Done, Failed, Cut}
 use Rattle.engine.specs.Answers.{toldOf, packed, failedWord}
-use Rattle.engine.specs.Visits.{countOf, visit, plan, kept}
-use Rattle.engine.proofs.Telling.{kept-done, kept-failed}
+use Rattle.engine.specs.Visits.{countOf, visit, plan, giving, kept}
+use Rattle.engine.proofs.Telling.{kept-done, kept-failed, kept-told}
 use Rattle.engine.proofs.Asking.{Tagged}
 use Rattle.engine.proofs.Kind.{counted}
 use Rattle.engine.proofs.Children.{part-length, part-next, part-end}
@@ -28,6 +29,10 @@ pairs w a b i gs β = walk (zip compare (drop i (children w a)) (drop i (childre
 -- from the i-th pair on, after the pairs gs, all ends as o
 abbrev pub Goes-on : List ℕ → ℕ → List ℕ → ℕ → ℕ → ℕ → Bindings ℕ → ℕ → ℕ → Ran → Type 0
 Goes-on t n w a b i β m u o = (gs : List ℕ) × (plan t n (pairs w a b i gs β) w m u ≡ o)
+
+-- a word that answers o for the pair with the second node y answers o′ for that with b
+abbrev pub Carried : List ℕ → ℕ → ℕ → Bindings ℕ → ℕ → Ran → Ran → Type 0
+Carried w y b β m o o′ = (r : ℕ) → kept r y β w m ≡ o → kept r b β w m ≡ o′
 
 module _ (w : List ℕ) (a b : ℕ) where
   -- the count is the number of children that are read
@@ -76,3 +81,22 @@ module _ (w : List ℕ) (a b : ℕ) where
 
       pub pair-stops : Tagged a′ 1 2 → kept r b β w m ≡ o
       pair-stops e = kept-stop t n w m u (g .0) β _ (compare x y) _ r y β is a′ told e b β ∙ next
+
+    -- the last pair: its answer is the answer of all
+    module _ (ha : i + 1 ≡ countOf w a) (hb : i + 1 ≡ countOf w b) (x y : ℕ) (xe : x ≡ wordAt w a (2 + i)) (ye : y ≡ wordAt w b (2 + i)) where
+      ended-last : (r : ℕ) → kept r y β w m ≡ visit t n (compare x y β) w m u → (a′ : Answer) → a′ ≡ toldOf r → (z v : ℕ) → a′ ≡ Done z v → kept r b β w m ≡ o
+      unfolding zip giving
+      ended-last r is a′ e z v f =
+          let g′ = pair-done (omega arith) (omega arith) x y r xe ye is a′ e z v f in
+          let h : countOf w a ≤ i + 1 = omega arith in
+          kept-told w w b β m r a′ e
+          ∙ rw f
+          (sym (walk-end t n w m v (g′ .0) β _ _ (rw (part-end w a _ (i + 1) h)) ∙ returned t n w m v b β) ∙ g′ .1)
+
+      pub last-pair : Carried w y b β m (visit t n (compare x y β) w m u) o
+      last-pair r is = go (toldOf r) refl
+        where
+          go : (a′ : Answer) → a′ ≡ toldOf r → kept r b β w m ≡ o
+          go (Done z v) e = ended-last r is (Done z v) e z v refl
+          go (Failed v) e = pair-stops (omega arith) (omega arith) x y r xe ye is (Failed v) e (inl refl)
+          go (Cut c) e = pair-stops (omega arith) (omega arith) x y r xe ye is (Cut c) e (inr refl)

@@ -1,15 +1,17 @@
--- `compare::same` meets its contract. The loop's invariant: from pair i on all goes on to the whole, by every table, with any
--- bindings and mark. The measure of a call is the nesting.
+-- `compare::same` meets its contract. The outer loop's invariant: a word that answers the pair at hand answers the whole. The
+-- inner one's: from pair i on all goes on to what answers it. By every table, with any bindings and mark. The measure of a
+-- call, and of the outer loop, is the nesting.
 use mathlib.Core.Path.{_≡_, sym, _∙_}
 use mathlib.Core.List.{List}
 use native.Mathlib.Omega.{arith}
 use borrow.Author.Needs.{needs}
 use Rattle.meaning.specs.Bindings.{Bindings}
 use Rattle.meaning.specs.Rules.{compare}
+use Rattle.meaning.specs.Store.{Ran}
 use Rattle.engine.specs.Visits.{countOf, visit}
 use Rattle.engine.proofs.Telling.{done-node}
 use Rattle.engine.proofs.Limited.{units-kept, nesting-kept}
-use Rattle.engine.proofs.Comparing.{Goes-on, other-constructor, other-count, agreed, compared, pair-done, pair-stops}
+use Rattle.engine.proofs.Comparing.{Goes-on, Carried, other-constructor, other-count, agreed, compared, pair-done, pair-stops, last-pair}
 use Prim.Native.Nat.{ℕ, _+_, _-_, _<_, _≤_}
 use borrow.Fn.Kinds.{In}
 use borrow.Fn.PlainCycle.{Measures, is, falls, and}
@@ -36,124 +38,178 @@ abbrev same-below : ℕ → In 1 same-kinds.ps
 same-below t = and 1 same-kinds.ps (falls 1 same-kinds.ps _<_ μ-same t) same.Pre
 
 abbrev same-calls : ℕ → same-lts.Claims
-same-calls t = (no-units-reads.Asked, no-units-reads.Learnt, no-nesting-reads.Asked, no-nesting-reads.Learnt, count-reads.Asked, count-reads.Learnt, word-reads.Asked, word-reads.Learnt, failure-reads.Asked, failure-reads.Learnt, same-below t, same.Post, told-reads.Asked, told-reads.Learnt, done-reads.Asked, done-reads.Learnt)
+same-calls t = (no-units-reads.Asked, no-units-reads.Learnt, no-nesting-reads.Asked, no-nesting-reads.Learnt, count-reads.Asked, count-reads.Learnt, word-reads.Asked, word-reads.Learnt, failure-reads.Asked, failure-reads.Learnt, done-reads.Asked, done-reads.Learnt, same-below t, same.Post, told-reads.Asked, told-reads.Learnt)
+
+abbrev same-Inv-loop2 : same-lts.InvT-loop2
+same-Inv-loop2 store a b left deep x y u₀ d n i₀ u i =
+    (i < n) × (n ≡ countOf store x) × (n ≡ countOf store y) × (u < 4294967296) × (d < deep)
+    × ((t : List ℕ) (β : Bindings ℕ) (m : ℕ) → (o : Ran) × Goes-on t d store x y i β m u o × Carried store y b β m o (visit t deep (compare a b β) store m left))
+
+abbrev same-μ-loop2 : same-lts.MeasureT-loop2
+same-μ-loop2 store a b left deep x y u₀ d n i₀ u i = n - i
 
 abbrev same-Inv-loop : same-lts.InvT-loop
-same-Inv-loop store a b left deep now₀ n i₀ now i =
-    (i ≤ n) × (n ≡ countOf store a) × (n ≡ countOf store b) × (now < 4294967296)
-    × ((t : List ℕ) (β : Bindings ℕ) (m : ℕ) → Goes-on t (deep - 1) store a b i β m now (visit t deep (compare a b β) store m left))
+same-Inv-loop store a b left deep x₀ y₀ u₀ d₀ x y u d =
+    (u < 4294967296) × (d ≤ deep)
+    × ((t : List ℕ) (β : Bindings ℕ) (m : ℕ) → Carried store y b β m (visit t d (compare x y β) store m u) (visit t deep (compare a b β) store m left))
 
 abbrev same-μ-loop : same-lts.MeasureT-loop
-same-μ-loop store a b left deep now₀ n i₀ now i = n - i
+same-μ-loop store a b left deep x₀ y₀ u₀ d₀ x y u d = d
 
-same-no-units-requires : (t : ℕ) → same-lts.Need-no-units-requires (same-calls t) (same-at t) same.Post same-Inv-loop same-μ-loop
+same-loop-holds : (t : ℕ) → same-lts.Need-loop-holds (same-calls t) (same-at t) same.Post same-Inv-loop2 same-μ-loop2 same-Inv-loop same-μ-loop
+same-loop-holds t c = (omega arith, omega arith, λ t β m r e. e)
+
+same-no-units-requires : (t : ℕ) → same-lts.Need-no-units-requires (same-calls t) (same-at t) same.Post same-Inv-loop2 same-μ-loop2 same-Inv-loop same-μ-loop
 same-no-units-requires t c κs = search needs
 
-same-returns : (t : ℕ) → same-lts.Need-returns (same-calls t) (same-at t) same.Post same-Inv-loop same-μ-loop
-same-returns t c = λ t β m. units-kept t _ _ _ m _ _ _ β (c .no-units .ensures) (c .before .if1 .taken)
+same-returns : (t : ℕ) → same-lts.Need-returns (same-calls t) (same-at t) same.Post same-Inv-loop2 same-μ-loop2 same-Inv-loop same-μ-loop
+same-returns t c = λ t β m. c .before .before .loop .inv .2 t β m _ (units-kept t _ _ _ m _ _ _ β (c .no-units .ensures) (c .before .if1 .taken))
 
-same-no-nesting-requires : (t : ℕ) → same-lts.Need-no-nesting-requires (same-calls t) (same-at t) same.Post same-Inv-loop same-μ-loop
+same-no-nesting-requires : (t : ℕ) → same-lts.Need-no-nesting-requires (same-calls t) (same-at t) same.Post same-Inv-loop2 same-μ-loop2 same-Inv-loop same-μ-loop
 same-no-nesting-requires t c κs = search needs
 
-same-returns-2 : (t : ℕ) → same-lts.Need-returns-2 (same-calls t) (same-at t) same.Post same-Inv-loop same-μ-loop
-same-returns-2 t c = λ t β m. nesting-kept t _ _ _ m _ _ _ β (c .no-nesting .ensures) (omega arith) (c .before .before .if1 .left) (c .before .if2 .taken)
+same-returns-2 : (t : ℕ) → same-lts.Need-returns-2 (same-calls t) (same-at t) same.Post same-Inv-loop2 same-μ-loop2 same-Inv-loop same-μ-loop
+same-returns-2 t c = λ t β m. c .before .before .before .loop .inv .2 t β m _ (nesting-kept t _ _ _ m _ _ _ β (c .no-nesting .ensures) (c .before .before .before .loop .inv .0) (c .before .before .if1 .left) (c .before .if2 .taken))
 
-same-sub-now : (t : ℕ) → same-lts.Need-sub-now (same-calls t) (same-at t) same.Post same-Inv-loop same-μ-loop
-same-sub-now t c = search needs
+same-sub-u : (t : ℕ) → same-lts.Need-sub-u (same-calls t) (same-at t) same.Post same-Inv-loop2 same-μ-loop2 same-Inv-loop same-μ-loop
+same-sub-u t c = search needs
 
-same-count-requires : (t : ℕ) → same-lts.Need-count-requires (same-calls t) (same-at t) same.Post same-Inv-loop same-μ-loop
+same-sub-d : (t : ℕ) → same-lts.Need-sub-d (same-calls t) (same-at t) same.Post same-Inv-loop2 same-μ-loop2 same-Inv-loop same-μ-loop
+same-sub-d t c = search needs
+
+same-count-requires : (t : ℕ) → same-lts.Need-count-requires (same-calls t) (same-at t) same.Post same-Inv-loop2 same-μ-loop2 same-Inv-loop same-μ-loop
 same-count-requires t c κs = search needs
 
-same-word-requires : (t : ℕ) → same-lts.Need-word-requires (same-calls t) (same-at t) same.Post same-Inv-loop same-μ-loop
+same-word-requires : (t : ℕ) → same-lts.Need-word-requires (same-calls t) (same-at t) same.Post same-Inv-loop2 same-μ-loop2 same-Inv-loop same-μ-loop
 same-word-requires t c κs = search needs
 
-same-word-requires-2 : (t : ℕ) → same-lts.Need-word-requires-2 (same-calls t) (same-at t) same.Post same-Inv-loop same-μ-loop
+same-word-requires-2 : (t : ℕ) → same-lts.Need-word-requires-2 (same-calls t) (same-at t) same.Post same-Inv-loop2 same-μ-loop2 same-Inv-loop same-μ-loop
 same-word-requires-2 t c κs = search needs
 
-same-failure-requires : (t : ℕ) → same-lts.Need-failure-requires (same-calls t) (same-at t) same.Post same-Inv-loop same-μ-loop
+same-failure-requires : (t : ℕ) → same-lts.Need-failure-requires (same-calls t) (same-at t) same.Post same-Inv-loop2 same-μ-loop2 same-Inv-loop same-μ-loop
 same-failure-requires t c κs = search needs
 
-same-returns-3 : (t : ℕ) → same-lts.Need-returns-3 (same-calls t) (same-at t) same.Post same-Inv-loop same-μ-loop
+same-returns-3 : (t : ℕ) → same-lts.Need-returns-3 (same-calls t) (same-at t) same.Post same-Inv-loop2 same-μ-loop2 same-Inv-loop same-μ-loop
 same-returns-3 t c =
     let e : _ ≡ _ → ⊥ = λ h. c .before .if3 .taken (c .before .before .before .word .ensures ∙ h ∙ sym (c .before .before .word2 .ensures)) in
-    λ t β m. other-constructor _ _ _ t _ m _ β (c .before .before .before .before .before .before .if1 .left) (c .before .before .before .before .before .if2 .left) _ (c .failure .ensures) (omega arith) e
+    λ t β m. c .before .before .before .before .before .before .before .loop .inv .2 t β m _ (other-constructor _ _ _ t _ m _ β (c .before .before .before .before .before .before .if1 .left) (c .before .before .before .before .before .if2 .left) _ (c .failure .ensures) (c .before .before .before .before .before .before .before .loop .inv .0) e)
 
-same-count-requires-2 : (t : ℕ) → same-lts.Need-count-requires-2 (same-calls t) (same-at t) same.Post same-Inv-loop same-μ-loop
+same-count-requires-2 : (t : ℕ) → same-lts.Need-count-requires-2 (same-calls t) (same-at t) same.Post same-Inv-loop2 same-μ-loop2 same-Inv-loop same-μ-loop
 same-count-requires-2 t c κs = search needs
 
-same-failure-requires-2 : (t : ℕ) → same-lts.Need-failure-requires-2 (same-calls t) (same-at t) same.Post same-Inv-loop same-μ-loop
+same-failure-requires-2 : (t : ℕ) → same-lts.Need-failure-requires-2 (same-calls t) (same-at t) same.Post same-Inv-loop2 same-μ-loop2 same-Inv-loop same-μ-loop
 same-failure-requires-2 t c κs = search needs
 
-same-returns-4 : (t : ℕ) → same-lts.Need-returns-4 (same-calls t) (same-at t) same.Post same-Inv-loop same-μ-loop
+same-returns-4 : (t : ℕ) → same-lts.Need-returns-4 (same-calls t) (same-at t) same.Post same-Inv-loop2 same-μ-loop2 same-Inv-loop same-μ-loop
 same-returns-4 t c =
     let a = sym (c .before .before .before .before .before .word .ensures) ∙ c .before .before .before .if3 .left ∙ c .before .before .before .before .word2 .ensures in
-    λ t β m. other-count _ _ _ t _ m _ β (c .before .before .before .before .before .before .before .before .if1 .left) (c .before .before .before .before .before .before .before .if2 .left) _ (c .failure2 .ensures) (omega arith) a (λ h. c .before .if4 .taken (c .before .before .before .before .before .before .count .ensures ∙ h ∙ sym (c .before .before .count2 .ensures)))
+    λ t β m. c .before .before .before .before .before .before .before .before .before .loop .inv .2 t β m _ (other-count _ _ _ t _ m _ β (c .before .before .before .before .before .before .before .before .if1 .left) (c .before .before .before .before .before .before .before .if2 .left) _ (c .failure2 .ensures) (c .before .before .before .before .before .before .before .before .before .loop .inv .0) a (λ h. c .before .if4 .taken (c .before .before .before .before .before .before .count .ensures ∙ h ∙ sym (c .before .before .count2 .ensures))))
 
-same-loop-holds : (t : ℕ) → same-lts.Need-loop-holds (same-calls t) (same-at t) same.Post same-Inv-loop same-μ-loop
-same-loop-holds t c =
-    let a = sym (c .before .before .before .before .word .ensures) ∙ c .before .before .if3 .left ∙ c .before .before .before .word2 .ensures in
-    let n = c .if4 .left ∙ c .before .count2 .ensures in
-    (search needs, c .before .before .before .before .before .count .ensures, n, omega arith, λ t β m. agreed _ _ _ t _ m _ β (c .before .before .before .before .before .before .before .if1 .left) (c .before .before .before .before .before .before .if2 .left) a (sym (c .before .before .before .before .before .count .ensures) ∙ n))
-
-same-add-word : (t : ℕ) → same-lts.Need-add-word (same-calls t) (same-at t) same.Post same-Inv-loop same-μ-loop
-same-add-word t c = search needs
-
-same-word-requires-3 : (t : ℕ) → same-lts.Need-word-requires-3 (same-calls t) (same-at t) same.Post same-Inv-loop same-μ-loop
-same-word-requires-3 t c κs = search needs
-
-same-add-word-2 : (t : ℕ) → same-lts.Need-add-word-2 (same-calls t) (same-at t) same.Post same-Inv-loop same-μ-loop
-same-add-word-2 t c = search needs
-
-same-word-requires-4 : (t : ℕ) → same-lts.Need-word-requires-4 (same-calls t) (same-at t) same.Post same-Inv-loop same-μ-loop
-same-word-requires-4 t c κs = search needs
-
-same-sub-same : (t : ℕ) → same-lts.Need-sub-same (same-calls t) (same-at t) same.Post same-Inv-loop same-μ-loop
-same-sub-same t c = search needs
-
-same-same-requires : (t : ℕ) → same-lts.Need-same-requires (same-calls t) (same-at t) same.Post same-Inv-loop same-μ-loop
-same-same-requires t c κs = search needs
-
-same-told-requires : (t : ℕ) → same-lts.Need-told-requires (same-calls t) (same-at t) same.Post same-Inv-loop same-μ-loop
-same-told-requires t c κs = search needs
-
-same-enum-known-u : (t : ℕ) → same-lts.Need-enum-known-u (same-calls t) (same-at t) same.Post same-Inv-loop same-μ-loop
-same-enum-known-u t c = search needs
-
-same-returns-5 : (t : ℕ) → same-lts.Need-returns-5 (same-calls t) (same-at t) same.Post same-Inv-loop same-μ-loop
-same-returns-5 t c = λ t β m. pair-stops _ _ _ t _ _ β m _ (c .before .before .before .before .before .before .loop .inv .4 t β m) (omega arith) (omega arith) _ _ _ (c .before .before .before .before .word3 .ensures) (c .before .before .before .word4 .ensures) (c .before .before .same .ensures t β m) _ (c .before .told .ensures) (c .match .keys2)
-
-same-add-i : (t : ℕ) → same-lts.Need-add-i (same-calls t) (same-at t) same.Post same-Inv-loop same-μ-loop
-same-add-i t c = search needs
-
-same-loop-less : (t : ℕ) → same-lts.Need-loop-less (same-calls t) (same-at t) same.Post same-Inv-loop same-μ-loop
-same-loop-less t c = search needs
-
-same-loop-again : (t : ℕ) → same-lts.Need-loop-again (same-calls t) (same-at t) same.Post same-Inv-loop same-μ-loop
-same-loop-again t c = (
-  search needs,
-  c .before .before .before .before .before .before .before .before .loop .inv .1,
-  c .before .before .before .before .before .before .before .before .loop .inv .2,
-  omega (arith, done-node _ _ _ (sym (c .before .before .before .told .ensures) ∙ c .before .u .given .1)),
-  λ t β m. pair-done _ _ _ t _ _ β m _ (c .before .before .before .before .before .before .before .before .loop .inv .4 t β m) (omega arith) (omega arith) _ _ _ (c .before .before .before .before .before .before .word3 .ensures) (c .before .before .before .before .before .word4 .ensures) (c .before .before .before .before .same .ensures t β m) _ (c .before .before .before .told .ensures) _ _ (c .before .u .given .1),
-)
-
-same-done-requires : (t : ℕ) → same-lts.Need-done-requires (same-calls t) (same-at t) same.Post same-Inv-loop same-μ-loop
+same-done-requires : (t : ℕ) → same-lts.Need-done-requires (same-calls t) (same-at t) same.Post same-Inv-loop2 same-μ-loop2 same-Inv-loop same-μ-loop
 same-done-requires t c κs = search needs
 
-same-returns-6 : (t : ℕ) → same-lts.Need-returns-6 (same-calls t) (same-at t) same.Post same-Inv-loop same-μ-loop
-same-returns-6 t c = λ t β m. compared (c .before .before .before .before .before .before .before .before .before .before .before .before .args .store .now) (c .before .before .before .before .before .before .before .before .before .before .before .before .args .a) _ t _ (c .before .before .loop .i) β m _ (c .before .before .loop .inv .4 t β m) _ (c .done .ensures) (c .before .before .loop .inv .3) (omega arith)
+same-returns-5 : (t : ℕ) → same-lts.Need-returns-5 (same-calls t) (same-at t) same.Post same-Inv-loop2 same-μ-loop2 same-Inv-loop same-μ-loop
+same-returns-5 t c =
+    let a = sym (c .before .before .before .before .before .before .word .ensures) ∙ c .before .before .before .before .if3 .left ∙ c .before .before .before .before .before .word2 .ensures in
+    let n = sym (c .before .before .before .before .before .before .before .count .ensures) ∙ c .before .before .if4 .left ∙ c .before .before .before .count2 .ensures in
+    let z = sym (c .before .before .before .before .before .before .before .count .ensures) ∙ c .before .if5 .taken in
+    λ t β m. c .before .before .before .before .before .before .before .before .before .before .loop .inv .2 t β m _ (compared _ _ _ t _ 0 β m _ (agreed _ _ _ t _ m _ β (c .before .before .before .before .before .before .before .before .before .if1 .left) (c .before .before .before .before .before .before .before .before .if2 .left) a n) _ (c .done .ensures) (omega (arith, c .before .before .before .before .before .before .before .before .before .before .loop .inv .0)) (omega (arith, z)))
+
+same-loop2-holds : (t : ℕ) → same-lts.Need-loop2-holds (same-calls t) (same-at t) same.Post same-Inv-loop2 same-μ-loop2 same-Inv-loop same-μ-loop
+same-loop2-holds t c =
+    let a = sym (c .before .before .before .before .before .word .ensures) ∙ c .before .before .before .if3 .left ∙ c .before .before .before .before .word2 .ensures in
+    let n = c .before .if4 .left ∙ c .before .before .count2 .ensures in
+    let l = c .before .before .before .before .before .before .before .before .before .loop .inv in
+    (omega (arith, c .if5 .left), c .before .before .before .before .before .before .count .ensures, n, omega (arith, l .0), omega (arith, l .1, c .before .before .before .before .before .before .before .if2 .left), λ t β m. (_, agreed _ _ _ t _ m _ β (c .before .before .before .before .before .before .before .before .if1 .left) (c .before .before .before .before .before .before .before .if2 .left) a (sym (c .before .before .before .before .before .before .count .ensures) ∙ n), l .2 t β m))
+
+same-add-loop2 : (t : ℕ) → same-lts.Need-add-loop2 (same-calls t) (same-at t) same.Post same-Inv-loop2 same-μ-loop2 same-Inv-loop same-μ-loop
+same-add-loop2 t c = search needs
+
+same-add-word : (t : ℕ) → same-lts.Need-add-word (same-calls t) (same-at t) same.Post same-Inv-loop2 same-μ-loop2 same-Inv-loop same-μ-loop
+same-add-word t c = search needs
+
+same-word-requires-3 : (t : ℕ) → same-lts.Need-word-requires-3 (same-calls t) (same-at t) same.Post same-Inv-loop2 same-μ-loop2 same-Inv-loop same-μ-loop
+same-word-requires-3 t c κs = search needs
+
+same-add-word-2 : (t : ℕ) → same-lts.Need-add-word-2 (same-calls t) (same-at t) same.Post same-Inv-loop2 same-μ-loop2 same-Inv-loop same-μ-loop
+same-add-word-2 t c = search needs
+
+same-word-requires-4 : (t : ℕ) → same-lts.Need-word-requires-4 (same-calls t) (same-at t) same.Post same-Inv-loop2 same-μ-loop2 same-Inv-loop same-μ-loop
+same-word-requires-4 t c κs = search needs
+
+same-same-requires : (t : ℕ) → same-lts.Need-same-requires (same-calls t) (same-at t) same.Post same-Inv-loop2 same-μ-loop2 same-Inv-loop same-μ-loop
+same-same-requires t c κs = (omega (arith, c .before .before .before .loop2 .inv .4), tt)
+
+same-told-requires : (t : ℕ) → same-lts.Need-told-requires (same-calls t) (same-at t) same.Post same-Inv-loop2 same-μ-loop2 same-Inv-loop same-μ-loop
+same-told-requires t c κs = search needs
+
+same-enum-known-more : (t : ℕ) → same-lts.Need-enum-known-more (same-calls t) (same-at t) same.Post same-Inv-loop2 same-μ-loop2 same-Inv-loop same-μ-loop
+same-enum-known-more t c = search needs
+
+same-returns-6 : (t : ℕ) → same-lts.Need-returns-6 (same-calls t) (same-at t) same.Post same-Inv-loop2 same-μ-loop2 same-Inv-loop same-μ-loop
+same-returns-6 t c = λ t β m.
+    let g = c .before .before .before .before .before .before .loop2 .inv .5 t β m in
+    g .2 _ (pair-stops _ _ _ t _ _ β m _ (g .1) (omega arith) (omega arith) _ _ _ (c .before .before .before .before .word3 .ensures) (c .before .before .before .word4 .ensures) (c .before .before .same .ensures t β m) _ (c .before .told .ensures) (c .match .keys2))
+
+same-add-i : (t : ℕ) → same-lts.Need-add-i (same-calls t) (same-at t) same.Post same-Inv-loop2 same-μ-loop2 same-Inv-loop same-μ-loop
+same-add-i t c = search needs
+
+same-loop2-less : (t : ℕ) → same-lts.Need-loop2-less (same-calls t) (same-at t) same.Post same-Inv-loop2 same-μ-loop2 same-Inv-loop same-μ-loop
+same-loop2-less t c = search needs
+
+same-loop2-again : (t : ℕ) → same-lts.Need-loop2-again (same-calls t) (same-at t) same.Post same-Inv-loop2 same-μ-loop2 same-Inv-loop same-μ-loop
+same-loop2-again t c =
+    let l = c .before .before .before .before .before .before .before .before .loop2 .inv in (
+      search needs,
+      l .1,
+      l .2,
+      omega (arith, done-node _ _ _ (sym (c .before .before .before .told .ensures) ∙ c .before .more .given .1)),
+      l .4,
+      λ t β m.
+          let g = l .5 t β m in
+          (_, pair-done _ _ _ t _ _ β m _ (g .1) (omega arith) (omega arith) _ _ _ (c .before .before .before .before .before .before .word3 .ensures) (c .before .before .before .before .before .word4 .ensures) (c .before .before .before .before .same .ensures t β m) _ (c .before .before .before .told .ensures) _ _ (c .before .more .given .1), g .2),
+    )
+
+same-add-word-3 : (t : ℕ) → same-lts.Need-add-word-3 (same-calls t) (same-at t) same.Post same-Inv-loop2 same-μ-loop2 same-Inv-loop same-μ-loop
+same-add-word-3 t c = search needs
+
+same-word-requires-5 : (t : ℕ) → same-lts.Need-word-requires-5 (same-calls t) (same-at t) same.Post same-Inv-loop2 same-μ-loop2 same-Inv-loop same-μ-loop
+same-word-requires-5 t c κs = search needs
+
+same-add-word-4 : (t : ℕ) → same-lts.Need-add-word-4 (same-calls t) (same-at t) same.Post same-Inv-loop2 same-μ-loop2 same-Inv-loop same-μ-loop
+same-add-word-4 t c = search needs
+
+same-word-requires-6 : (t : ℕ) → same-lts.Need-word-requires-6 (same-calls t) (same-at t) same.Post same-Inv-loop2 same-μ-loop2 same-Inv-loop same-μ-loop
+same-word-requires-6 t c κs = search needs
+
+same-loop-less : (t : ℕ) → same-lts.Need-loop-less (same-calls t) (same-at t) same.Post same-Inv-loop2 same-μ-loop2 same-Inv-loop same-μ-loop
+same-loop-less t c = omega (arith, c .before .before .before .before .before .before .before .before .before .before .before .if2 .left)
+
+same-loop-again : (t : ℕ) → same-lts.Need-loop-again (same-calls t) (same-at t) same.Post same-Inv-loop2 same-μ-loop2 same-Inv-loop same-μ-loop
+same-loop-again t c =
+    let l = c .before .before .before .loop2 .inv in (
+      l .3,
+      omega (arith, l .4),
+      λ t β m r e.
+          let g = l .5 t β m in
+          g .2 r (last-pair _ _ _ t _ _ β m _ (g .1) (omega arith) (omega arith) _ _ (c .before .word5 .ensures) (c .word6 .ensures) r e),
+    )
 
 pub +same-spec : {M : Type 1} → statement M
 +same-spec = close μ-same λ t. same-lts.spec (same-calls t)
     (same-at t)
     same.Post
+    same-Inv-loop2
+    same-μ-loop2
     same-Inv-loop
     same-μ-loop
+    (same-loop-holds t)
     (same-no-units-requires t)
     (same-returns t)
     (same-no-nesting-requires t)
     (same-returns-2 t)
-    (same-sub-now t)
+    (same-sub-u t)
+    (same-sub-d t)
     (same-count-requires t)
     (same-word-requires t)
     (same-word-requires-2 t)
@@ -162,18 +218,24 @@ pub +same-spec : {M : Type 1} → statement M
     (same-count-requires-2 t)
     (same-failure-requires-2 t)
     (same-returns-4 t)
-    (same-loop-holds t)
+    (same-done-requires t)
+    (same-returns-5 t)
+    (same-loop2-holds t)
+    (same-add-loop2 t)
     (same-add-word t)
     (same-word-requires-3 t)
     (same-add-word-2 t)
     (same-word-requires-4 t)
-    (same-sub-same t)
     (same-same-requires t)
     (same-told-requires t)
-    (same-enum-known-u t)
-    (same-returns-5 t)
+    (same-enum-known-more t)
+    (same-returns-6 t)
     (same-add-i t)
+    (same-loop2-less t)
+    (same-loop2-again t)
+    (same-add-word-3 t)
+    (same-word-requires-5 t)
+    (same-add-word-4 t)
+    (same-word-requires-6 t)
     (same-loop-less t)
     (same-loop-again t)
-    (same-done-requires t)
-    (same-returns-6 t)
