@@ -2,7 +2,7 @@
 use mathlib.Core.Path.{_≡_, refl, ap, sym, _∙_, subst}
 use mathlib.Core.List.{List}
 use mathlib.Core.Logic.{_⊎_, inl, inr, ⊎-elim}
-use Prim.Native.Nat.{ℕ, zero, suc, _+_, _-_, _*_, _/_, _%_, _<_, _≤_}
+use Prim.Native.Nat.{ℕ, zero, suc, _+_, _-_, _*_, _/_, _%_, _<_, _≤_, min}
 use native.Mathlib.Omega.{arith}
 use native.Mathlib.Nat.{eq-or-lt-of-le}
 use lib.ListN.{length}
@@ -16,10 +16,10 @@ use denote.Enum.Declared.{tagOf}
 use Rattle.engine.proofs.answers.Answer.{the-type}
 use Rattle.engine.specs.declared.answers.Answer.{Answer}
 use Rattle.engine.specs.declared.answers.Answer.the-variants.{Done, Failed, Cut}
-use Rattle.engine.specs.Answers.{packed, nodeIn, unitsIn, unitsWord, nestingWord, toldOf}
+use Rattle.engine.specs.Answers.{packed, nodeIn, unitsIn, unitsWord, nestingWord, failedWord, toldOf}
 use Rattle.engine.specs.Record.{markOf, held, back, Framed}
-use Rattle.engine.specs.Visits.{visit, ruled, out, Entries, Steady, Ready, Last, Gives}
-use Rattle.engine.proofs.Telling.{node-packed, units-packed, done-node, done-units, failed-few}
+use Rattle.engine.specs.Visits.{visit, ruled, out, Entries, Steady, Ready, Last, Gives, Skips}
+use Rattle.engine.proofs.Telling.{told-failed, out-failed, node-packed, units-packed, done-node, done-units, failed-few}
 use Rattle.engine.proofs.Asking.{Tagged}
 use Rattle.engine.proofs.Kind.{applied}
 use Rattle.engine.proofs.Keeping.{apply-leaves, steady-kept, steady-after, leaves-done, leaves-failed, node-small}
@@ -44,6 +44,30 @@ same-node s h = omega arith
 
 pub one-less : (s : ℕ) → (unitsIn s ≡ 0 → ⊥) → unitsIn (s - 1) ≡ unitsIn s - 1
 one-less s h = omega arith
+
+-- so are n units less, where there are so many
+same-node-by : (s n : ℕ) → n ≤ unitsIn s → nodeIn (s - n) ≡ nodeIn s
+same-node-by s n h = omega arith
+
+less-by : (s n : ℕ) → n ≤ unitsIn s → unitsIn (s - n) ≡ unitsIn s - n
+less-by s n h = omega arith
+
+few-by : (s n : ℕ) → unitsIn s - n < 4294967296
+few-by s n = omega arith
+
+fewer : (s n : ℕ) → s < 18446744073709551616 → s - 1 - n < 18446744073709551616
+fewer s n h = omega arith
+
+pred-le : (d e : ℕ) → d ≤ e → d - 1 ≤ e
+pred-le d e h = omega arith
+
+-- what is at most the units of a word is at most the word
+pub within : (s n i : ℕ) → n ≤ min i (unitsIn s) → n ≤ s
+within s n i h = omega arith
+
+-- what is at most the lesser of two is at most each
+under : (n i j : ℕ) → n ≤ min i j → (n ≤ i) × (n ≤ j)
+under n i j h = (omega arith, omega arith)
 
 -- a word of a node in a store fits
 pub fitting-word : (x u : ℕ) → x < 131072 → u < 4294967296 → packed x u < 18446744073709551616
@@ -144,6 +168,26 @@ module _ {t w₀ st₀ : List ℕ} {start given deep : ℕ} {w st : List ℕ} {e
             word = rw p (fitting-word (nodeIn (s - 1)) v tiny few);
             rest = rw (node-as, units-as, held-as, mark-as) (left-goes-on t (d - 1) e (s - 1) st w x got st′ w′ xe (gives .is) a told y ye h v q ∙ counts);
           }
+
+  -- the first operand of CHOICE or LEFT fails after n visits, which are counted and not made
+  pub skip-turn : {x y n : ℕ} → x ≡ wordAt t e 2 → Skips t w x (nodeIn (s - 1)) (min (d - 1) (unitsIn (s - 1))) n → (n ≡ 0 → ⊥) → (kindOf t e ≡ 5) ⊎ (kindOf t e ≡ 6) → y ≡ wordAt t e 3
+      → Turn t w₀ st₀ start given deep w st y (s - 1 - n) (d - 1)
+  skip-turn {x} {y} {n} xe skips some h ye =
+      let enough = under n (d - 1) (unitsIn (s - 1)) (skips .few) in
+      let v : ℕ = unitsIn (s - 1) - n in
+      let few = few-by (s - 1) n in
+      let node-as = same-node-by (s - 1) n (enough .1) in
+      let units-as = less-by (s - 1) n (enough .1) in
+      let fails = skips .fails some .is (held st) (markOf st) (d - 1) (unitsIn (s - 1)) (enough .0) (enough .1) in
+      record {
+        deeper = pred-le d deep (turn .deeper);
+        long = turn .long;
+        ready = ready-operand (turn .ready) 1 y (s - 1 - n) (omega arith) ye (rw node-as (ready-same .subject));
+        frame = turn .frame;
+        wide = turn .wide;
+        word = fewer s n (turn .word);
+        rest = rw (node-as, units-as) (left-goes-on t (d - 1) e (s - 1) st w x (failedWord v) st w xe (out-failed st w v few ∙ sym fails) (Failed v) (sym (told-failed v few)) y ye h v refl ∙ counts);
+      }
 
 -- the loop begins
 pub first-turn : {t w st : List ℕ} {e s : ℕ} (d : ℕ) → Ready t w st e s → s < 18446744073709551616 → Turn t w st e s d w st e s d

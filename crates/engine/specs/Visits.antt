@@ -4,7 +4,7 @@ use mathlib.Core.Bool.{Bool, true, false, _&&_}
 use mathlib.Core.Option.{some}
 use mathlib.Core.Logic.{_⊎_}
 use mathlib.Core.List.{List, [], _∷_, map}
-use Prim.Native.Nat.{ℕ, _+_, _%_, _≤_, _<_, min}
+use Prim.Native.Nat.{ℕ, _+_, _-_, _%_, _≤_, _<_, min}
 use lib.Dec.{eqb, leb}
 use lib.ListN.{length, getD}
 use Rattle.words.specs.Words.{wordAt, rows, putRow}
@@ -112,6 +112,16 @@ pub record Ready (t w st : List ℕ) (e g : ℕ) : Type 0 where
 pub record Gives (o : Ran) (st : List ℕ) (r : ℕ) (st′ w′ : List ℕ) : Type 0 where
   pub is : out r st′ w′ ≡ o
   pub frame : Framed st st′
+
+-- entry q applied to node k fails after n visits, where units and nesting are enough for them, whatever the bindings and
+-- the mark
+pub record Fails (t w : List ℕ) (q k n : ℕ) : Type 0 where
+  pub is : (b : Bindings ℕ) (m d u : ℕ) → n ≤ d → n ≤ u → visit t d (apply q k b) w m u ≡ lost w (u - n)
+
+-- a number of visits after which entry q fails on node k, or 0 where none is known
+pub record Skips (t w : List ℕ) (q k most n : ℕ) : Type 0 where
+  pub few : n ≤ most
+  pub fails : (n ≡ 0 → ⊥) → Fails t w q k n
 
 -- what follows a MATCH of entry p on node k, whose constructor and count agree, whatever the mark: the record is b before
 -- and c after, and its mark is as it was

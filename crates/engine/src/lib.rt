@@ -6,4 +6,5 @@ pub mod compare;
 pub mod matcher;
 pub mod reading;
 pub mod record;
+pub mod skipping;
 pub mod visits;

@@ -18,6 +18,7 @@ use crate::reading::kind;
 use crate::reading::row;
 use crate::record::hide;
 use crate::record::put_back;
+use crate::skipping::skipped;
 use words::word;
 ghost use mathlib.Core.Path.{_≡_};
 ghost use mathlib.Core.Logic.{_⊎_};
@@ -68,9 +69,17 @@ pub fn apply(
                 e = entry(table, e, 3);
             }
             5..=6 => {
+                // Where the first operand fails at its head, its visits are counted and not made.
+                let first = entry(table, e, 2);
+                let fails = skipped(table, store, first, s, d);
+                if fails != 0 {
+                    s -= fails as u64;
+                    e = entry(table, e, 3);
+                    continue;
+                }
                 let mark = st[32];
                 let mask = st[33];
-                let got = apply(table, store, st, entry(table, e, 2), s, d);
+                let got = apply(table, store, st, first, s, d);
                 let Answer::Failed(u) = told(got) else {
                     return got;
                 };

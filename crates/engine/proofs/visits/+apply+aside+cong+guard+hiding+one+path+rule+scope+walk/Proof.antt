@@ -33,7 +33,7 @@ use Rattle.engine.proofs.visits.+apply+aside+cong+guard+hiding+one+path
 use Rattle.engine.proofs.visits.+apply+aside+cong+guard+hiding+one+path+rule+scope+walk.{statement}
 use Rattle.engine.proofs.visits.+apply+aside+cong+guard+hiding+one+path+rule+scope+walk.Tie.{close}
 use Common.{μ-apply, μ-aside, μ-cong, μ-guard, μ-hiding, μ-one, μ-path, μ-rule, μ-scope, μ-walk, apply-at, aside-at, cong-at, guard-at, hiding-at, one-at, path-at, rule-at, scope-at, walk-at, walk-calls, scope-calls, rule-calls, path-calls, one-calls, hiding-calls, guard-calls, cong-calls, aside-calls, apply-calls}
-use Apply.{apply-Inv-loop, apply-μ-loop, apply-loop-holds, apply-cast-left, apply-no-units-requires, apply-same-length, apply-returns, apply-no-nesting-requires, apply-same-length-2, apply-returns-2, apply-sub-d, apply-sub-s, apply-kind-requires, apply-entry-requires, apply-apply-requires, apply-told-requires, apply-enum-told, apply-same-length-3, apply-returns-3, apply-entry-requires-2, apply-loop-less, apply-loop-again, apply-element-copy-out-mark, apply-element-copy-out-mask, apply-entry-requires-3, apply-apply-requires-2, apply-told-requires-2, apply-enum-known-u, apply-same-length-4, apply-returns-4, apply-element-write-st, apply-element-write-st-2, apply-cast-done, apply-done-requires, apply-entry-requires-4, apply-loop-less-2, apply-loop-again-2, apply-entry-requires-5, apply-loop-less-3, apply-loop-again-3, apply-rule-requires, apply-same-length-5, apply-returns-5}
+use Apply.{apply-Inv-loop, apply-μ-loop, apply-loop-holds, apply-cast-left, apply-no-units-requires, apply-same-length, apply-returns, apply-no-nesting-requires, apply-same-length-2, apply-returns-2, apply-sub-d, apply-sub-s, apply-kind-requires, apply-entry-requires, apply-apply-requires, apply-told-requires, apply-enum-told, apply-same-length-3, apply-returns-3, apply-entry-requires-2, apply-loop-less, apply-loop-again, apply-entry-requires-3, apply-skipped-requires, apply-cast-s, apply-sub-s-2, apply-entry-requires-4, apply-loop-less-2, apply-loop-again-2, apply-element-copy-out-mark, apply-element-copy-out-mask, apply-apply-requires-2, apply-told-requires-2, apply-enum-known-u, apply-same-length-4, apply-returns-4, apply-element-write-st, apply-element-write-st-2, apply-cast-done, apply-done-requires, apply-entry-requires-5, apply-loop-less-3, apply-loop-again-3, apply-entry-requires-6, apply-loop-less-4, apply-loop-again-4, apply-rule-requires, apply-same-length-5, apply-returns-5}
 use Aside.{aside-entry-requires, aside-apply-requires, aside-told-requires, aside-enum-known-u, aside-same-length, aside-returns, aside-cast-done, aside-done-requires, aside-same-length-2, aside-returns-2}
 use Cong.{cong-cast-t, cong-agree-requires, cong-cast-failure, cong-failure-requires, cong-same-length, cong-returns, cong-walk-requires, cong-same-length-2, cong-returns-2}
 use Guard.{guard-element-copy-out-mark, guard-element-copy-out-mask, guard-entry-requires, guard-apply-requires, guard-hear-requires, guard-enum-known-yes, guard-enum-told, guard-same-length, guard-returns, guard-element-write-st, guard-element-write-st-2, guard-kind-requires, guard-cast-done, guard-done-requires, guard-same-length-2, guard-returns-2, guard-failure-requires, guard-same-length-3, guard-returns-3, guard-failure-requires-2, guard-same-length-4, guard-returns-4, guard-cast-done-2, guard-done-requires-2, guard-same-length-5, guard-returns-5}
@@ -82,9 +82,15 @@ pub +apply+aside+cong+guard+hiding+one+path+rule+scope+walk-spec : {M : Type 1} 
     (apply-entry-requires-2 t)
     (apply-loop-less t)
     (apply-loop-again t)
+    (apply-entry-requires-3 t)
+    (apply-skipped-requires t)
+    (apply-cast-s t)
+    (apply-sub-s-2 t)
+    (apply-entry-requires-4 t)
+    (apply-loop-less-2 t)
+    (apply-loop-again-2 t)
     (apply-element-copy-out-mark t)
     (apply-element-copy-out-mask t)
-    (apply-entry-requires-3 t)
     (apply-apply-requires-2 t)
     (apply-told-requires-2 t)
     (apply-enum-known-u t)
@@ -94,12 +100,12 @@ pub +apply+aside+cong+guard+hiding+one+path+rule+scope+walk-spec : {M : Type 1} 
     (apply-element-write-st-2 t)
     (apply-cast-done t)
     (apply-done-requires t)
-    (apply-entry-requires-4 t)
-    (apply-loop-less-2 t)
-    (apply-loop-again-2 t)
     (apply-entry-requires-5 t)
     (apply-loop-less-3 t)
     (apply-loop-again-3 t)
+    (apply-entry-requires-6 t)
+    (apply-loop-less-4 t)
+    (apply-loop-again-4 t)
     (apply-rule-requires t)
     (apply-same-length-5 t)
     (apply-returns-5 t))

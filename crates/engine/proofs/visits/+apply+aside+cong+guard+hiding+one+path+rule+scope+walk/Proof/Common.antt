@@ -47,6 +47,7 @@ use Rattle.engine.proofs.reading.kind.Reads as kind-reads
 use Rattle.engine.proofs.reading.row.Reads as row-reads
 use Rattle.engine.proofs.record.hide.Reads as hide-reads
 use Rattle.engine.proofs.record.put_back.Reads as put-back-reads
+use Rattle.engine.proofs.skipping.skipped.Reads as skipped-reads
 use Rattle.engine.proofs.visits.finish.Reads as finish-reads
 use Rattle.engine.proofs.visits.operand.Reads as operand-reads
 use Rattle.words.proofs.word.Reads as word-reads
@@ -169,4 +170,4 @@ abbrev pub aside-calls : ℕ → aside-lts.Claims
 aside-calls t = (entry-reads.Asked, entry-reads.Learnt, apply-below t, apply.Post, told-reads.Asked, told-reads.Learnt, done-reads.Asked, done-reads.Learnt)
 
 abbrev pub apply-calls : ℕ → apply-lts.Claims
-apply-calls t = (no-units-reads.Asked, no-units-reads.Learnt, no-nesting-reads.Asked, no-nesting-reads.Learnt, kind-reads.Asked, kind-reads.Learnt, entry-reads.Asked, entry-reads.Learnt, apply-below t, apply.Post, told-reads.Asked, told-reads.Learnt, done-reads.Asked, done-reads.Learnt, rule-below t, rule.Post)
+apply-calls t = (no-units-reads.Asked, no-units-reads.Learnt, no-nesting-reads.Asked, no-nesting-reads.Learnt, kind-reads.Asked, kind-reads.Learnt, entry-reads.Asked, entry-reads.Learnt, apply-below t, apply.Post, told-reads.Asked, told-reads.Learnt, skipped-reads.Asked, skipped-reads.Learnt, done-reads.Asked, done-reads.Learnt, rule-below t, rule.Post)
