@@ -576,6 +576,9 @@ def deep():
     one = [entry(MATCH, 0, 1), X]
     case("compare 4096 deep", one, mark=4094, fill=3, bound=[(0, 4093)], units=5000, slen=8 * 4100)
     case("compare 4097 deep", one, mark=4095, fill=3, bound=[(0, 4094)], units=5000, slen=8 * 4100)
+    two = [(1, 8 * k + 1, 2) for k in range(1, 4095)]
+    case("compare 4096 deep, down the first of two", one, mark=4094, fill=3, bound=[(0, 4093)], units=9000, slen=8 * 4100, words=two[:-1])
+    case("compare 4097 deep, down the first of two", one, mark=4095, fill=3, bound=[(0, 4094)], units=9000, slen=8 * 4100, words=two)
     case("compare ends by units", one, mark=4094, fill=3, bound=[(0, 4093)], units=4095, slen=8 * 4100)
     for kind in (MATCH, BUILD):
         pcon = (16 * PCON + 1, 1, 0)

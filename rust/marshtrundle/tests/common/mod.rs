@@ -186,7 +186,12 @@ pub fn fitting(number: usize) -> Option<Deep> {
     ];
     match number - FORMS.len() {
         4 => Some(comparison("a comparison", 4_094, false, Answer::Done)),
-        5 => Some(comparison("a comparison of six", 4_094, true, Answer::Done)),
+        5 => Some(comparison(
+            "a comparison down the first of two",
+            4_094,
+            true,
+            Answer::Done,
+        )),
         other => rest
             .get(other)
             .map(|(name, s)| deep(name, s, name.contains("six"), Answer::Done)),
@@ -209,7 +214,7 @@ pub fn too_deep(number: usize) -> Option<Deep> {
         2 => return Some(comparison("a comparison", 4_095, false, Answer::TooDeep)),
         3 => {
             return Some(comparison(
-                "a comparison of six",
+                "a comparison down the first of two",
                 4_095,
                 true,
                 Answer::TooDeep,
@@ -233,13 +238,21 @@ pub fn too_deep(number: usize) -> Option<Deep> {
     Some(deep(name, &endless, six, Answer::TooDeep))
 }
 
-/// Two equal terms of this depth at different nodes, one bound, the other matched with the variable.
-fn comparison(name: &'static str, depth: usize, wide: bool, answer: Answer) -> Deep {
-    let mut run = deep(name, &match_(var(VARS[0])), wide, answer);
-    let first = chain(&mut run.store, depth, wide);
-    run.subject = chain(&mut run.store, depth, wide);
-    run.bindings.bind(VARS[0], first);
-    run.units = (!wide).then_some(4_096);
+/// Two equal terms of this depth at different nodes, one bound, the other matched with the variable. The last child pair
+/// takes no frame, so one form goes down the first of two.
+fn comparison(name: &'static str, depth: usize, first: bool, answer: Answer) -> Deep {
+    let mut run = deep(name, &match_(var(VARS[0])), false, answer);
+    let term = |store: &mut Store| {
+        if !first {
+            return chain(store, depth, false);
+        }
+        let leaf = store.node(0, &[]).unwrap();
+        (1..depth).fold(leaf, |term, _| store.node(7, &[term, leaf]).unwrap())
+    };
+    let bound = term(&mut run.store);
+    run.subject = term(&mut run.store);
+    run.bindings.bind(VARS[0], bound);
+    run.units = (!first).then_some(4_096);
     run
 }
 
