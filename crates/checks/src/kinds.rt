@@ -69,7 +69,7 @@ const TAKES: [Sort; 20] = [
 ];
 
 // The least number of operands of the kind k.
-pub fn least(k: u32) -> u32
+pub(crate) fn least(k: u32) -> u32
     requires { ⌜ k ≤ 19 ⌝ }
     ensures { λ r. ⌜ r ≡ kind k .least ⌝ }
 {
@@ -77,7 +77,7 @@ pub fn least(k: u32) -> u32
 }
 
 // The most operands of the kind k.
-pub fn most(k: u32) -> u32
+pub(crate) fn most(k: u32) -> u32
     requires { ⌜ k ≤ 19 ⌝ }
     ensures { λ r. ⌜ r ≡ kind k .most ⌝ }
 {
@@ -85,7 +85,7 @@ pub fn most(k: u32) -> u32
 }
 
 // The least argument of the kind k.
-pub fn lowest_argument(k: u32) -> u32
+pub(crate) fn lowest_argument(k: u32) -> u32
     requires { ⌜ k ≤ 19 ⌝ }
     ensures { λ r. ⌜ r ≡ lowest (kind k .argument) ⌝ }
 {
@@ -93,7 +93,7 @@ pub fn lowest_argument(k: u32) -> u32
 }
 
 // The greatest argument of the kind k.
-pub fn highest_argument(k: u32) -> u32
+pub(crate) fn highest_argument(k: u32) -> u32
     requires { ⌜ k ≤ 19 ⌝ }
     ensures { λ r. ⌜ r ≡ highest (kind k .argument) ⌝ }
 {
@@ -101,7 +101,7 @@ pub fn highest_argument(k: u32) -> u32
 }
 
 // The sort of the operands of the kind k.
-pub fn takes(k: u32) -> Sort
+pub(crate) fn takes(k: u32) -> Sort
     requires { ⌜ k ≤ 19 ⌝ }
     ensures { λ r. ⌜ r ≡ table.takes k ⌝ }
 {

@@ -15,7 +15,7 @@ pub fn held(rows: &[u32], k: u32, i: u32) -> u32
 }
 
 // The words of row k after the n that are used are zero.
-pub fn unused_zero(rows: &[u32], k: u32, n: u32) -> bool
+pub(crate) fn unused_zero(rows: &[u32], k: u32, n: u32) -> bool
     requires { ⌜ n ≤ 6 ⌝ }
     ensures { λ r. ⌜ r ≡ every (λ i. eqb (wordAt (now (rows .entry)) k (2 + i)) 0) n (6 - n) ⌝ }
 {

@@ -5,7 +5,7 @@ use mathlib.Core.Bool.{Bool, true, false, not, _&&_, _||_, true≢false}
 use mathlib.Core.Option.{Option, none, some}
 use mathlib.Core.Logic.{_⊎_, inl, inr, ⊎-elim}
 use mathlib.Core.List.{List}
-use Prim.Native.Nat.{ℕ, zero, suc, _+_, _/_, _%_, _^_, _<_, _≤_}
+use Prim.Native.Nat.{ℕ, zero, suc, _+_, _-_, _/_, _%_, _^_, _<_, _≤_}
 use native.Mathlib.Omega.{arith}
 use lib.Dec.{eqb}
 use lib.ListN.{length, getD, set, length-set}
@@ -16,7 +16,12 @@ use Rattle.words.specs.Tests.{if_then_else_}
 use Rattle.words.proofs.Tests.{below-or-from}
 use Rattle.meaning.specs.Bindings.{Bindings, bind, has, masked, unbound}
 use Rattle.engine.specs.Record.{markOf, maskOf, bitOf, held, bound, without, putBack, back, Framed}
-use Rattle.engine.proofs.Bits.{bit-has, has-bit, no-bit-has, has-nothing, has-zero, has-suc, has-and, has-or, has-one, has-without}
+use Rattle.meaning.proofs.Bits.{bit-has, has-bit, no-bit-has, has-nothing, has-zero, has-suc, has-and, has-or, has-one, has-not}
+
+-- a mask without the variables of another
+has-without : (m h v : ℕ) → h < 4294967296 → v < 32 → has (without m h) v ≡ has m v && not (has h v)
+unfolding without
+has-without m h v l k = has-and m (4294967295 - h) v ∙ ap (λ (b : Bool). has m v && b) (has-not h v l k)
 
 -- the word of a variable, where it is bound
 abbrev if-bound : Bool → ℕ → Option ℕ

@@ -1,5 +1,4 @@
 -- Laws that belong to no one function.
-pub mod Bits
 pub mod Element
 pub mod Telling
 pub mod Asking

@@ -1,5 +1,4 @@
 -- The laws of the definitions in specs/, and the proofs of its promises.
-pub mod Bits
 pub mod Entries
 pub mod Masks
 pub mod Smallest

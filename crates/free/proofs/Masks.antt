@@ -22,7 +22,7 @@ use Rattle.meaning.specs.Table.{PVAR, table, operands}
 use Rattle.meaning.specs.Free.{In, here, there, Variable, var, part, Free, in-match, in-build, in-scope, in-operand}
 use Rattle.meaning.proofs.Tests.{decided}
 use Rattle.free.specs.Passes.{joined, joinedOperands, ruled, fuller, grows, grown, passed, changed, Of, pattern, strategy, Sound, Settled}
-use Rattle.free.proofs.Bits.{has-nothing, has-and, has-or, has-one, not-has, or-grows}
+use Rattle.meaning.proofs.Bits.{has-nothing, has-and, has-or, has-one, not-has, or-grows}
 use Rattle.free.proofs.Entries.{other, operand-at, length-operands, Strategies, Patterns, Shape, is-plain, is-match, is-build, is-scope, is-variable, is-con, shape, entry-of}
 use Rattle.free.specs.Promises.{GoodTable}
 

@@ -21,7 +21,7 @@ use Rattle.meaning.proofs.Tests.{decided}
 use Rattle.free.specs.declared.FreeVariables.{FreeVariables}
 use Rattle.free.specs.Answered.{isStrategy, asked, MaskOf, Answered}
 use Rattle.free.specs.Promises as promises
-use Rattle.free.proofs.Bits.{same-mask}
+use Rattle.meaning.proofs.Bits.{same-mask}
 use Rattle.free.proofs.Smallest.{below-32, strategy-plain}
 
 -- two tests that hold together are one

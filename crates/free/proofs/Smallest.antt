@@ -20,7 +20,7 @@ use Rattle.meaning.proofs.Tests.{impossible}
 use Rattle.free.specs.Answered.{isStrategy, MaskOf}
 use Rattle.free.specs.Promises.{GoodTable, StrategyOf}
 use Rattle.free.specs.Passes.{ruled, fuller, Sound, Settled}
-use Rattle.free.proofs.Bits.{has-nothing, has-and, has-or, has-one, has-not}
+use Rattle.meaning.proofs.Bits.{has-nothing, has-and, has-or, has-one, has-not}
 use Rattle.free.proofs.Entries.{other, plain, Shape, is-plain, is-match, is-build, is-scope, is-variable, is-con, shape, entry-of, sort-strategy}
 use Rattle.free.proofs.Masks.{or-true, as-strategy, in-joined, ruled-joined, ruled-scope, ruled-variable, stays}
 

@@ -1,11 +1,11 @@
 // Job text in, answer text out. A text is lines of fields; this crate finds its lines and numbers, the job that it is, or
 // its first bad line.
 pub mod answer;
-pub mod lines;
+mod lines;
 pub mod read;
-pub mod reader;
-pub mod text;
-pub mod write;
+mod reader;
+mod text;
+mod write;
 
 // The numbers of a line's fields after its name: how many, or 9 for fields that are none or too many; then zeros.
 pub struct Numbers {

@@ -35,7 +35,7 @@ use Rattle.meaning.proofs.Tests.{impossible}
 use Rattle.meaning.proofs.Checked.{Filled, node-of-good}
 use Rattle.meaning.proofs.Words.{kept-refl, kept-trans, kept-term}
 use Rattle.meaning.proofs.Demands as meant-demands
-use Rattle.engine.proofs.Bits.{has-nothing}
+use Rattle.meaning.proofs.Bits.{has-nothing}
 use Rattle.free.specs.declared.FreeVariables.{FreeVariables}
 use Rattle.free.specs.Answered.{Answered}
 use Rattle.free.proofs.Smallest.{below-32}

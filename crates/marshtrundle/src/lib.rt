@@ -1,5 +1,5 @@
 // What the linker links is `run`, in running: it has no `requires` and refuses by number. The other modules are its parts.
 pub mod exported;
-pub mod loading;
-pub mod refusals;
+mod loading;
+mod refusals;
 pub mod running;

@@ -1,5 +1,6 @@
 -- From the rules to the demands.
 pub mod Tests
+pub mod Bits
 pub mod Terms
 pub mod Inversion
 pub mod RulesAgree

@@ -8,7 +8,7 @@ use borrow.Author.Tests.{eq-eqb, ne-eqb}
 use Rattle.checks.specs.Good.{kindOf}
 use Rattle.checks.proofs.Good.{operandCount-six}
 use Rattle.free.specs.Passes.{ruled}
-use Rattle.free.proofs.Bits.{bit-shift}
+use Rattle.meaning.proofs.Bits.{bit-shift}
 use Rattle.free.proofs.Entries.{variable-below}
 use Rattle.free.proofs.passes.rule.Statement.{statement}
 use Rattle.free.proofs.passes.rule.Tie as tie
