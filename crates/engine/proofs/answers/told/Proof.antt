@@ -1,7 +1,9 @@
 -- `answers::told` meets its contract: each return is the arm of `toldOf` that the tests before it name. Assumes nothing.
 use borrow.Author.Needs.{needs}
 use borrow.Author.Tests.{eq-eqb, ne-eqb, lt-ltb, le-ltb}
-use Rattle.engine.specs.Answers.{toldOf}
+use mathlib.Core.Path.{_≡_}
+use native.Mathlib.Omega.{arith}
+use Rattle.engine.specs.Answers.{nodeIn, toldOf}
 use Rattle.engine.proofs.answers.told.Statement.{statement}
 use Rattle.engine.proofs.answers.told.Tie as tie
 
@@ -10,7 +12,7 @@ cast-left c = search needs
 
 returns : tie.Need-returns
 unfolding toldOf
-returns c = rw (eq-eqb _ _ (c .if1 .taken))
+returns c = let e : nodeIn (c .before .args .r) ≡ 4294967295 = omega (arith, c .if1 .taken) in rw (eq-eqb _ _ e)
 
 cast-t6 : tie.Need-cast-t6
 cast-t6 c = search needs
