@@ -16,7 +16,7 @@
  * Several runs may share one table.
  *
  * THE STACK. Give a thread that calls mt_run MT_STACK bytes (2 MiB). A run nests at most 4,096 visits, and each form of
- * visit takes its own number of bytes. The deepest, a nested pattern, takes 1.8 MiB in all; in this is a copy of the table,
+ * visit takes its own number of bytes. The deepest, CONG, takes 1.9 MiB in all; in this is a copy of the table,
  * 128 KiB whatever the table's size. It is measured, not proved: the Rust crate's tests run 4,096 levels of each form on a
  * thread of exactly 2 MiB. The other functions take less than 64 KiB. On a smaller stack a deep run ends in the thread's
  * guard page, if it has one: the code touches every page of a large frame in order.

@@ -130,7 +130,7 @@ module _ {t w st : List ℕ} {e s i : ℕ} (n : ℕ) (ready : Ready t w st e s) 
       units-as = ap unitsIn ge ∙ units-packed y (unitsIn s) (omega arith)
 
       pub ready-path : Ready t w st x g
-      ready-path = record { entries = ready .entries; long = ready .long; inside = rw xe (ready .entries .operand e 0 (ready .inside) (omega arith)); steady = ready .steady; subject = rw node-as below }
+      ready-path = record { entries = ready .entries; hints = ready .hints; long = ready .long; inside = rw xe (ready .entries .operand e 0 (ready .inside) (omega arith)); steady = ready .steady; subject = rw node-as below }
 
       asks : ruled t n e (nodeIn s) (held st) w (markOf st) (unitsIn s)
           ≡ plan t n (ask keep (apply x y (held st)) (λ z c. again (nodeIn s) (constructorOf w (nodeIn s)) (put (children w (nodeIn s)) i z) c) fail) w (markOf st) (unitsIn s)
@@ -227,6 +227,7 @@ module _ {t w₀ st₀ : List ℕ} {e s : ℕ} (n : ℕ) (ready : Ready t w₀ s
       pub ready-one : x ≡ wordAt t e 2 → Ready t w st x g
       ready-one xe = record {
         entries = ready .entries;
+        hints = ready .hints;
         long = turn .wide ∙ ready .long;
         inside = rw xe (ready .entries .operand e 0 (ready .inside) (omega arith));
         steady = rw (turn .mark, turn .holds) (turn .steady);

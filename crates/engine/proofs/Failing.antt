@@ -1,16 +1,19 @@
 -- A strategy that fails at its head: a MATCH of another constructor or count, a SEQ that begins with one, a SCOPE of one.
-use mathlib.Core.Path.{_≡_, refl, ap, _∙_}
-use mathlib.Core.Bool.{false}
+use mathlib.Core.Path.{_≡_, refl, ap, sym, _∙_}
+use mathlib.Core.Bool.{Bool, true, false}
 use mathlib.Core.List.{List}
-use Prim.Native.Nat.{ℕ, _+_, _-_, _<_, _≤_}
+use mathlib.Core.Logic.{_⊎_}
+use Prim.Native.Nat.{ℕ, _+_, _-_, _<_, _≤_, min}
 use native.Mathlib.Omega.{arith}
+use lib.Dec.{eqb}
+use borrow.Author.Tests.{eqb-true, eqb-false}
 use Rattle.words.specs.Words.{wordAt}
 use Rattle.checks.specs.Good.{kindOf, argumentOf}
 use Rattle.meaning.specs.Bindings.{Bindings, unbound, masked}
 use Rattle.meaning.specs.Plan.{keep, ret, fail, ask}
 use Rattle.meaning.specs.Rules.{apply, Do}
 use Rattle.meaning.specs.Limits.{lost}
-use Rattle.engine.specs.Visits.{plan, ruled, agreeing, Entries, Skips}
+use Rattle.engine.specs.Visits.{plan, ruled, agreeing, Entries, Hinted, Skips}
 use Rattle.engine.proofs.Asking.{ask-failed}
 use Rattle.engine.proofs.Walking.{failing}
 use Rattle.engine.proofs.Kind.{applied}
@@ -66,3 +69,15 @@ module _ {t w : List ℕ} {q k : ℕ} where
 
     pub scope-fails : kindOf t q ≡ 16 → Skips t w q k (most + 1) (n + 1)
     scope-fails h = asked (λ b. masked (argumentOf t q) unbound b) (λ b g c. ret g (masked (argumentOf t q) b c)) (λ b m d u. ruled-scope t d q k b w m u x xe (argumentOf t q) refl h)
+
+-- what is known of a first operand, at a node of another constructor or count
+pub skips-hint : {t w : List ℕ} {e k p d u n : ℕ} → Hinted t → e < 4096 → (kindOf t e ≡ 5) ⊎ (kindOf t e ≡ 6) → n ≡ wordAt t e 5 → p ≡ wordAt t e 4 → agreeing t w p k ≡ false
+    → 4 ≤ d → 4 ≤ u → Skips t w (wordAt t e 2) k (min d u) n
+skips-hint {t} {w} {e} {k} {p} {d} {u} {n} h l κ q pe a i j = go (eqb n 0) refl
+  where
+    go : (z : Bool) → eqb n 0 ≡ z → Skips t w (wordAt t e 2) k (min d u) n
+    go true z = rw (eqb-true n 0 z) (skips-none (min d u))
+    go false z =
+        let some : wordAt t e 5 ≡ 0 → ⊥ = λ f. eqb-false n 0 z (q ∙ f) in
+        let f = h .head e l κ some in
+        rw q (record { few = omega (arith, f .few); fails = λ g. f .fails w k (ap (λ p. agreeing t w p k) (sym pe) ∙ a) })

@@ -5,12 +5,13 @@ use mathlib.Core.Bool.{Bool, true, false, not, _&&_, _||_, true≢false}
 use mathlib.Core.Option.{Option, none, some}
 use mathlib.Core.Logic.{_⊎_, inl, inr, ⊎-elim}
 use mathlib.Core.List.{List}
-use Prim.Native.Nat.{ℕ, zero, suc, _+_, _-_, _/_, _%_, _^_, _<_, _≤_}
+use Prim.Native.Nat.{ℕ, zero, suc, _+_, _-_, _*_, _/_, _%_, _^_, _<_, _≤_}
 use native.Mathlib.Omega.{arith}
-use lib.Dec.{eqb}
+use lib.Dec.{lit<, eqb}
 use lib.ListN.{length, getD, set, length-set}
 use lib.Seq.{getD-set-same, getD-set-other}
 use lib.Bits.{bitAnd, bitOr}
+use lib.Pow.{shl-exact}
 use borrow.Author.Tests.{lt-ltb, le-ltb, eqb-true, eqb-false, ne-eqb}
 use Rattle.words.specs.Tests.{if_then_else_}
 use Rattle.words.proofs.Tests.{below-or-from}
@@ -129,6 +130,13 @@ module _ (st : List ℕ) (v t : ℕ) (small : v < 32) where
     pub framed-bound : (bitOf (maskOf st) v ≡ 1 → ⊥) → Framed st (bound st v t)
     unfolding bound
     framed-bound n = framed-mask (set st v t) mask′ long′ st long (λ w l h. (rw (has-bound w, h), getD-set-other st v w t 0 (λ e. n (has-bit (maskOf st) v (subst (λ (x : ℕ). has (maskOf st) x ≡ true) e h)))))
+
+-- a variable set in place, its node and then its bit, is bound
+pub set-bound : (st : List ℕ) (v x : ℕ) → v < 32 → set (set st v x) 33 (bitOr (maskOf (set st v x)) (1 * 2 ^ v % 4294967296)) ≡ bound st v x
+unfolding bound
+set-bound st v x l =
+    let e : 1 * 2 ^ v % 4294967296 ≡ 2 ^ v = shl-exact {a = 1} 1 v 32 (lit< tt) (omega arith) ∙ omega arith in
+    rw (getD-set-other st v 33 x 0 (λ z. omega arith), e)
 
 -- a failure caught: mark and mask as they were
 module _ (st st′ : List ℕ) (long : length st′ ≡ 34) where

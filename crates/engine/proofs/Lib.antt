@@ -21,4 +21,5 @@ pub mod Scoping
 pub mod Descending
 pub mod Looping
 pub mod Failing
+pub mod Leaping
 pub mod Walker

@@ -18,7 +18,7 @@ use Rattle.engine.specs.declared.answers.Answer.{Answer}
 use Rattle.engine.specs.declared.answers.Answer.the-variants.{Done, Failed, Cut}
 use Rattle.engine.specs.Answers.{packed, nodeIn, unitsIn, unitsWord, nestingWord, failedWord, toldOf}
 use Rattle.engine.specs.Record.{markOf, held, back, Framed}
-use Rattle.engine.specs.Visits.{visit, ruled, out, Entries, Steady, Ready, Last, Gives, Skips}
+use Rattle.engine.specs.Visits.{visit, ruled, out, countOf, Entries, Steady, Ready, Last, Gives, Skips}
 use Rattle.engine.proofs.Telling.{told-failed, out-failed, node-packed, units-packed, done-node, done-units, failed-few}
 use Rattle.engine.proofs.Asking.{Tagged}
 use Rattle.engine.proofs.Kind.{applied}
@@ -26,6 +26,7 @@ use Rattle.engine.proofs.Keeping.{apply-leaves, steady-kept, steady-aft
 use Rattle.engine.proofs.Holding.{held-back, mark-back, length-back, framed-back, framed-refl, framed-trans}
 use Rattle.engine.proofs.Limited.{units-out, nesting-out}
 use Rattle.engine.proofs.Ruling.{ready-operand, ruled-rec, ruled-call}
+use Rattle.engine.proofs.Returning.{gives-itself}
 use Rattle.engine.proofs.Operators.{seq-stops, seq-goes-on, left-stops, left-goes-on}
 
 -- what a turn of the loop has: the rest of the visits is the whole
@@ -83,7 +84,7 @@ module _ {t w₀ st₀ : List ℕ} {start given deep : ℕ} {w st : List ℕ} {e
   ready-next i x l q = ready-operand (turn .ready) i x (s - 1) l q (rw (same-node s units) (turn .ready .subject))
 
   pub ready-same : Ready t w st e (s - 1)
-  ready-same = record { entries = turn .ready .entries; long = turn .ready .long; inside = turn .ready .inside; steady = turn .ready .steady; subject = rw (same-node s units) (turn .ready .subject) }
+  ready-same = record { entries = turn .ready .entries; hints = turn .ready .hints; long = turn .ready .long; inside = turn .ready .inside; steady = turn .ready .steady; subject = rw (same-node s units) (turn .ready .subject) }
 
   -- REC and CALL
   pub rec-turn : (x : ℕ) → x ≡ wordAt t e 2 → (kindOf t e ≡ 7) ⊎ (kindOf t e ≡ 8) → Turn t w₀ st₀ start given deep w st x (s - 1) (d - 1)
@@ -101,6 +102,11 @@ module _ {t w₀ st₀ : List ℕ} {start given deep : ℕ} {w st : List ℕ} {e
   pub whole : {r : ℕ} {st′ w′ : List ℕ} → Gives (ruled t (d - 1) e (nodeIn (s - 1)) (held st) w (markOf st) (unitsIn (s - 1))) st r st′ w′
       → Gives (visit t deep (apply start (nodeIn given) (held st₀)) w₀ (markOf st₀) (unitsIn given)) st₀ r st′ w′
   whole {st′ = st′} g = record { is = g .is ∙ counts; frame = framed-trans st₀ st st′ (turn .frame) (g .frame) }
+
+  -- ALL of a term without children
+  pub all-itself : kindOf t e ≡ 11 → countOf w (nodeIn s) ≡ 0
+      → Gives (visit t deep (apply start (nodeIn given) (held st₀)) w₀ (markOf st₀) (unitsIn given)) st₀ (s - 1) st w
+  all-itself h z = whole (gives-itself (d - 1) ready-same h (ap (countOf w) (same-node s units) ∙ z))
 
   -- the first operand of SEQ, CHOICE or LEFT ran
   module _ {x got : ℕ} {st′ w′ : List ℕ} (xe : x ≡ wordAt t e 2)
@@ -129,6 +135,7 @@ module _ {t w₀ st₀ : List ℕ} {start given deep : ℕ} {w st : List ℕ} {e
           long = l ∙ turn .long;
           ready = record {
             entries = turn .ready .entries;
+            hints = turn .ready .hints;
             long = long′;
             inside = rw ye (turn .ready .entries .operand e 1 (turn .ready .inside) (omega arith));
             steady = steady-after (turn .ready .steady) w′ (markOf st′) z v (held st′) lv;
@@ -158,6 +165,7 @@ module _ {t w₀ st₀ : List ℕ} {start given deep : ℕ} {w st : List ℕ} {e
             long = l ∙ turn .long;
             ready = record {
               entries = turn .ready .entries;
+              hints = turn .ready .hints;
               long = length-back st st′ long′;
               inside = rw ye (turn .ready .entries .operand e 1 (turn .ready .inside) (omega arith));
               steady = rw (mark-as, held-as) (steady-kept (turn .ready .steady) kept);

@@ -2,16 +2,13 @@
 use mathlib.Core.Path.{_≡_, refl, ap, sym, _∙_}
 use mathlib.Core.Bool.{Bool, true, false}
 use mathlib.Core.Option.{none, some}
-use mathlib.Core.Logic.{⊎-elim, inr}
+use mathlib.Core.Logic.{⊎-elim, inl, inr}
 use mathlib.Core.List.{List, [], _∷_, _++_}
-use Prim.Native.Nat.{ℕ, _+_, _-_, _*_, _%_, _^_, _≤_, _<_}
+use Prim.Native.Nat.{ℕ, _+_, _-_, _≤_, _<_}
 use native.Mathlib.Omega.{arith}
-use lib.Dec.{lit<, eqb}
+use lib.Dec.{eqb}
 use borrow.Author.Tests.{eqb-true, eqb-false}
-use lib.ListN.{length, getD, set, drop}
-use lib.Seq.{getD-set-other}
-use lib.Bits.{bitOr}
-use lib.Pow.{shl-exact}
+use lib.ListN.{length, getD, drop}
 use Rattle.words.specs.Words.{wordAt}
 use Rattle.checks.specs.Good.{kindOf, operandCount, argumentOf}
 use Rattle.meaning.specs.Bindings.{Bindings, bind}
@@ -94,18 +91,26 @@ matched-none t w n p g b = record { goes-on = λ m. ([], refl); frame = framed-r
 pub matched-at : (t w : List ℕ) (n p g : ℕ) (b st st′ : List ℕ) (u u′ i : ℕ) → st′ ≡ st → u′ ≡ u → u < 4294967296 → Matched t w n p g b st u i → (u′ < 4294967296) × Matched t w n p g b st′ u′ i
 matched-at t w n p g b st st′ u u′ i e f l c = rw (e, f) (l, c)
 
--- all children fit
-pub matched-all : (t w : List ℕ) (n p g : ℕ) (b st : List ℕ) (u i r : ℕ) → Matched t w n p g b st u i → operandCount t p ≤ i → r ≡ packed 0 u → u < 4294967296 → Fitting t w n p g b r st
+-- a word told as a success
+kept-is : (w : List ℕ) (r x : ℕ) (b : Bindings ℕ) (m : ℕ) (a : Answer) → a ≡ toldOf r → (y v : ℕ) → a ≡ Done y v → kept r x b w m ≡ ended x b (on w m) v
+unfolding giving
+kept-is w r x b m a e y v f = kept-told w w x b m r a e ∙ rw f
+
+-- all children fit, and the word r says so
+matched-end : (t w : List ℕ) (n p g : ℕ) (b st : List ℕ) (u i r : ℕ) → Matched t w n p g b st u i → operandCount t p ≤ i → ((m : ℕ) → kept r (nodeIn g) (held st) w m ≡ ended (nodeIn g) (held st) (on w m) u) → Fitting t w n p g b r st
 unfolding zip
-matched-all t w n p g b st u i r c h e l = record {
+matched-end t w n p g b st u i r c h e = record {
   is = λ m.
-      ap (λ r. kept r (nodeIn g) (held st) w m) e
-      ∙ kept-done w w (nodeIn g) (held st) m 0 u (omega arith) l
+      e m
       ∙ sym (walk-end t n w m u (c .goes-on m .0) (held st) _ _ (rw (part-end t p (operandCount t p) i (omega arith))) ∙ returned t n w m u (nodeIn g) (held st))
       ∙ c .goes-on m .1;
   frame = c .frame;
   mark = c .mark;
 }
+
+pub matched-all : (t w : List ℕ) (n p g : ℕ) (b st : List ℕ) (u i r : ℕ) → Matched t w n p g b st u i → operandCount t p ≤ i → r ≡ packed 0 u → u < 4294967296 → Fitting t w n p g b r st
+matched-all t w n p g b st u i r c h e l =
+    matched-end t w n p g b st u i r c h (λ m. ap (λ r. kept r (nodeIn g) (held st) w m) e ∙ kept-done w w (nodeIn g) (held st) m 0 u (omega arith) l)
 
 -- before child i: the operand q is next, on the child x
 pub record Turn (t w : List ℕ) (n p g : ℕ) (b st : List ℕ) (u i q x : ℕ) : Type 0 where
@@ -198,6 +203,10 @@ module _ {t w : List ℕ} {n p g : ℕ} {b st : List ℕ} {u i q x : ℕ} (c : T
         mark = k ∙ c .so-far .mark;
       }
 
+      -- the same with the record as it was
+      refused : Tagged a 1 2 → Fitting t w n p g b r st
+      refused e = fitting r (λ m. kept-stop t n w m u (before m) (held st) _ (match q x) rest r x (held st′) (is m) a told e (nodeIn g) (held st))
+
     -- a variable
     module _ {v : ℕ} (kind : kindOf t q ≡ 18) (ve : v ≡ argumentOf t q) where
       pub free-matched : {st′ : List ℕ} → length st ≡ 34 → (bitOf (maskOf st) v ≡ 1 → ⊥) → st′ ≡ bound st v x → Matched t w n p g b st′ (u - 1) (i + 1)
@@ -252,6 +261,20 @@ module _ {t w : List ℕ} {n p g : ℕ} {b st : List ℕ} {u i q x : ℕ} (c : T
             pub inner-stops : Tagged a 1 2 → Fitting t w n p g b r st′
             inner-stops j = stopped r st′ (f .frame) (f .mark) fitted a told j
 
+            pub inner-refused : Tagged a 1 2 → Fitting t w n p g b r st
+            inner-refused j = refused r st′ (f .frame) (f .mark) fitted a told j
+
+          -- the last child's: what answers them answers all
+          pub last-fits : i + 1 ≡ operandCount t p → (r : ℕ) (st′ : List ℕ) → Fitting t w (n - 1) q s st r st′ → Fitting t w n p g b r st′
+          last-fits h r st′ f = go (toldOf r) refl
+            where
+              go : (a : Answer) → a ≡ toldOf r → Fitting t w n p g b r st′
+              go (Done y v) e =
+                  matched-end t w n p g b st′ v (i + 1) r (inner-matched r st′ f (Done y v) e y v refl) (omega arith)
+                  (λ m. kept-is w r (nodeIn g) (held st′) m (Done y v) e y v refl)
+              go (Failed v) e = inner-stops r st′ f (Failed v) e (inl refl)
+              go (Cut k) e = inner-stops r st′ f (Cut k) e (inr refl)
+
 -- with no nesting left no child is visited
 nothing-fits : (t w : List ℕ) (n p g : ℕ) (b : List ℕ) → Entries t → p < 4096 → kindOf t p ≡ 19 → agreeing t w p (nodeIn g) ≡ true → (operandCount t p ≡ 0 → ⊥) → n ≡ 0 → {r : ℕ} → r ≡ stoppedWord (unitsIn g) → Fitting t w n p g b r b
 nothing-fits t w n p g b en inside kind agreed o d e =
@@ -284,6 +307,76 @@ inner-stopped {t} {w} {n} {p} {g} {b} {st} {u} {i} {q} {x} c z kind e o d {r} f 
     (sym (ap (λ r. toldOf r) f ∙ told-stopped (u - 1) l ∙ ap (λ r. Cut r) (sym f)))
     (inr refl)
 
+-- a walk that goes on in place with the children of the last child: it is before child i of entry p on node k, with the
+-- record st, and a word that answers the children of p answers those of p₀, where it began
+pub record Going (t w : List ℕ) (n₀ p₀ g₀ : ℕ) (b₀ : List ℕ) (n p k : ℕ) (st : List ℕ) (u i : ℕ) : Type 0 where
+  pub given : ℕ
+  pub held-then : List ℕ
+  pub node : nodeIn given ≡ k
+  pub inside : p < 4096
+  pub kind : kindOf t p ≡ 19
+  pub agreed : agreeing t w p (nodeIn given) ≡ true
+  pub so-far : Matched t w n p given held-then st u i
+  pub whole : (r : ℕ) (c : List ℕ) → Fitting t w n p given held-then r c → Fitting t w n₀ p₀ g₀ b₀ r c
+
+pub going-none : (t w : List ℕ) (n p g : ℕ) (b : List ℕ) → p < 4096 → kindOf t p ≡ 19 → agreeing t w p (nodeIn g) ≡ true → Going t w n p g b n p (nodeIn g) b (unitsIn g) 0
+going-none t w n p g b inside kind agreed = record {
+  given = g;
+  held-then = b;
+  node = refl;
+  inside = inside;
+  kind = kind;
+  agreed = agreed;
+  so-far = matched-none t w n p g b;
+  whole = λ r c f. f;
+}
+
+module _ {t w : List ℕ} {n₀ p₀ g₀ : ℕ} {b₀ : List ℕ} {n p k : ℕ} {st : List ℕ} {u i : ℕ} (c : Going t w n₀ p₀ g₀ b₀ n p k st u i) where
+  -- operand and child are read
+  pub going-turn : {q x : ℕ} → Entries t → i < operandCount t p → q ≡ wordAt t p (2 + i) → x ≡ wordAt w k (2 + i) → u < 4294967296 → Turn t w n p (c .given) (c .held-then) st u i q x
+  going-turn en below e f l = record {
+    so-far = c .so-far;
+    entries = en;
+    inside = c .inside;
+    kind = c .kind;
+    agreed = c .agreed;
+    below = below;
+    operand = e;
+    child = f ∙ ap (λ k. wordAt w k (2 + i)) (sym (c .node));
+    few = l;
+  }
+
+  pub going-on : {st′ : List ℕ} {v j : ℕ} → Matched t w n p (c .given) (c .held-then) st′ v j → Going t w n₀ p₀ g₀ b₀ n p k st′ v j
+  going-on f = record {
+    given = c .given;
+    held-then = c .held-then;
+    node = c .node;
+    inside = c .inside;
+    kind = c .kind;
+    agreed = c .agreed;
+    so-far = f;
+    whole = c .whole;
+  }
+
+  -- the record keeps its length
+  pub going-long : {st′ : List ℕ} {v j : ℕ} → length st ≡ 34 → Matched t w n p (c .given) (c .held-then) st′ v j → length st′ ≡ 34
+  going-long l f = f .frame .long ∙ sym (c .so-far .frame .long) ∙ l
+
+  -- the last child, whose children are next
+  pub going-down : {q x : ℕ} → Turn t w n p (c .given) (c .held-then) st u i q x → (u ≡ 0 → ⊥) → (n ≡ 0 → ⊥) → kindOf t q ≡ 19 → agreeing t w q x ≡ true → i + 1 ≡ operandCount t p → Going t w n₀ p₀ g₀ b₀ (n - 1) q x st (u - 1) 0
+  going-down {q} {x} a z d kind e h =
+      let l : u - 1 < 4294967296 = omega (arith, a .few) in
+      record {
+        given = packed x (u - 1);
+        held-then = st;
+        node = node-packed x (u - 1) l;
+        inside = operand-is a .0;
+        kind = kind;
+        agreed = handed a z d kind e refl;
+        so-far = rw (units-packed x (u - 1) l) at (matched-none t w (n - 1) q (packed x (u - 1)) st);
+        whole = λ r st′ f. c .whole r st′ (last-fits a z d kind e refl h r st′ f);
+      }
+
 -- an answer's word, told as a: with any record where it is no success
 out-kept : (st w : List ℕ) (r x : ℕ) (b : Bindings ℕ) (m : ℕ) (a : Answer) → a ≡ toldOf r → Tagged a 1 2 → out r st w ≡ kept r x b w m
 unfolding meaning giving
@@ -293,17 +386,6 @@ out-kept st w r x b m a e h = out-told st w r a e ∙ go a h ∙ sym (kept-told 
     go (Done y v) h = absurd (⊎-elim (λ z. omega arith) (λ z. omega arith) h)
     go (Failed v) h = refl
     go (Cut d) h = refl
-
-kept-is : (w : List ℕ) (r x : ℕ) (b : Bindings ℕ) (m : ℕ) (a : Answer) → a ≡ toldOf r → (y v : ℕ) → a ≡ Done y v → kept r x b w m ≡ ended x b (on w m) v
-unfolding giving
-kept-is w r x b m a e y v f = kept-told w w x b m r a e ∙ rw f
-
--- a variable set in place, its node and then its bit, is bound
-pub set-bound : (st : List ℕ) (v x : ℕ) → v < 32 → set (set st v x) 33 (bitOr (maskOf (set st v x)) (1 * 2 ^ v % 4294967296)) ≡ bound st v x
-unfolding bound
-set-bound st v x l =
-    let e : 1 * 2 ^ v % 4294967296 ≡ 2 ^ v = shl-exact {a = 1} 1 v 32 (lit< tt) (omega arith) ∙ omega arith in
-    rw (getD-set-other st v 33 x 0 (λ z. omega arith), e)
 
 -- the root: a visit of the pattern p on the node of g, with the record st
 module _ {t w st : List ℕ} {p g : ℕ} (c : Ready t w st p g) (n : ℕ) where
@@ -328,8 +410,8 @@ module _ {t w st : List ℕ} {p g : ℕ} (c : Ready t w st p g) (n : ℕ) where
   }
 
   -- a word that is no success, whose units are the root's
-  stopped-root : (r : ℕ) (b : Bindings ℕ) (a : Answer) → a ≡ toldOf r → Tagged a 1 2 → kept r (nodeIn g) b w (markOf st) ≡ root → Gives root st r st w
-  stopped-root r b a e h o = record { is = out-kept st w r (nodeIn g) b (markOf st) a e h ∙ o; frame = framed-refl st }
+  stopped-root : (r : ℕ) (st′ : List ℕ) → Framed st st′ → (a : Answer) → a ≡ toldOf r → Tagged a 1 2 → kept r (nodeIn g) (held st′) w (markOf st) ≡ root → Gives root st r st′ w
+  stopped-root r st′ f a e h o = record { is = out-kept st′ w r (nodeIn g) (held st′) (markOf st) a e h ∙ o; frame = f }
 
   module _ (z : unitsIn g ≡ 0 → ⊥) (d : n ≡ 0 → ⊥) where
     -- the root's word with one unit less
@@ -357,7 +439,7 @@ module _ {t w st : List ℕ} {p g : ℕ} (c : Ready t w st p g) (n : ℕ) where
         root-compared = is ∙ sym (variable-bound t n p (nodeIn g) (held st) w (markOf st) (unitsIn g) z d v kind ve (getD st v 0) (held-some st v root-small e))
 
         pub root-bound-stops : Tagged a 1 2 → Gives root st r st w
-        root-bound-stops h = stopped-root r (held st) a told h root-compared
+        root-bound-stops h = stopped-root r st (framed-refl st) a told h root-compared
 
         pub root-bound : (y k r′ : ℕ) → a ≡ Done y k → r′ ≡ packed (nodeIn g) k → Gives root st r′ st w
         root-bound y k r′ f s =
@@ -391,8 +473,8 @@ module _ {t w st : List ℕ} {p g : ℕ} (c : Ready t w st p g) (n : ℕ) where
               (rw (node-less, units-less) at (f .is (markOf st)))
               ∙ sym (agrees t n p (nodeIn g) (held st) w (markOf st) (unitsIn g) z d (c .entries) (c .inside) kind e)
 
-          pub root-stops : Tagged a 1 2 → Gives root st r st w
-          root-stops h = stopped-root r (held st′) a told h root-fitted
+          pub root-stops : Tagged a 1 2 → Gives root st r st′ w
+          root-stops h = stopped-root r st′ (f .frame) a told h root-fitted
 
           pub root-fits : (y k r′ : ℕ) → a ≡ Done y k → r′ ≡ packed (nodeIn g) k → Gives root st r′ st′ w
           root-fits y k r′ h s =

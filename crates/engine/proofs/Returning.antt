@@ -17,11 +17,12 @@ use Rattle.engine.specs.Record.{markOf, held, back, Framed}
 use Rattle.meaning.specs.Limits.{lost}
 use Rattle.meaning.specs.Store.{Ran}
 use native.Mathlib.Omega.{arith}
-use Rattle.engine.specs.Visits.{visit, ruled, noded, finished, Pattern, Ready, Last, Gives}
+use Rattle.engine.specs.Visits.{visit, ruled, countOf, noded, finished, Pattern, Ready, Last, Gives}
 use borrow.Author.Tests.{ne-eqb}
 use Rattle.engine.proofs.Telling.{packed-again, gave, gave-failed}
-use Rattle.engine.proofs.Ruling.{ruled-id, ruled-fail, ruled-above}
+use Rattle.engine.proofs.Ruling.{ruled-id, ruled-fail, ruled-above, ruled-all}
 use Rattle.engine.proofs.Asking.{Tagged}
+use Rattle.engine.proofs.Walker.{childless}
 use Rattle.engine.proofs.Keeping.{node-small}
 use Rattle.engine.proofs.Holding.{held-back, mark-back, framed-back, length-back, framed-refl}
 use Rattle.engine.proofs.Operators.{other, where-stops, where-done, guard-off, test-done, not-did, test-failed, not-failed-then}
@@ -83,6 +84,14 @@ module _ {t w st : List ℕ} {e s : ℕ} (n : ℕ) (ready : Ready t w st e s) wh
   pub gives-id : {k : ℕ} → k ≡ kindOf t e → k ≡ 0 → Gives (ruled t n e (nodeIn s) (held st) w (markOf st) (unitsIn s)) st s st w
   gives-id q h = record {
     is = gave st w s (nodeIn s) (unitsIn s) (sym (packed-again s)) (node-small (ready .steady) (nodeIn s) (ready .subject)) (omega arith) ∙ sym (ruled-id t n e (nodeIn s) (held st) w (markOf st) (unitsIn s) (sym q ∙ h));
+    frame = framed-refl st;
+  }
+
+  -- so does ALL of a term without children
+  pub gives-itself : kindOf t e ≡ 11 → countOf w (nodeIn s) ≡ 0 → Gives (ruled t n e (nodeIn s) (held st) w (markOf st) (unitsIn s)) st s st w
+  gives-itself h z = record {
+    is = gave st w s (nodeIn s) (unitsIn s) (sym (packed-again s)) (node-small (ready .steady) (nodeIn s) (ready .subject)) (omega arith)
+        ∙ sym (ruled-all t n e (nodeIn s) (held st) w (markOf st) (unitsIn s) h ∙ childless t w e (nodeIn s) n (held st) (markOf st) (unitsIn s) h z);
     frame = framed-refl st;
   }
 

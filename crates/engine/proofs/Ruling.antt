@@ -22,7 +22,7 @@ use Rattle.engine.proofs.Asking.{last}
 
 -- an operand is an entry, and is visited on a node below the mark
 pub ready-operand : {t w st : List ℕ} {e g : ℕ} → Ready t w st e g → (i x h : ℕ) → i < 6 → x ≡ wordAt t e (2 + i) → nodeIn h < markOf st → Ready t w st x h
-ready-operand r i x h l q k = record { entries = r .entries; long = r .long; inside = rw q (r .entries .operand _ i (r .inside) l); steady = r .steady; subject = k }
+ready-operand r i x h l q k = record { entries = r .entries; hints = r .hints; long = r .long; inside = rw q (r .entries .operand _ i (r .inside) l); steady = r .steady; subject = k }
 
 module _ (t : List ℕ) (n e k : ℕ) (b : Bindings ℕ) (w : List ℕ) (m u : ℕ) where
   abbrev asks : Do ℕ → Type 0

@@ -79,6 +79,7 @@ module _ {t w st : List ℕ} {e s x i : ℕ} (n : ℕ) (ready : Ready t w st e s
       subst (λ z. Ready t w (set st 33 z) x s) (sym ze) (
       record {
         entries = ready .entries;
+        hints = ready .hints;
         long = length-hidden st i (ready .long) small;
         inside = rw xe (ready .entries .operand e 0 (ready .inside) (omega arith));
         steady = rw (mark-hidden st i (ready .long) small, held-hidden st i (ready .long) small) (steady-masked i (ready .steady));

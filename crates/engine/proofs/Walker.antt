@@ -5,9 +5,9 @@ use mathlib.Core.List.{List, [], _∷_, _++_, map}
 use mathlib.Core.Logic.{_⊎_, ⊎-elim}
 use Prim.Native.Nat.{ℕ, zero, suc, _+_, _-_, _*_, _/_, _%_, _<_, _≤_, min}
 use native.Mathlib.Omega.{arith}
-use lib.Dec.{eqb, leb}
-use lib.ListN.{length, drop, set, length-set, drop-of-length-le, length-map}
-use borrow.Author.Tests.{eq-eqb, ne-eqb, eqb-true, eqb-false}
+use lib.Dec.{eqb, leb, ltb}
+use lib.ListN.{length, drop, set, getD, length-set, drop-of-length-le, length-map}
+use borrow.Author.Tests.{eq-eqb, ne-eqb, le-ltb, eqb-true, eqb-false}
 use Rattle.words.specs.Words.{wordAt, rows, putRow}
 use Rattle.words.specs.Tests.{if_then_else_}
 use Rattle.checks.specs.Good.{kindOf, operandCount, constructorOf, childCount}
@@ -24,14 +24,15 @@ use Rattle.engine.specs.declared.answers.Answer.{Answer}
 use Rattle.engine.specs.declared.answers.Answer.the-variants.{Done, Failed, Cut}
 use Rattle.engine.specs.declared.answers.Heard.{Heard}
 use Rattle.engine.specs.declared.answers.Heard.the-variants.{Ended, Cut as Off}
-use Rattle.engine.specs.Answers.{packed, nodeIn, unitsIn, toldOf, heardOf}
+use Rattle.engine.specs.Answers.{packed, nodeIn, unitsIn, unitsWord, toldOf, heardOf}
 use Rattle.engine.specs.Record.{markOf, held, back, Framed}
-use Rattle.engine.specs.Visits.{out, visit, plan, countOf, Counted, operandFor, visits, walked, noded, finished, Steady, Roomy, Ready, Gives}
-use Rattle.engine.proofs.Telling.{node-packed, units-packed, done-units, failed-few, heard-yes, heard-no, heard-off}
+use Rattle.engine.specs.Visits.{out, visit, plan, countOf, Counted, operandFor, visits, walked, noded, finished, landed, Leads, Leaps, Steady, Roomy, Ready, Gives}
+use Rattle.engine.proofs.Telling.{node-packed, units-packed, done-units, failed-few, heard-yes, heard-no, heard-off, out-units}
 use Rattle.engine.proofs.Asking.{goes-on, caught, cut-off}
 use Rattle.engine.proofs.Keeping.{apply-leaves, steady-kept, steady-after, roomy, leaves-done, leaves-failed, node-small}
 use Rattle.engine.proofs.Holding.{held-back, mark-back, framed-back, length-back, framed-refl, framed-trans}
 use Rattle.engine.proofs.Children.{part-length, part-next, part-end, filled, filled-next, one-more, filled-row}
+use Rattle.engine.proofs.Leaping.{leads-on, leads-inside}
 use Rattle.engine.proofs.Operators.{ends, fails, not-caught}
 
 -- a term made anew, and a term without children
@@ -126,6 +127,45 @@ rest-all : (t w : List ℕ) (e k : ℕ) (b : Bindings ℕ) → rest t w e k 0 0 
 unfolding walked
 rest-all t w e k b = refl
 
+-- ALL of a term without children gives it back
+pub childless : (t w : List ℕ) (e k n : ℕ) (b : Bindings ℕ) (m u : ℕ) → kindOf t e ≡ 11 → countOf w k ≡ 0 → plan t n (walked t w e k b) w m u ≡ ended k b (on w m) u
+childless t w e k n b m u h z =
+    ap (λ p. plan t n p w m u) (sym (rest-all t w e k b) ∙ rest-end t w e k (λ f. absurd (omega arith)) 0 0 [] b (omega (arith, z)))
+    ∙ rw (ne-eqb (kindOf t e) 13 (λ f. omega arith)) (itself t n k (constructorOf w k) b w m u)
+
+-- the words of the node that is made: its children are the first, the second, and the four after them
+pub placed : {a′ b′ y : ℕ} {more′ : List ℕ} (i x c n a b : ℕ) (more : List ℕ) → a′ ≡ (if eqb i 0 then y else a) → b′ ≡ (if eqb i 1 then y else b)
+    → more′ ≡ (if ltb i 2 then more else set more (i - 2) y) → y ≡ x → c ∷ n ∷ a′ ∷ b′ ∷ more′ ≡ set (c ∷ n ∷ a ∷ b ∷ more) (2 + i) x
+placed zero x c n a b more p q r e = rw (p, q, r, e)
+placed (suc zero) x c n a b more p q r e = rw (p, q, r, e)
+placed (suc (suc j)) x c n a b more p q r e =
+    let f : eqb (suc (suc j)) 0 ≡ false = ne-eqb (suc (suc j)) 0 (λ z. omega arith) in
+    let g : eqb (suc (suc j)) 1 ≡ false = ne-eqb (suc (suc j)) 1 (λ z. omega arith) in
+    let h : ltb (suc (suc j)) 2 ≡ false = le-ltb (suc (suc j)) 2 (omega arith) in
+    let k : suc (suc j) - 2 ≡ j = omega arith in
+    let z : 2 + suc (suc j) ≡ suc (suc (suc (suc j))) = omega arith in
+    rw (p, q, r, e, f, g, h, k, z)
+
+pub four : (more : List ℕ) → length more ≡ 4 → getD more 0 0 ∷ getD more 1 0 ∷ getD more 2 0 ∷ getD more 3 0 ∷ [] ≡ more
+four [] h = absurd (omega arith)
+four (a ∷ []) h = absurd (omega arith)
+four (a ∷ b ∷ []) h = absurd (omega arith)
+four (a ∷ b ∷ c ∷ []) h = absurd (omega arith)
+four (a ∷ b ∷ c ∷ d ∷ []) h = refl
+four (a ∷ b ∷ c ∷ d ∷ e ∷ l) h = absurd (omega arith)
+
+-- what SOME saved is put back
+pub saving : (κ mark mask : ℕ) (st st′ : List ℕ) → mark ≡ (if eqb κ 13 then getD st 32 0 else 0) → mask ≡ (if eqb κ 13 then getD st 33 0 else 0) → κ ≡ 13
+    → set (set st′ 32 mark) 33 mask ≡ back st st′
+saving κ mark mask st st′ p q k = rw (p, q, k)
+
+pub four-still : {more′ : List ℕ} (more : List ℕ) (i y : ℕ) → length more ≡ 4 → more′ ≡ (if ltb i 2 then more else set more (i - 2) y) → length more′ ≡ 4
+four-still more i y h q = rw q (go (ltb i 2))
+  where
+    go : (z : Bool) → length (if z then more else set more (i - 2) y) ≡ 4
+    go true = h
+    go false = length-set more (i - 2) y ∙ h
+
 -- what a turn of the walk has: k is the node that is walked, w₀ and st₀ the store and the record where it began
 pub record Going (t w₀ st₀ : List ℕ) (e s deep : ℕ) (w st : List ℕ) (u won : ℕ) (made : List ℕ) (i : ℕ) : Type 0 where
   pub done : List ℕ
@@ -173,6 +213,7 @@ module _ {t w₀ st₀ : List ℕ} {e s deep : ℕ} {w st : List ℕ} {u won : �
   pub going-ready : {x κ c p : ℕ} → x ≡ operandFor t e κ i → κ ≡ kindOf t e → c ≡ wordAt w (nodeIn s) (2 + i) → p ≡ packed c u → Ready t w st x p
   going-ready {x} {κ} {c} {p} xe κe ce pe = record {
     entries = ready .entries;
+    hints = ready .hints;
     long = g .wide ∙ ready .long;
     inside = rw xe (operand-inside (eqb κ 10));
     steady = g .steady;
@@ -256,8 +297,10 @@ module _ {t w₀ st₀ : List ℕ} {e s deep : ℕ} {w st : List ℕ} {u won : �
           })
 
       -- SOME keeps child i, which failed
-      pub going-no : {k r : ℕ} {st″ made″ : List ℕ} → b ≡ false → k ≡ kindOf t e → k ≡ 13 → st″ ≡ back st st′ → r ≡ won → made″ ≡ set made (2 + i) c → Going t w₀ st₀ e s deep w′ st″ v r made″ (i + 1)
-      going-no {k} {r} {st″} {made″} z ke k13 se re me =
+      pub going-no : {k r mark mask : ℕ} {st″ made″ : List ℕ} → b ≡ false → k ≡ kindOf t e → k ≡ 13 → mark ≡ (if eqb k 13 then getD st 32 0 else 0) → mask ≡ (if eqb k 13 then getD st 33 0 else 0)
+          → st″ ≡ set (set st′ 32 mark) 33 mask → r ≡ won → made″ ≡ set made (2 + i) c → Going t w₀ st₀ e s deep w′ st″ v r made″ (i + 1)
+      going-no {k} {r} {mark} {mask} {st″} {made″} z ke k13 p q saved re me =
+          let se : st″ ≡ back st st′ = saved ∙ saving k mark mask st st′ p q k13 in
           let f = failed-as z in
           let kp = leaves-failed w (markOf st) _ leaves got st′ w′ (gives .is) (toldOf got) refl v f in
           let hd = held-back st st′ long′ (gives .frame) in
@@ -277,6 +320,49 @@ module _ {t w₀ st₀ : List ℕ} {e s deep : ℕ} {w st : List ℕ} {u won : �
             won-later = λ j. omega arith;
             left = rw (mk, hd) (sym (next ∙ caught t deep w (markOf st) u _ got st′ w′ is (toldOf got) refl keep _ _ v f ∙ rw (eq-eqb (kindOf t e) 13 (sym ke ∙ k13))) ∙ g .left);
           })
+
+-- running out of units is a cut-off
+units-off : heardOf (toldOf unitsWord) ≡ Off unitsWord
+unfolding heardOf toldOf
+units-off = refl
+
+-- a visit of child i of which the first n only lead on
+module _ {t w₀ st₀ : List ℕ} {e s deep : ℕ} {w st : List ℕ} {u won : ℕ} {made : List ℕ} {i : ℕ} (ready : Ready t w₀ st₀ e s) (same : Counted t w₀ e (nodeIn s))
+    (g : Going t w₀ st₀ e s deep w st u won made i) (h : i < countOf w₀ (nodeIn s)) (n κ : ℕ) (leaps : Leaps t e deep n) (κe : κ ≡ kindOf t e) {first x : ℕ} (fe : first ≡ landed t e n)
+    (xe : x ≡ (if eqb κ 10 then wordAt t e (2 + i) else first)) where
+  leads : Leads t (operandFor t e κ i) x n
+  leads = leads-on n κ i leaps κe fe xe
+
+  module _ {c p : ℕ} (ce : c ≡ wordAt w (nodeIn s) (2 + i)) (pe : p ≡ packed c (u - n)) where
+    less : u - n < 4294967296
+    less = omega (arith, g .few)
+
+    pub leap-ready : Ready t w st x p
+    leap-ready =
+        let r = going-ready ready same g h {x = operandFor t e κ i} {κ = κ} {c = c} {p = packed c u} refl κe ce refl in
+        record {
+          entries = r .entries;
+          hints = r .hints;
+          long = r .long;
+          inside = leads-inside n κ i (ready .entries) (ready .inside) (omega arith) fe xe;
+          steady = r .steady;
+          subject = rw (pe, node-packed c (u - n) less) (subst (λ k. k < markOf st) (node-packed c u (g .few)) (r .subject));
+        }
+
+    pub leap-gives : {got : ℕ} {st′ w′ : List ℕ} → n ≤ u → Gives (visit t (deep - n) (apply x (nodeIn p) (held st)) w (markOf st) (unitsIn p)) st got st′ w′
+        → Gives (visit t deep (apply (operandFor t e κ i) (nodeIn (packed c u)) (held st)) w (markOf st) (unitsIn (packed c u))) st got st′ w′
+    leap-gives l o = record {
+      is = o .is ∙ rw (pe, node-packed c (u - n) less, units-packed c (u - n) less, node-packed c u (g .few), units-packed c u (g .few)) (sym (leads .is c (held st) w (markOf st) deep u (leaps .few) l));
+      frame = o .frame;
+    }
+
+  -- the units are fewer than these visits
+  pub leap-short : {r : ℕ} → u < n → r ≡ unitsWord → Gives (plan t deep (walked t w₀ e (nodeIn s) (held st₀)) w₀ (markOf st₀) (unitsIn s)) st₀ r st w
+  leap-short {r} l re =
+      let c = wordAt w (nodeIn s) (2 + i) in
+      let o : out r st w ≡ visit t deep (apply (operandFor t e κ i) (nodeIn (packed c u)) (held st)) w (markOf st) (unitsIn (packed c u))
+      = ap (λ r. out r st w) re ∙ out-units st w ∙ rw (node-packed c u (g .few), units-packed c u (g .few)) (sym (leads .short c (held st) w (markOf st) deep u (leaps .few) l)) in
+      going-off ready same g h {x = operandFor t e κ i} {κ = κ} {c = c} {p = packed c u} refl κe refl refl (record { is = o; frame = framed-refl st }) {a = heardOf (toldOf r)} refl (ap (λ r. heardOf (toldOf r)) re ∙ units-off)
 
 -- the walk's end
 module _ {t w₀ st₀ : List ℕ} {e s deep : ℕ} {w st : List ℕ} {u won : ℕ} {made : List ℕ} {i : ℕ} (ready : Ready t w₀ st₀ e s) (same : Counted t w₀ e (nodeIn s))
@@ -326,3 +412,9 @@ module _ {t w₀ st₀ : List ℕ} {e s deep : ℕ} {w st : List ℕ} {u won : �
   pub going-ends : {k n r : ℕ} {st′ w′ : List ℕ} → k ≡ kindOf t e → n ≡ countOf w₀ (nodeIn s) → Gives (finished k won n s made st w u) st r st′ w′
       → Gives (plan t deep (walked t w₀ e (nodeIn s) (held st₀)) w₀ (markOf st₀) (unitsIn s)) st₀ r st′ w′
   going-ends {k} {n} {st′ = st′} ke ne f = record { is = f .is ∙ finishes k n ke ne ∙ g .left; frame = framed-trans st₀ st st′ (g .frame) (f .frame) }
+
+-- the words that `finish` is handed are the children that are made
+pub whole-made : (κ won n s name a b u r : ℕ) (more st w st′ w′ : List ℕ) → length more ≡ 4
+    → Gives (finished κ won n s (name ∷ n ∷ a ∷ b ∷ getD more 0 0 ∷ getD more 1 0 ∷ getD more 2 0 ∷ getD more 3 0 ∷ []) st w u) st r st′ w′
+    → Gives (finished κ won n s (name ∷ n ∷ a ∷ b ∷ more) st w u) st r st′ w′
+whole-made κ won n s name a b u r more st w st′ w′ h g = subst (λ m. Gives (finished κ won n s (name ∷ n ∷ a ∷ b ∷ m) st w u) st r st′ w′) (four more h) g

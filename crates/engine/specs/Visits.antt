@@ -100,9 +100,31 @@ pub record Last (k : ℕ) : Type 0 where
   pub not-seq : k ≡ 4 → ⊥
   pub outside : (k < 5) ⊎ (8 < k)
 
+-- entry q applied to node k fails after n visits, where units and nesting are enough for them, whatever the bindings and
+-- the mark
+pub record Fails (t w : List ℕ) (q k n : ℕ) : Type 0 where
+  pub is : (b : Bindings ℕ) (m d u : ℕ) → n ≤ d → n ≤ u → visit t d (apply q k b) w m u ≡ lost w (u - n)
+
+-- applied to a node, entry x comes to entry y after n visits, where units and nesting are enough for them
+pub record Leads (t : List ℕ) (x y n : ℕ) : Type 0 where
+  pub is : (k : ℕ) (b : Bindings ℕ) (w : List ℕ) (m d u : ℕ) → n ≤ d → n ≤ u → visit t d (apply x k b) w m u ≡ visit t (d - n) (apply y k b) w m (u - n)
+  pub short : (k : ℕ) (b : Bindings ℕ) (w : List ℕ) (m d u : ℕ) → n ≤ d → u < n → visit t d (apply x k b) w m u ≡ cut units w 0
+
+-- entry x fails after n visits on each node whose constructor and count are not entry p's
+pub record Heads (t : List ℕ) (x p n : ℕ) : Type 0 where
+  pub few : n ≤ 4
+  pub fails : (w : List ℕ) (k : ℕ) → agreeing t w p k ≡ false → Fails t w x k n
+
+-- what words 4 and 5 tell of a first operand where they are no operands and word 5 is not 0: of CHOICE's and LEFT's at which
+-- pattern it fails and after how many visits, of ALL's and SOME's where a CALL and its REC lead
+pub record Hinted (t : List ℕ) : Type 0 where
+  pub head : (e : ℕ) → e < 4096 → (kindOf t e ≡ 5) ⊎ (kindOf t e ≡ 6) → (wordAt t e 5 ≡ 0 → ⊥) → Heads t (wordAt t e 2) (wordAt t e 4) (wordAt t e 5)
+  pub ahead : (e : ℕ) → e < 4096 → (kindOf t e ≡ 11) ⊎ (kindOf t e ≡ 13) → (wordAt t e 5 ≡ 0 → ⊥) → (wordAt t e 5 ≤ 2) × Leads t (wordAt t e 2) (wordAt t e 4) (wordAt t e 5)
+
 -- what a visit of entry e requires: the node and the units are in the word g
 pub record Ready (t w st : List ℕ) (e g : ℕ) : Type 0 where
   pub entries : Entries t
+  pub hints : Hinted t
   pub long : length st ≡ 34
   pub inside : e < 4096
   pub steady : Steady w (markOf st) (held st)
@@ -112,11 +134,6 @@ pub record Ready (t w st : List ℕ) (e g : ℕ) : Type 0 where
 pub record Gives (o : Ran) (st : List ℕ) (r : ℕ) (st′ w′ : List ℕ) : Type 0 where
   pub is : out r st′ w′ ≡ o
   pub frame : Framed st st′
-
--- entry q applied to node k fails after n visits, where units and nesting are enough for them, whatever the bindings and
--- the mark
-pub record Fails (t w : List ℕ) (q k n : ℕ) : Type 0 where
-  pub is : (b : Bindings ℕ) (m d u : ℕ) → n ≤ d → n ≤ u → visit t d (apply q k b) w m u ≡ lost w (u - n)
 
 -- a number of visits after which entry q fails on node k, or 0 where none is known
 pub record Skips (t w : List ℕ) (q k most n : ℕ) : Type 0 where
@@ -129,6 +146,17 @@ pub record Fitting (t w : List ℕ) (n p g : ℕ) (b : List ℕ) (r : ℕ) (c : 
   pub is : (m : ℕ) → kept r (nodeIn g) (held c) w m ≡ plan t n (walk (zip match (operands t p) (children w (nodeIn g))) [] (held b) (λ gs b′. ret (nodeIn g) b′)) w m (unitsIn g)
   pub frame : Framed b c
   pub mark : markOf c ≡ markOf b
+
+-- n visits, no more than the nesting d, that lead from the one operand of entry e to its word 4; 0 where none are known, and
+-- in CONG
+pub record Leaps (t : List ℕ) (e d n : ℕ) : Type 0 where
+  pub few : n ≤ d
+  pub one : kindOf t e ≡ 10 → n ≡ 0
+  pub leads : (n ≡ 0 → ⊥) → Leads t (wordAt t e 2) (wordAt t e 4) n
+
+-- the entry after so many visits
+abbrev pub landed : List ℕ → ℕ → ℕ → ℕ
+landed t e n = if eqb n 0 then wordAt t e 2 else wordAt t e 4
 
 -- the operand for child i: its own in CONG, else the one
 abbrev pub operandFor : List ℕ → ℕ → ℕ → ℕ → ℕ

@@ -21,11 +21,11 @@ pub fn told(r: u64) -> Answer
 {
     let t = r / 4294967296;
     let left = (r % 4294967296) as u32;
-    if t == 4294967295 {
-        return Answer::Failed(left);
-    }
     if t < 4294967292 {
         return Answer::Done(t as u32, left);
+    }
+    if t == 4294967295 {
+        return Answer::Failed(left);
     }
     Answer::Cut(r)
 }

@@ -44,7 +44,8 @@ pub fn same(store: &[u32], a: u32, b: u32, left: u32, deep: u32) -> u64
         }
         let mut i: u32 = 0;
         while i + 1 < n {
-            let got = same(store, word(store, x, 2 + i), word(store, y, 2 + i), u, d);
+            let words = store;
+            let got = pair(words, word(store, x, 2 + i), word(store, y, 2 + i), u, d);
             let Answer::Done(_, more) = told(got) else {
                 return got;
             };
@@ -54,4 +55,28 @@ pub fn same(store: &[u32], a: u32, b: u32, left: u32, deep: u32) -> u64
         x = word(store, x, 2 + i);
         y = word(store, y, 2 + i);
     }
+}
+
+// The same for a pair inside another. One without children is answered at once, and takes no frame of the loop.
+fn pair(store: &[u32], a: u32, b: u32, left: u32, deep: u32) -> u64
+    ensures { λ r. ⌜ ((t : List ℕ) (β : Bound ℕ) (m : ℕ) → kept r b β (now (store .entry)) m ≡ visit t deep (compare a b β) (now (store .entry)) m left) ⌝ }
+{
+    if left == 0 {
+        return no_units();
+    }
+    if deep == 0 {
+        return no_nesting(left);
+    }
+    let n = count(store, a);
+    if word(store, a, 0) != word(store, b, 0) {
+        return failure(left - 1);
+    }
+    if n != count(store, b) {
+        return failure(left - 1);
+    }
+    if n == 0 {
+        return done(0, left - 1);
+    }
+    let words = store;
+    same(words, a, b, left, deep)
 }

@@ -25,7 +25,7 @@ pub fn set_variable(b: &mut Bindings, v: u32, t: u32)
     b.words[33] = b.words[33] | (1 << v);
 }
 
-// The same by value: what the matcher calls.
+// The same by value: what a MATCH of a variable alone calls.
 pub fn bind(b: Bindings, v: u32, t: u32) -> Bindings
     requires { ⌜ v < 32 ⌝ }
     ensures { λ r. ⌜ r .words ≡ bound (b .words) v t ⌝ }
@@ -33,6 +33,15 @@ pub fn bind(b: Bindings, v: u32, t: u32) -> Bindings
     let mut set = b;
     set_variable(&mut set, v, t);
     set
+}
+
+// The same in the words that a run holds.
+pub fn put_variable(st: &mut [u32; 34], v: u32, t: u32)
+    requires { ⌜ v < 32 ⌝ }
+    ensures { λ _. ⌜ now (st .exit) ≡ bound (now (st .entry)) v t ⌝ }
+{
+    st[v as usize] = t;
+    st[33] = st[33] | (1 << v);
 }
 
 // The mask without the hidden variables.

@@ -2,63 +2,32 @@
 // fails where constructor or count differ. Its visits are counted without being made.
 use crate::reading::agree;
 use crate::reading::entry;
-use crate::reading::kind;
+ghost use mathlib.Core.Path.{_≡_};
+ghost use mathlib.Core.Logic.{_⊎_};
 ghost use Prim.Native.Nat.{_<_, min};
+ghost use Rattle.words.specs.Words.{wordAt};
+ghost use Rattle.checks.specs.Good.{kindOf};
 ghost use Rattle.engine.specs.Answers.{nodeIn, unitsIn};
-ghost use Rattle.engine.specs.Visits.{Entries, Skips};
+ghost use Rattle.engine.specs.Visits.{Hinted, Skips};
 
-// A MATCH of another constructor or count than node k's: two visits. 0 where q is no such MATCH.
-fn head(table: &[u32; 32768], store: &[u32], q: u32, k: u32) -> u32
-    requires { ⌜ Entries (now table) × (q < 4096) ⌝ }
-    ensures { λ r. ⌜ Skips (now (table .entry)) (now (store .entry)) q k 2 r ⌝ }
+// How many visits the first operand of the CHOICE or LEFT e makes on the node of s before it fails. 0 where it is not known
+// to fail, or where units or nesting might end before.
+pub fn skipped(table: &[u32; 32768], store: &[u32], e: u32, s: u64, d: u32) -> u32
+    requires { ⌜ Hinted (now table) × (e < 4096) × (wordAt (now table) e 4 < 4096) × ((kindOf (now table) e ≡ 5) ⊎ (kindOf (now table) e ≡ 6)) ⌝ }
+    ensures { λ r. ⌜ Skips (now (table .entry)) (now (store .entry)) (wordAt (now (table .entry)) e 2) (nodeIn s) (min d (unitsIn s)) r ⌝ }
 {
-    if kind(table, q) != 14 {
-        return 0;
-    }
-    let p = entry(table, q, 2);
-    if kind(table, p) != 19 {
-        return 0;
-    }
-    if agree(table, store, p, k) {
-        return 0;
-    }
-    2
-}
-
-// The same, alone or first in a SEQ.
-fn begins(table: &[u32; 32768], store: &[u32], q: u32, k: u32) -> u32
-    requires { ⌜ Entries (now table) × (q < 4096) ⌝ }
-    ensures { λ r. ⌜ Skips (now (table .entry)) (now (store .entry)) q k 3 r ⌝ }
-{
-    if kind(table, q) != 4 {
-        return head(table, store, q, k);
-    }
-    let n = head(table, store, entry(table, q, 2), k);
+    let n = entry(table, e, 5);
     if n == 0 {
         return 0;
     }
-    n + 1
-}
-
-// The same, also inside a SCOPE: how many visits q makes on the node of s before it fails. 0 where it is not known to fail,
-// or where units or nesting might end before.
-pub fn skipped(table: &[u32; 32768], store: &[u32], q: u32, s: u64, d: u32) -> u32
-    requires { ⌜ Entries (now table) × (q < 4096) ⌝ }
-    ensures { λ r. ⌜ Skips (now (table .entry)) (now (store .entry)) q (nodeIn s) (min d (unitsIn s)) r ⌝ }
-{
+    if agree(table, store, entry(table, e, 4), (s / 4294967296) as u32) {
+        return 0;
+    }
     if s % 4294967296 < 4 {
         return 0;
     }
     if d < 4 {
         return 0;
     }
-    let k = (s / 4294967296) as u32;
-    if kind(table, q) != 16 {
-        return begins(table, store, q, k);
-    }
-    let n = begins(table, store, entry(table, q, 2), k);
-    if n == 0 {
-        return 0;
-    }
-    n + 1
+    n
 }

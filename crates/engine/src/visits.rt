@@ -22,16 +22,48 @@ use crate::skipping::skipped;
 use words::word;
 ghost use mathlib.Core.Path.{_≡_};
 ghost use mathlib.Core.Logic.{_⊎_};
-ghost use Prim.Native.Nat.{_<_};
-ghost use lib.ListN.{length};
+ghost use Prim.Native.Nat.{_+_, _-_, _<_};
+ghost use Rattle.words.specs.Words.{wordAt};
+ghost use Rattle.words.specs.Tests.{if_then_else_};
+ghost use lib.Dec.{eqb, ltb};
+ghost use lib.ListN.{length, getD, set};
 ghost use Rattle.checks.specs.Good.{kindOf};
 ghost use Rattle.meaning.specs.Rules.{apply as applied};
 ghost use Rattle.engine.specs.Answers.{nodeIn, unitsIn};
 ghost use Rattle.engine.specs.Record.{markOf, held};
-ghost use Rattle.engine.specs.Visits.{visit, plan, ruled, walked, operandFor, finished, Counted, Ready, Roomy, Last, Gives};
+ghost use Rattle.engine.specs.Visits.{visit, plan, ruled, walked, landed, finished, Counted, Hinted, Leaps, Ready, Roomy, Last, Gives};
 
-// One visit: an entry applied as a strategy. Units first, then nesting; then it is counted.
+// One visit: an entry applied as a strategy. Units first, then nesting; then it is counted. ALL, of which traversals are made,
+// is looked at here: a term without children is given back at once.
 pub fn apply(
+    table: &[u32; 32768],
+    store: &mut [u32],
+    st: &mut [u32; 34],
+    start: u32,
+    given: u64,
+    deep: u32,
+) -> u64
+    requires { ⌜ Ready (now table) (now store) (now st) start given ⌝ }
+    ensures { λ r. ⌜ Gives (visit (now (table .entry)) deep (applied start (nodeIn given) (held (now (st .entry)))) (now (store .entry)) (markOf (now (st .entry))) (unitsIn given)) (now (st .entry)) r (now (st .exit)) (now (store .exit)) ⌝ }
+{
+    if kind(table, start) != 11 {
+        return turns(table, store, st, start, given, deep);
+    }
+    let left = (given % 4294967296) as u32;
+    if left == 0 {
+        return no_units();
+    }
+    if deep == 0 {
+        return no_nesting(left);
+    }
+    if count(store, (given / 4294967296) as u32) == 0 {
+        return given - 1;
+    }
+    walk(table, store, st, start, given - 1, deep - 1)
+}
+
+// The same for every kind. An operand in a last position goes round the loop.
+fn turns(
     table: &[u32; 32768],
     store: &mut [u32],
     st: &mut [u32; 34],
@@ -71,7 +103,7 @@ pub fn apply(
             5..=6 => {
                 // Where the first operand fails at its head, its visits are counted and not made.
                 let first = entry(table, e, 2);
-                let fails = skipped(table, store, first, s, d);
+                let fails = skipped(table, store, e, s, d);
                 if fails != 0 {
                     s -= fails as u64;
                     e = entry(table, e, 3);
@@ -79,7 +111,7 @@ pub fn apply(
                 }
                 let mark = st[32];
                 let mask = st[33];
-                let got = apply(table, store, st, first, s, d);
+                let got = turns(table, store, st, first, s, d);
                 let Answer::Failed(u) = told(got) else {
                     return got;
                 };
@@ -247,50 +279,132 @@ fn walk(
     let mut u = (s % 4294967296) as u32;
     let kind = kind(table, e);
     let n = count(store, t);
+    let name = word(store, t, 0);
+    let ahead = leap(table, e, deep);
+    let first = landing(table, e, ahead);
     let mut won: u32 = 0;
-    let mut made = [word(store, t, 0), n, 0, 0, 0, 0, 0, 0];
+    let mut a: u32 = 0;
+    let mut b: u32 = 0;
+    let mut more = [0u32; 4];
     let mut i: u32 = 0;
     while i < n {
+        if u < ahead {
+            return no_units();
+        }
         let c = word(store, t, 2 + i);
-        let mark = st[32];
-        let mask = st[33];
+        let mark = saved(st, kind, 32);
+        let mask = saved(st, kind, 33);
         let got = apply(
             table,
             store,
             st,
-            operand(table, e, kind, i),
-            done(c, u),
-            deep,
+            operand(table, e, kind, first, i),
+            done(c, u - ahead),
+            deep - ahead,
         );
         let Heard::Ended(yes, x, left) = hear(got) else {
             return got;
         };
+        let mut y = c;
         if yes {
             won = 1;
-            made[2 + (i as usize)] = x;
+            y = x;
         } else {
             if kind != 13 {
                 return got;
             }
             st[32] = mark;
             st[33] = mask;
-            made[2 + (i as usize)] = c;
         }
+        a = at(i, 0, y, a);
+        b = at(i, 1, y, b);
+        more = beyond(more, i, y);
         u = left;
         i += 1;
     }
-    finish(store, st, kind, won, n, s, made, u)
+    finish(
+        store,
+        st,
+        kind,
+        won,
+        n,
+        s,
+        [name, n, a, b, more[0], more[1], more[2], more[3]],
+        u,
+    )
+}
+
+// How many visits lead to the first work of ALL's or SOME's operand: those of a CALL and its REC, where it is known that
+// there is nothing else in them and the nesting is enough; else 0.
+fn leap(table: &[u32; 32768], e: u32, deep: u32) -> u32
+    requires { ⌜ Hinted (now table) × (e < 4096) ⌝ }
+    ensures { λ r. ⌜ Leaps (now (table .entry)) e deep r ⌝ }
+{
+    if deep < 2 {
+        return 0;
+    }
+    let kind = kind(table, e);
+    match kind {
+        11 => entry(table, e, 5),
+        13 => entry(table, e, 5),
+        _ => 0,
+    }
+}
+
+// The entry after so many visits.
+fn landing(table: &[u32; 32768], e: u32, ahead: u32) -> u32
+    requires { ⌜ e < 4096 ⌝ }
+    ensures { λ r. ⌜ r ≡ landed (now (table .entry)) e ahead ⌝ }
+{
+    if ahead == 0 {
+        return entry(table, e, 2);
+    }
+    entry(table, e, 4)
 }
 
 // The operand for child i: its own in CONG, else the one.
-fn operand(table: &[u32; 32768], e: u32, kind: u32, i: u32) -> u32
+fn operand(table: &[u32; 32768], e: u32, kind: u32, first: u32, i: u32) -> u32
     requires { ⌜ (e < 4096) × (i < 6) ⌝ }
-    ensures { λ r. ⌜ r ≡ operandFor (now (table .entry)) e kind i ⌝ }
+    ensures { λ r. ⌜ r ≡ (if eqb kind 10 then wordAt (now (table .entry)) e (2 + i) else first) ⌝ }
 {
     if kind == 10 {
         return entry(table, e, 2 + i);
     }
-    entry(table, e, 2)
+    first
+}
+
+// The record's word j, for SOME, which may put it back.
+fn saved(st: &[u32; 34], kind: u32, j: usize) -> u32
+    requires { ⌜ j < 34 ⌝ }
+    ensures { λ r. ⌜ r ≡ (if eqb kind 13 then getD (now (st .entry)) j 0 else 0) ⌝ }
+{
+    if kind == 13 {
+        return st[j];
+    }
+    0
+}
+
+// The children that are made: the first and the second by themselves, so that a walk over two writes no array, the others
+// in four words.
+fn at(i: u32, place: u32, x: u32, old: u32) -> u32
+    ensures { λ r. ⌜ r ≡ (if eqb i place then x else old) ⌝ }
+{
+    if i == place {
+        return x;
+    }
+    old
+}
+
+fn beyond(more: [u32; 4], i: u32, x: u32) -> [u32; 4]
+    requires { ⌜ i < 6 ⌝ }
+    ensures { λ r. ⌜ r ≡ (if ltb i 2 then more else set more (i - 2) x) ⌝ }
+{
+    if i < 2 {
+        return more;
+    }
+    let mut set = more;
+    set[(i - 2) as usize] = x;
+    set
 }
 
 // The walk's end: SOME needs a success; a term without children is returned itself.

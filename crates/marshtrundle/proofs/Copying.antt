@@ -5,12 +5,13 @@ use mathlib.Core.Bool.{true≢false}
 use mathlib.Core.Option.{Option, none, some}
 use mathlib.Core.Logic.{_⊎_, inl, inr, ⊎-elim}
 use mathlib.Core.List.{List, [], _∷_, _++_}
-use Prim.Native.Nat.{ℕ, zero, suc, _+_, _-_, _≤_, _<_}
+use Prim.Native.Nat.{ℕ, zero, suc, _+_, _-_, _*_, _≤_, _<_}
 use native.Mathlib.Nat.{add-zero}
 use native.Mathlib.Omega.{arith}
 use lib.ListN.{length, getD, set, replicate, length-set, length-append, length-replicate, getD-replicate, List·getD-eq-default, List·getD-append}
 use lib.Seq.{getD-set-same, getD-set-other, getD-append-add, ext-getD}
 use borrow.Author.Tests.{eq-eqb, ne-eqb}
+use Rattle.words.specs.Words.{wordAt}
 use Rattle.words.specs.Tests.{if_then_else_}
 use Rattle.words.proofs.Tests.{below-or-from}
 use Rattle.meaning.specs.Bindings.{Bindings, bind}
@@ -19,7 +20,7 @@ use Rattle.meaning.specs.Answer.{bindingWord, bindingWords}
 use Rattle.engine.specs.Record.{markOf, maskOf, bitOf, held, bound}
 use Rattle.meaning.proofs.Bits.{bit-has, has-nothing}
 use Rattle.engine.proofs.Holding.{held-some, held-none, held-mark, held-bound, length-bound, mark-bound, mark-mark}
-use Rattle.marshtrundle.specs.Loaded.{Loaded, Opened}
+use Rattle.marshtrundle.specs.Loaded.{Noted, given, Loaded, Opened}
 
 -- A word of a list of zeros is zero.
 zeros : (n j : ℕ) → _≡_ {A = ℕ} (getD (replicate n 0) j 0) 0
@@ -58,8 +59,54 @@ copied-more t n c i p l = record {
 pub copied-all : (t c : List ℕ) (i : ℕ) → Copied t 32768 c i → length t ≤ i → Loaded t c
 copied-all t c i p l = record {
   long = p .long;
-  same = λ j. ⊎-elim (p .before j) (λ z. p .after j z ∙ sym (List·getD-eq-default t 0 (omega arith))) (below-or-from j i);
+  same = λ e j m n. all (8 * e + j);
+  noted = λ e. given (all (8 * e + 4)) (all (8 * e + 5));
 }
+  where
+    all : (j : ℕ) → getD c j 0 ≡ getD t j 0
+    all j = ⊎-elim (p .before j) (λ z. p .after j z ∙ sym (List·getD-eq-default t 0 (omega arith))) (below-or-from j i)
+
+-- What is known of entry e, written into its words 4 and 5.
+module _ (t c : List ℕ) (e x n : ℕ) (l : Loaded t c) (m : 8 * e < 32768) where
+  abbrev noting : List ℕ
+  noting = set (set c (8 * e + 4) x) (8 * e + 5) n
+
+  other : (i : ℕ) → (i ≡ 8 * e + 4 → ⊥) → (i ≡ 8 * e + 5 → ⊥) → getD noting i 0 ≡ getD c i 0
+  other i p q = getD-set-other (set c (8 * e + 4) x) (8 * e + 5) i n 0 q ∙ getD-set-other c (8 * e + 4) i x 0 p
+
+  four : wordAt noting e 4 ≡ x
+  four =
+      getD-set-other (set c (8 * e + 4) x) (8 * e + 5) (8 * e + 4) n 0 (λ z. omega arith)
+      ∙ getD-set-same c (8 * e + 4) x 0 (omega (arith, l .long))
+
+  five : wordAt noting e 5 ≡ n
+  five = getD-set-same (set c (8 * e + 4) x) (8 * e + 5) n 0 (omega (arith, l .long, length-set c (8 * e + 4) x))
+
+  pub loaded-noted : Noted t e x n → Loaded t noting
+  loaded-noted h = record {
+    long = length-set (set c (8 * e + 4) x) (8 * e + 5) n ∙ length-set c (8 * e + 4) x ∙ l .long;
+    same = λ d j k b. keeps d j k b ∙ l .same d j k b;
+    noted = λ d. ⊎-elim (λ z. elsewhere d (λ y. omega arith)) (λ z. from d z) (below-or-from d e);
+  }
+    where
+      keeps : (d j : ℕ) → j < 8 → (j < 4) ⊎ (5 < j) → wordAt noting d j ≡ wordAt c d j
+      keeps d j k (inl z) = other (8 * d + j) (λ y. omega arith) (λ y. omega arith)
+      keeps d j k (inr z) = other (8 * d + j) (λ y. omega arith) (λ y. omega arith)
+
+      here : Noted t e (wordAt noting e 4) (wordAt noting e 5)
+      here = rw (four, five) h
+
+      elsewhere : (d : ℕ) → (d ≡ e → ⊥) → Noted t d (wordAt noting d 4) (wordAt noting d 5)
+      elsewhere d z =
+          let p : wordAt noting d 4 ≡ wordAt c d 4 = other (8 * d + 4) (λ y. z (omega arith)) (λ y. omega arith) in
+          let q : wordAt noting d 5 ≡ wordAt c d 5 = other (8 * d + 5) (λ y. omega arith) (λ y. z (omega arith)) in
+          rw (p, q) (l .noted d)
+
+      from : (d : ℕ) → e ≤ d → Noted t d (wordAt noting d 4) (wordAt noting d 5)
+      from d z =
+          ⊎-elim (λ y. elsewhere d (λ x. omega arith))
+          (λ y. let q : e ≡ d = omega arith in subst (λ (d : ℕ). Noted t d (wordAt noting d 4) (wordAt noting d 5)) q here)
+          (below-or-from e d)
 
 -- ---- the bindings, in
 

@@ -2,5 +2,6 @@
 pub mod Accepting
 pub mod Copying
 pub mod Fetching
+pub mod Hinting
 pub mod Whole
 pub mod Promises

@@ -28,7 +28,7 @@ use Rattle.engine.specs.declared.answers.Answer.{Answer}
 use Rattle.engine.specs.declared.answers.Answer.the-variants.{Done, Failed, Cut}
 use Rattle.engine.specs.Answers.{packed, nodeIn, unitsIn, toldOf}
 use Rattle.engine.specs.Record.{markOf, held}
-use Rattle.engine.specs.Visits.{visit, limitOf, meaning, out, Entries, Steady, Ready, Gives}
+use Rattle.engine.specs.Visits.{visit, limitOf, meaning, out, Entries, Hinted, Steady, Ready, Gives}
 use Rattle.engine.proofs.Telling.{node-packed, units-packed, out-told}
 use Rattle.marshtrundle.specs.Loaded.{Loaded, Opened}
 use Rattle.marshtrundle.specs.Refused.{refused}
@@ -61,7 +61,7 @@ table-short : (t : List ℕ) → tableChecked t ≡ checked 0 0 → rows t ≤ 4
 table-short t e = omega (arith, tablePasses t .0 (ap (λ (c : Checked). c .answer) e) .0 .most)
 
 -- the table is held in c, the bindings and the mark in st, the subject and the units in g
-module _ (i : Input) (a : Accepted i) (c st : List ℕ) (g : ℕ) (same : table c ≡ table (i .table)) (entries : Entries c) (o : Opened (i .bindings) (i .mark) st)
+module _ (i : Input) (a : Accepted i) (c st : List ℕ) (g : ℕ) (same : table c ≡ table (i .table)) (entries : Entries c) (hints : Hinted c) (o : Opened (i .bindings) (i .mark) st)
     (few : i .units < 4294967296) (ge : g ≡ packed (i .subject) (i .units)) where
   subject-is : nodeIn g ≡ i .subject
   subject-is = ap nodeIn ge ∙ node-packed (i .subject) (i .units) few
@@ -86,6 +86,7 @@ module _ (i : Input) (a : Accepted i) (c st : List ℕ) (g : ℕ) (same : table 
   pub ready : Ready c (i .store) st (i .start) g
   ready = record {
     entries = entries;
+    hints = hints;
     long = o .long;
     inside = omega (arith, a .inside, table-short (i .table) (a .table));
     steady = rw (o .mark, o .holds) steady;

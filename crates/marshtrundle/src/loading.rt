@@ -1,4 +1,5 @@
 // What a run copies once: the table into words of fixed length, the bindings into the run's one record, and back.
+use crate::hints::known;
 use engine::record::Bindings;
 use engine::record::bind;
 use engine::record::bit;
@@ -10,7 +11,8 @@ ghost use Rattle.meaning.specs.Answer.{bindingWords};
 ghost use Rattle.engine.specs.Record.{held};
 ghost use Rattle.marshtrundle.specs.Loaded.{Loaded, Opened};
 
-// The table in 32,768 words, zeros after its last.
+// The table in 32,768 words, zeros after its last; where something is known of an entry's first operand, it is noted in
+// words 4 and 5 of the entry.
 pub fn loaded(table: &[u32]) -> [u32; 32768]
     requires { ⌜ length (now table) ≤ 32768 ⌝ }
     ensures { λ r. ⌜ Loaded (now (table .entry)) r ⌝ }
@@ -20,6 +22,16 @@ pub fn loaded(table: &[u32]) -> [u32; 32768]
     while i < table.len() {
         code[i] = table[i];
         i += 1;
+    }
+    let mut e: u32 = 0;
+    while 8 * (e as usize) < table.len() {
+        let h = known(table, e);
+        if h.1 != 0 {
+            let k = 8 * (e as usize);
+            code[k + 4] = h.0;
+            code[k + 5] = h.1;
+        }
+        e += 1;
     }
     code
 }

@@ -60,6 +60,19 @@ fn nested(count: usize, wide: bool, core: Pattern) -> Pattern {
     })
 }
 
+/// The same down the first of two children, where a frame is taken for each level: the last child takes none.
+fn nested_first(count: usize, core: Pattern) -> Pattern {
+    (0..count).fold(core, |p, _| con(7, [p, con(0, [])]))
+}
+
+/// A run on a term that goes down the first of two children.
+fn deep_first(name: &'static str, strategy: &Strategy, answer: Answer) -> Deep {
+    let mut run = deep(name, strategy, false, answer);
+    let leaf = run.store.node(0, &[]).unwrap();
+    run.subject = (1..4_200).fold(leaf, |term, _| run.store.node(7, &[term, leaf]).unwrap());
+    run
+}
+
 fn deep(name: &'static str, strategy: &Strategy, wide: bool, answer: Answer) -> Deep {
     let mut store = Store::new();
     let subject = chain(&mut store, 4_200, wide);
@@ -192,6 +205,11 @@ pub fn fitting(number: usize) -> Option<Deep> {
             true,
             Answer::Done,
         )),
+        6 => Some(deep_first(
+            "a nested pattern down the first of two",
+            &match_(nested_first(4_093, var(x))),
+            Answer::Done,
+        )),
         other => rest
             .get(other)
             .map(|(name, s)| deep(name, s, name.contains("six"), Answer::Done)),
@@ -233,6 +251,14 @@ pub fn too_deep(number: usize) -> Option<Deep> {
             "a nested build of six",
             rec(|again| seq(build(pattern), again)),
         ),
+        8 => {
+            let pattern = nested_first(4_089, con(8, []));
+            return Some(deep_first(
+                "a nested pattern down the first of two",
+                &rec(|again| left(match_(pattern), again)),
+                Answer::TooDeep,
+            ));
+        }
         _ => return None,
     };
     Some(deep(name, &endless, six, Answer::TooDeep))

@@ -2,6 +2,7 @@
 use borrow.Author.Needs.{needs}
 use borrow.Author.Tests.{eq-eqb, ne-eqb, lt-ltb, le-ltb}
 use mathlib.Core.Path.{_≡_}
+use Prim.Native.Nat.{_<_}
 use native.Mathlib.Omega.{arith}
 use Rattle.engine.specs.Answers.{nodeIn, toldOf}
 use Rattle.engine.proofs.answers.told.Statement.{statement}
@@ -10,20 +11,23 @@ use Rattle.engine.proofs.answers.told.Tie as tie
 cast-left : tie.Need-cast-left
 cast-left c = search needs
 
-returns : tie.Need-returns
-unfolding toldOf
-returns c = let e : nodeIn (c .before .args .r) ≡ 4294967295 = omega (arith, c .if1 .taken) in rw (eq-eqb _ _ e)
-
 cast-t6 : tie.Need-cast-t6
 cast-t6 c = search needs
 
+returns : tie.Need-returns
+unfolding toldOf
+returns c =
+    let l : nodeIn (c .before .args .r) < 4294967292 = omega (arith, c .if1 .taken) in
+    let n : nodeIn (c .before .args .r) ≡ 4294967295 → ⊥ = λ e. omega arith in
+    rw (ne-eqb _ _ n, lt-ltb _ _ l)
+
 returns-2 : tie.Need-returns-2
 unfolding toldOf
-returns-2 c = rw (ne-eqb _ _ (c .before .if1 .left), lt-ltb _ _ (c .if2 .taken))
+returns-2 c = let e : nodeIn (c .before .before .args .r) ≡ 4294967295 = omega (arith, c .if2 .taken) in rw (eq-eqb _ _ e)
 
 returns-3 : tie.Need-returns-3
 unfolding toldOf
-returns-3 c = rw (ne-eqb _ _ (c .before .if1 .left), le-ltb _ _ (c .if2 .left))
+returns-3 c = rw (ne-eqb _ _ (c .if2 .left), le-ltb _ _ (c .before .if1 .left))
 
 pub told-spec : {M : Type 1} → statement M
-told-spec = tie.close (tie.spec cast-left returns cast-t6 returns-2 returns-3)
+told-spec = tie.close (tie.spec cast-left cast-t6 returns returns-2 returns-3)

@@ -11,7 +11,8 @@ use Rattle.checks.specs.Good.{kindOf, operandCount}
 use Rattle.engine.specs.Record.{held}
 use Rattle.engine.specs.Visits.{agreeing}
 use Rattle.engine.proofs.Telling.{done-node}
-use Rattle.engine.proofs.Matching.{Matched, set-bound, Turn, matched-none, matched-at, matched-all, operand-is, variable-small, constructor-is, fits-units, inner-stopped, free-matched, bound-matched, bound-stops, other, leaf-matched, handed, inner-matched, inner-stops}
+use Rattle.engine.proofs.Holding.{set-bound}
+use Rattle.engine.proofs.Matching.{Matched, Turn, matched-none, matched-at, matched-all, operand-is, variable-small, constructor-is, fits-units, inner-stopped, free-matched, bound-matched, bound-stops, other, leaf-matched, handed, inner-matched, inner-stops}
 use Prim.Native.Nat.{ℕ, _+_, _-_, _<_, _≤_}
 use borrow.Fn.Kinds.{In}
 use borrow.Fn.PlainCycle.{Measures, is, falls, and}

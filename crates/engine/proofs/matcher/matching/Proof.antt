@@ -1,4 +1,4 @@
--- `matcher::matching` meets its contract: the root's kind, and for a constructor what `fits` says of its children.
+-- `matcher::matching` meets its contract: the root's kind, and for a constructor what `filled` says of its children.
 use mathlib.Core.Path.{_≡_, sym, _∙_}
 use Prim.Native.Nat.{_<_}
 use native.Mathlib.Omega.{arith}
@@ -56,7 +56,7 @@ element-copy-out-bit : tie.Need-element-copy-out-bit
 element-copy-out-bit c = search needs
 
 bit-requires : tie.Need-bit-requires
-bit-requires c κs = let v = small (c .before) in omega arith
+bit-requires c κs = small (c .before)
 
 cast-same : tie.Need-cast-same
 cast-same c = search needs
@@ -128,17 +128,16 @@ stopped-requires : tie.Need-stopped-requires
 stopped-requires c κs = search needs
 
 returns-8 : tie.Need-returns-8
-returns-8 c =
-    root-stopped (c .before .before .before .before .before .before .before .before .before .before .before .pre .0) _ (c .before .before .before .before .before .before .before .before .before .if1 .left) (c .before .before .before .before .before .before .before .before .if2 .left) (is-constructor (c .before .before .before .before .before .before)) (agrees (c .before .before .before .before)) (λ z. c .before .before .if6 .left (c .before .before .before .operands .ensures ∙ z)) (c .before .if7 .taken) (c .stopped .ensures)
+returns-8 c = root-stopped (c .before .before .before .before .before .before .before .before .before .before .before .pre .0) _ (c .before .before .before .before .before .before .before .before .before .if1 .left) (c .before .before .before .before .before .before .before .before .if2 .left) (is-constructor (c .before .before .before .before .before .before)) (agrees (c .before .before .before .before)) (λ z. c .before .before .if6 .left (c .before .before .before .operands .ensures ∙ z)) (c .before .if7 .taken) (c .stopped .ensures)
 
-sub-fits : tie.Need-sub-fits
-sub-fits c = search needs
+sub-filled : tie.Need-sub-filled
+sub-filled c = search needs
 
-sub-fits-2 : tie.Need-sub-fits-2
-sub-fits-2 c = search needs
+sub-filled-2 : tie.Need-sub-filled-2
+sub-filled-2 c = search needs
 
-fits-requires : tie.Need-fits-requires
-fits-requires c κs = (c .before .before .before .before .before .before .before .before .before .before .before .pre .0 .entries, c .before .before .before .before .before .before .before .before .before .before .before .pre .0 .inside, is-constructor (c .before .before .before .before .before .before), root-handed (c .before .before .before .before .before .before .before .before .before .before .before .pre .0) _ (c .before .before .before .before .before .before .before .before .before .if1 .left) (c .before .before .before .before .before .before .before .before .if2 .left) (is-constructor (c .before .before .before .before .before .before)) (agrees (c .before .before .before .before)), omega (arith, c .before .if7 .left))
+filled-requires : tie.Need-filled-requires
+filled-requires c κs = (c .before .before .before .before .before .before .before .before .before .before .before .pre .0 .entries, c .before .before .before .before .before .before .before .before .before .before .before .pre .0 .inside, is-constructor (c .before .before .before .before .before .before), root-handed (c .before .before .before .before .before .before .before .before .before .before .before .pre .0) _ (c .before .before .before .before .before .before .before .before .before .if1 .left) (c .before .before .before .before .before .before .before .before .if2 .left) (is-constructor (c .before .before .before .before .before .before)) (agrees (c .before .before .before .before)), omega (arith, c .before .if7 .left), c .before .before .before .before .before .before .before .before .before .before .before .pre .0 .long)
 
 told-requires-2 : tie.Need-told-requires-2
 told-requires-2 c κs = search needs
@@ -147,13 +146,13 @@ enum-known-u-2 : tie.Need-enum-known-u-2
 enum-known-u-2 c = search needs
 
 returns-9 : tie.Need-returns-9
-returns-9 c = root-stops (c .before .before .before .before .before .before .before .before .before .before .before .before .before .before .pre .0) _ (c .before .before .before .before .before .before .before .before .before .before .before .before .if1 .left) (c .before .before .before .before .before .before .before .before .before .before .before .if2 .left) (is-constructor (c .before .before .before .before .before .before .before .before .before)) (agrees (c .before .before .before .before .before .before .before)) _ _ (c .before .before .fits2 .ensures) _ (c .before .told2 .ensures) (c .match2 .keys2)
+returns-9 c = root-stops (c .before .before .before .before .before .before .before .before .before .before .before .before .before .before .pre .0) _ (c .before .before .before .before .before .before .before .before .before .before .before .before .if1 .left) (c .before .before .before .before .before .before .before .before .before .before .before .if2 .left) (is-constructor (c .before .before .before .before .before .before .before .before .before)) (agrees (c .before .before .before .before .before .before .before)) _ _ (c .before .before .filled .ensures) _ (c .before .told2 .ensures) (c .match2 .keys2)
 
 done-requires-2 : tie.Need-done-requires-2
 done-requires-2 c κs = search needs
 
 returns-10 : tie.Need-returns-10
-returns-10 c = root-fits (c .before .before .before .before .before .before .before .before .before .before .before .before .before .before .before .before .before .before .before .pre .0) _ (c .before .before .before .before .before .before .before .before .before .before .before .before .before .before .before .before .before .if1 .left) (c .before .before .before .before .before .before .before .before .before .before .before .before .before .before .before .before .if2 .left) (is-constructor (c .before .before .before .before .before .before .before .before .before .before .before .before .before .before)) (agrees (c .before .before .before .before .before .before .before .before .before .before .before .before)) _ _ (c .before .before .before .before .before .before .before .fits2 .ensures) _ (c .before .before .before .before .before .before .told2 .ensures) _ _ _ (c .before .before .before .before .u2 .given .1) (c .done2 .ensures)
+returns-10 c = root-fits (c .before .before .before .before .before .before .before .before .before .before .before .before .before .before .before .before .before .pre .0) _ (c .before .before .before .before .before .before .before .before .before .before .before .before .before .before .before .if1 .left) (c .before .before .before .before .before .before .before .before .before .before .before .before .before .before .if2 .left) (is-constructor (c .before .before .before .before .before .before .before .before .before .before .before .before)) (agrees (c .before .before .before .before .before .before .before .before .before .before)) _ _ (c .before .before .before .before .before .filled .ensures) _ (c .before .before .before .before .told2 .ensures) _ _ _ (c .before .before .u2 .given .1) (c .done2 .ensures)
 
 pub matching-spec : {M : Type 1} → statement M
 matching-spec =
@@ -193,9 +192,9 @@ matching-spec =
     sub-stopped
     stopped-requires
     returns-8
-    sub-fits
-    sub-fits-2
-    fits-requires
+    sub-filled
+    sub-filled-2
+    filled-requires
     told-requires-2
     enum-known-u-2
     returns-9

@@ -1,6 +1,6 @@
--- `visits::operand` meets its contract: each return is a word of the entry, by the test on the kind. Assumes nothing.
-use borrow.Author.Needs.{needs}
+-- `visits::operand` meets its contract: in CONG a word of the entry, by the test on the kind. Assumes nothing.
 use borrow.Author.Tests.{eq-eqb, ne-eqb}
+use borrow.Author.Needs.{needs}
 use Rattle.engine.proofs.visits.operand.Statement.{statement}
 use Rattle.engine.proofs.visits.operand.Tie as tie
 
@@ -13,11 +13,8 @@ entry-requires c κs = search needs
 returns : tie.Need-returns
 returns c = rw (eq-eqb _ _ (c .before .if1 .taken)) (c .entry .ensures)
 
-entry-requires-2 : tie.Need-entry-requires-2
-entry-requires-2 c κs = search needs
-
 returns-2 : tie.Need-returns-2
-returns-2 c = rw (ne-eqb _ _ (c .before .if1 .left)) (c .entry2 .ensures)
+returns-2 c = rw (ne-eqb _ _ (c .if1 .left))
 
 pub operand-spec : {M : Type 1} → statement M
-operand-spec = tie.close (tie.spec add-entry entry-requires returns entry-requires-2 returns-2)
+operand-spec = tie.close (tie.spec add-entry entry-requires returns returns-2)

@@ -1,5 +1,6 @@
 use Rattle.marshtrundle.proofs.Whole.{ready, run-refused, run-ran, table-fits, mark-fits, done-left, done-mark, done-bound, done-returns, failed-left, failed-returns, cut-left, cut-returns, back-is}
 use Rattle.marshtrundle.proofs.Fetching.{table-loaded, entries-loaded}
+use Rattle.marshtrundle.proofs.Hinting.{hints-loaded}
 use Rattle.marshtrundle.proofs.Accepting.{accepted-answer}
 use Rattle.marshtrundle.specs.Run.{input}
 use Rattle.checks.specs.declared.Checked.{Checked}
@@ -50,7 +51,7 @@ apply-requires c κs =
     let i = input (a .table .now) (a .store .now) (a .bindings .now) (a .mark) (a .start) (a .subject) (a .units) in
     let h = accepted-answer (a .table .now) (a .store .now) (a .bindings .now) (a .mark) (a .start) (a .subject) (a .units) (eq-eqb _ 0 (ap (λ (c : Checked). c .answer) (sym (c .before .before .before .before .before .before .before .before .before .refusal .ensures)) ∙ c .before .before .before .before .before .before .before .if1 .left)) in
     let l = c .before .before .before .before .before .before .loaded .ensures in
-    ready i h _ _ _ (table-loaded l) (entries-loaded (h .table) l) (c .before .before .before .before .opened .ensures) (c .before .before .before .before .before .before .before .before .before .before .before .before .before .before .before .fits .units .fits) (c .done .ensures)
+    ready i h _ _ _ (table-loaded l) (entries-loaded (h .table) l) (hints-loaded (h .table) l) (c .before .before .before .before .opened .ensures) (c .before .before .before .before .before .before .before .before .before .before .before .before .before .before .before .fits .units .fits) (c .done .ensures)
 
 told-requires : tie.Need-told-requires
 told-requires c κs = search needs
@@ -67,7 +68,7 @@ closed-requires c κs =
     let i = input (a .table .now) (a .store .now) (a .bindings .now) (a .mark) (a .start) (a .subject) (a .units) in
     let h = accepted-answer (a .table .now) (a .store .now) (a .bindings .now) (a .mark) (a .start) (a .subject) (a .units) (eq-eqb _ 0 (ap (λ (c : Checked). c .answer) (sym (c .before .before .before .before .before .before .before .before .before .before .before .before .before .before .before .before .before .refusal .ensures)) ∙ c .before .before .before .before .before .before .before .before .before .before .before .before .before .before .before .if1 .left)) in
     let l = c .before .before .before .before .before .before .before .before .before .before .before .before .before .before .loaded .ensures in
-    (h .bindings, done-bound i h _ _ _ (table-loaded l) (entries-loaded (h .table) l) (c .before .before .before .before .before .before .before .before .before .before .before .before .opened .ensures) (c .before .before .before .before .before .before .before .before .before .before .before .before .before .before .before .before .before .before .before .before .before .before .before .fits .units .fits) (c .before .before .before .before .before .before .before .before .done .ensures) _ _ _ (c .before .before .before .before .before .before .before .apply .ensures) _ (c .before .before .before .before .told .ensures) _ _ (c .before .before .a .given .1))
+    (h .bindings, done-bound i h _ _ _ (table-loaded l) (entries-loaded (h .table) l) (hints-loaded (h .table) l) (c .before .before .before .before .before .before .before .before .before .before .before .before .opened .ensures) (c .before .before .before .before .before .before .before .before .before .before .before .before .before .before .before .before .before .before .before .before .before .before .before .fits .units .fits) (c .before .before .before .before .before .before .before .before .done .ensures) _ _ _ (c .before .before .before .before .before .before .before .apply .ensures) _ (c .before .before .before .before .told .ensures) _ _ (c .before .before .a .given .1))
 
 cast-clear-from : tie.Need-cast-clear-from
 cast-clear-from c =
@@ -75,7 +76,7 @@ cast-clear-from c =
     let i = input (a .table .now) (a .store .now) (a .bindings .now) (a .mark) (a .start) (a .subject) (a .units) in
     let h = accepted-answer (a .table .now) (a .store .now) (a .bindings .now) (a .mark) (a .start) (a .subject) (a .units) (eq-eqb _ 0 (ap (λ (c : Checked). c .answer) (sym (c .before .before .before .before .before .before .before .before .before .before .before .before .before .before .before .before .before .before .before .before .before .refusal .ensures)) ∙ c .before .before .before .before .before .before .before .before .before .before .before .before .before .before .before .before .before .before .before .if1 .left)) in
     let l = c .before .before .before .before .before .before .before .before .before .before .before .before .before .before .before .before .before .before .loaded .ensures in
-    omega (arith, done-mark i h _ _ _ (table-loaded l) (entries-loaded (h .table) l) (c .before .before .before .before .before .before .before .before .before .before .before .before .before .before .before .before .opened .ensures) (c .before .before .before .before .before .before .before .before .before .before .before .before .before .before .before .before .before .before .before .before .before .before .before .before .before .before .before .fits .units .fits) (c .before .before .before .before .before .before .before .before .before .before .before .before .done .ensures) _ _ _ (c .before .before .before .before .before .before .before .before .before .before .before .apply .ensures) _ (c .before .before .before .before .before .before .before .before .told .ensures) _ _ (c .before .before .before .before .before .before .a .given .1))
+    omega (arith, done-mark i h _ _ _ (table-loaded l) (entries-loaded (h .table) l) (hints-loaded (h .table) l) (c .before .before .before .before .before .before .before .before .before .before .before .before .before .before .before .before .opened .ensures) (c .before .before .before .before .before .before .before .before .before .before .before .before .before .before .before .before .before .before .before .before .before .before .before .before .before .before .before .fits .units .fits) (c .before .before .before .before .before .before .before .before .before .before .before .before .done .ensures) _ _ _ (c .before .before .before .before .before .before .before .before .before .before .before .apply .ensures) _ (c .before .before .before .before .before .before .before .before .told .ensures) _ _ (c .before .before .before .before .before .before .a .given .1))
 
 mul-clear-from : tie.Need-mul-clear-from
 mul-clear-from c =
@@ -83,7 +84,7 @@ mul-clear-from c =
     let i = input (a .table .now) (a .store .now) (a .bindings .now) (a .mark) (a .start) (a .subject) (a .units) in
     let h = accepted-answer (a .table .now) (a .store .now) (a .bindings .now) (a .mark) (a .start) (a .subject) (a .units) (eq-eqb _ 0 (ap (λ (c : Checked). c .answer) (sym (c .before .before .before .before .before .before .before .before .before .before .before .before .before .before .before .before .before .before .before .before .before .refusal .ensures)) ∙ c .before .before .before .before .before .before .before .before .before .before .before .before .before .before .before .before .before .before .before .if1 .left)) in
     let l = c .before .before .before .before .before .before .before .before .before .before .before .before .before .before .before .before .before .before .loaded .ensures in
-    omega (arith, done-mark i h _ _ _ (table-loaded l) (entries-loaded (h .table) l) (c .before .before .before .before .before .before .before .before .before .before .before .before .before .before .before .before .opened .ensures) (c .before .before .before .before .before .before .before .before .before .before .before .before .before .before .before .before .before .before .before .before .before .before .before .before .before .before .before .fits .units .fits) (c .before .before .before .before .before .before .before .before .before .before .before .before .done .ensures) _ _ _ (c .before .before .before .before .before .before .before .before .before .before .before .apply .ensures) _ (c .before .before .before .before .before .before .before .before .told .ensures) _ _ (c .before .before .before .before .before .before .a .given .1))
+    omega (arith, done-mark i h _ _ _ (table-loaded l) (entries-loaded (h .table) l) (hints-loaded (h .table) l) (c .before .before .before .before .before .before .before .before .before .before .before .before .before .before .before .before .opened .ensures) (c .before .before .before .before .before .before .before .before .before .before .before .before .before .before .before .before .before .before .before .before .before .before .before .before .before .before .before .fits .units .fits) (c .before .before .before .before .before .before .before .before .before .before .before .before .done .ensures) _ _ _ (c .before .before .before .before .before .before .before .before .before .before .before .apply .ensures) _ (c .before .before .before .before .before .before .before .before .told .ensures) _ _ (c .before .before .before .before .before .before .a .given .1))
 
 clear-from-requires : tie.Need-clear-from-requires
 clear-from-requires c κs = search needs
@@ -94,7 +95,7 @@ sub-t35 c =
     let i = input (a .table .now) (a .store .now) (a .bindings .now) (a .mark) (a .start) (a .subject) (a .units) in
     let h = accepted-answer (a .table .now) (a .store .now) (a .bindings .now) (a .mark) (a .start) (a .subject) (a .units) (eq-eqb _ 0 (ap (λ (c : Checked). c .answer) (sym (c .before .before .before .before .before .before .before .before .before .before .before .before .before .before .before .before .before .before .before .before .before .before .before .before .refusal .ensures)) ∙ c .before .before .before .before .before .before .before .before .before .before .before .before .before .before .before .before .before .before .before .before .before .before .if1 .left)) in
     let l = c .before .before .before .before .before .before .before .before .before .before .before .before .before .before .before .before .before .before .before .before .before .loaded .ensures in
-    omega (arith, done-left i h _ _ _ (table-loaded l) (entries-loaded (h .table) l) (c .before .before .before .before .before .before .before .before .before .before .before .before .before .before .before .before .before .before .before .opened .ensures) (c .before .before .before .before .before .before .before .before .before .before .before .before .before .before .before .before .before .before .before .before .before .before .before .before .before .before .before .before .before .before .fits .units .fits) (c .before .before .before .before .before .before .before .before .before .before .before .before .before .before .before .done .ensures) _ _ _ (c .before .before .before .before .before .before .before .before .before .before .before .before .before .before .apply .ensures) _ (c .before .before .before .before .before .before .before .before .before .before .before .told .ensures) _ _ (c .before .before .before .before .before .before .before .before .before .a .given .1))
+    omega (arith, done-left i h _ _ _ (table-loaded l) (entries-loaded (h .table) l) (hints-loaded (h .table) l) (c .before .before .before .before .before .before .before .before .before .before .before .before .before .before .before .before .before .before .before .opened .ensures) (c .before .before .before .before .before .before .before .before .before .before .before .before .before .before .before .before .before .before .before .before .before .before .before .before .before .before .before .before .before .before .fits .units .fits) (c .before .before .before .before .before .before .before .before .before .before .before .before .before .before .before .done .ensures) _ _ _ (c .before .before .before .before .before .before .before .before .before .before .before .before .before .before .apply .ensures) _ (c .before .before .before .before .before .before .before .before .before .before .before .told .ensures) _ _ (c .before .before .before .before .before .before .before .before .before .a .given .1))
 
 enum-known-a-2 : tie.Need-enum-known-a-2
 enum-known-a-2 c = search needs
@@ -115,7 +116,7 @@ sub-t49 c =
     let i = input (a .table .now) (a .store .now) (a .bindings .now) (a .mark) (a .start) (a .subject) (a .units) in
     let h = accepted-answer (a .table .now) (a .store .now) (a .bindings .now) (a .mark) (a .start) (a .subject) (a .units) (eq-eqb _ 0 (ap (λ (c : Checked). c .answer) (sym (c .before .before .before .before .before .before .before .before .before .before .before .before .before .before .before .before .before .before .before .before .refusal .ensures)) ∙ c .before .before .before .before .before .before .before .before .before .before .before .before .before .before .before .before .before .before .if1 .left)) in
     let l = c .before .before .before .before .before .before .before .before .before .before .before .before .before .before .before .before .before .loaded .ensures in
-    omega (arith, failed-left i h _ _ _ (table-loaded l) (entries-loaded (h .table) l) (c .before .before .before .before .before .before .before .before .before .before .before .before .before .before .before .opened .ensures) (c .before .before .before .before .before .before .before .before .before .before .before .before .before .before .before .before .before .before .before .before .before .before .before .before .before .before .fits .units .fits) (c .before .before .before .before .before .before .before .before .before .before .before .done .ensures) _ _ _ (c .before .before .before .before .before .before .before .before .before .before .apply .ensures) _ (c .before .before .before .before .before .before .before .told .ensures) _ (c .before .before .before .before .before .a2 .given .1))
+    omega (arith, failed-left i h _ _ _ (table-loaded l) (entries-loaded (h .table) l) (hints-loaded (h .table) l) (c .before .before .before .before .before .before .before .before .before .before .before .before .before .before .before .opened .ensures) (c .before .before .before .before .before .before .before .before .before .before .before .before .before .before .before .before .before .before .before .before .before .before .before .before .before .before .fits .units .fits) (c .before .before .before .before .before .before .before .before .before .before .before .done .ensures) _ _ _ (c .before .before .before .before .before .before .before .before .before .before .apply .ensures) _ (c .before .before .before .before .before .before .before .told .ensures) _ (c .before .before .before .before .before .a2 .given .1))
 
 enum-known-a-3 : tie.Need-enum-known-a-3
 enum-known-a-3 c = search needs
@@ -142,7 +143,7 @@ sub-t58 c =
     let i = input (a .table .now) (a .store .now) (a .bindings .now) (a .mark) (a .start) (a .subject) (a .units) in
     let h = accepted-answer (a .table .now) (a .store .now) (a .bindings .now) (a .mark) (a .start) (a .subject) (a .units) (eq-eqb _ 0 (ap (λ (c : Checked). c .answer) (sym (c .before .before .before .before .before .before .before .before .before .before .before .before .before .before .before .before .before .before .before .before .before .refusal .ensures)) ∙ c .before .before .before .before .before .before .before .before .before .before .before .before .before .before .before .before .before .before .before .if1 .left)) in
     let l = c .before .before .before .before .before .before .before .before .before .before .before .before .before .before .before .before .before .before .loaded .ensures in
-    omega (arith, cut-left i h _ _ _ (table-loaded l) (entries-loaded (h .table) l) (c .before .before .before .before .before .before .before .before .before .before .before .before .before .before .before .before .opened .ensures) (c .before .before .before .before .before .before .before .before .before .before .before .before .before .before .before .before .before .before .before .before .before .before .before .before .before .before .before .fits .units .fits) (c .before .before .before .before .before .before .before .before .before .before .before .before .done .ensures) _ _ _ (c .before .before .before .before .before .before .before .before .before .before .before .apply .ensures) _ (c .before .before .before .before .before .before .before .before .told .ensures) _ (c .before .before .before .before .before .before .a3 .given .1))
+    omega (arith, cut-left i h _ _ _ (table-loaded l) (entries-loaded (h .table) l) (hints-loaded (h .table) l) (c .before .before .before .before .before .before .before .before .before .before .before .before .before .before .before .before .opened .ensures) (c .before .before .before .before .before .before .before .before .before .before .before .before .before .before .before .before .before .before .before .before .before .before .before .before .before .before .before .fits .units .fits) (c .before .before .before .before .before .before .before .before .before .before .before .before .done .ensures) _ _ _ (c .before .before .before .before .before .before .before .before .before .before .before .apply .ensures) _ (c .before .before .before .before .before .before .before .before .told .ensures) _ (c .before .before .before .before .before .before .a3 .given .1))
 
 same-length-3 : tie.Need-same-length-3
 same-length-3 c = search needs
@@ -156,7 +157,7 @@ returns-2 c =
     let i = input (a .table .now) (a .store .now) (a .bindings .now) (a .mark) (a .start) (a .subject) (a .units) in
     let h = accepted-answer (a .table .now) (a .store .now) (a .bindings .now) (a .mark) (a .start) (a .subject) (a .units) (eq-eqb _ 0 (ap (λ (c : Checked). c .answer) (sym (c .before .before .before .before .before .before .before .before .before .before .before .before .before .before .before .before .before .before .before .before .before .before .before .before .refusal .ensures)) ∙ c .before .before .before .before .before .before .before .before .before .before .before .before .before .before .before .before .before .before .before .before .before .before .if1 .left)) in
     let l = c .before .before .before .before .before .before .before .before .before .before .before .before .before .before .before .before .before .before .before .before .before .loaded .ensures in
-    let r = done-returns i h _ _ _ (table-loaded l) (entries-loaded (h .table) l) (c .before .before .before .before .before .before .before .before .before .before .before .before .before .before .before .before .before .before .before .opened .ensures) (c .before .before .before .before .before .before .before .before .before .before .before .before .before .before .before .before .before .before .before .before .before .before .before .before .before .before .before .before .before .before .fits .units .fits) (c .before .before .before .before .before .before .before .before .before .before .before .before .before .before .before .done .ensures) _ _ _ (c .before .before .before .before .before .before .before .before .before .before .before .before .before .before .apply .ensures) _ (c .before .before .before .before .before .before .before .before .before .before .before .told .ensures) _ _ (c .before .before .before .before .before .before .before .before .before .a .given .1) in
+    let r = done-returns i h _ _ _ (table-loaded l) (entries-loaded (h .table) l) (hints-loaded (h .table) l) (c .before .before .before .before .before .before .before .before .before .before .before .before .before .before .before .before .before .before .before .opened .ensures) (c .before .before .before .before .before .before .before .before .before .before .before .before .before .before .before .before .before .before .before .before .before .before .before .before .before .before .before .before .before .before .fits .units .fits) (c .before .before .before .before .before .before .before .before .before .before .before .before .before .before .before .done .ensures) _ _ _ (c .before .before .before .before .before .before .before .before .before .before .before .before .before .before .apply .ensures) _ (c .before .before .before .before .before .before .before .before .before .before .before .told .ensures) _ _ (c .before .before .before .before .before .before .before .before .before .a .given .1) in
     back-is i _ _ _ _ (sym r ∙ run-ran i _ (c .before .before .before .before .before .before .before .before .before .before .before .before .before .before .before .before .before .before .before .before .before .before .before .before .refusal .ensures) (c .before .before .before .before .before .before .before .before .before .before .before .before .before .before .before .before .before .before .before .before .before .before .if1 .left)) refl refl refl refl refl (c .before .before .clear-from .ensures) (c .before .before .before .before .before .before .closed .ensures)
 
 same-length-5 : tie.Need-same-length-5
@@ -171,7 +172,7 @@ returns-3 c =
     let i = input (a .table .now) (a .store .now) (a .bindings .now) (a .mark) (a .start) (a .subject) (a .units) in
     let h = accepted-answer (a .table .now) (a .store .now) (a .bindings .now) (a .mark) (a .start) (a .subject) (a .units) (eq-eqb _ 0 (ap (λ (c : Checked). c .answer) (sym (c .before .before .before .before .before .before .before .before .before .before .before .before .before .before .before .before .before .before .before .before .refusal .ensures)) ∙ c .before .before .before .before .before .before .before .before .before .before .before .before .before .before .before .before .before .before .if1 .left)) in
     let l = c .before .before .before .before .before .before .before .before .before .before .before .before .before .before .before .before .before .loaded .ensures in
-    let r = failed-returns i h _ _ _ (table-loaded l) (entries-loaded (h .table) l) (c .before .before .before .before .before .before .before .before .before .before .before .before .before .before .before .opened .ensures) (c .before .before .before .before .before .before .before .before .before .before .before .before .before .before .before .before .before .before .before .before .before .before .before .before .before .before .fits .units .fits) (c .before .before .before .before .before .before .before .before .before .before .before .done .ensures) _ _ _ (c .before .before .before .before .before .before .before .before .before .before .apply .ensures) _ (c .before .before .before .before .before .before .before .told .ensures) _ (c .before .before .before .before .before .a2 .given .1) in
+    let r = failed-returns i h _ _ _ (table-loaded l) (entries-loaded (h .table) l) (hints-loaded (h .table) l) (c .before .before .before .before .before .before .before .before .before .before .before .before .before .before .before .opened .ensures) (c .before .before .before .before .before .before .before .before .before .before .before .before .before .before .before .before .before .before .before .before .before .before .before .before .before .before .fits .units .fits) (c .before .before .before .before .before .before .before .before .before .before .before .done .ensures) _ _ _ (c .before .before .before .before .before .before .before .before .before .before .apply .ensures) _ (c .before .before .before .before .before .before .before .told .ensures) _ (c .before .before .before .before .before .a2 .given .1) in
     back-is i _ _ _ _ (sym r ∙ run-ran i _ (c .before .before .before .before .before .before .before .before .before .before .before .before .before .before .before .before .before .before .before .before .refusal .ensures) (c .before .before .before .before .before .before .before .before .before .before .before .before .before .before .before .before .before .before .if1 .left)) refl refl refl refl refl (c .before .before .clear-from2 .ensures) refl
 
 same-length-7 : tie.Need-same-length-7
@@ -186,7 +187,7 @@ returns-4 c =
     let i = input (a .table .now) (a .store .now) (a .bindings .now) (a .mark) (a .start) (a .subject) (a .units) in
     let h = accepted-answer (a .table .now) (a .store .now) (a .bindings .now) (a .mark) (a .start) (a .subject) (a .units) (eq-eqb _ 0 (ap (λ (c : Checked). c .answer) (sym (c .before .before .before .before .before .before .before .before .before .before .before .before .before .before .before .before .before .before .before .before .before .refusal .ensures)) ∙ c .before .before .before .before .before .before .before .before .before .before .before .before .before .before .before .before .before .before .before .if1 .left)) in
     let l = c .before .before .before .before .before .before .before .before .before .before .before .before .before .before .before .before .before .before .loaded .ensures in
-    let r = cut-returns i h _ _ _ (table-loaded l) (entries-loaded (h .table) l) (c .before .before .before .before .before .before .before .before .before .before .before .before .before .before .before .before .opened .ensures) (c .before .before .before .before .before .before .before .before .before .before .before .before .before .before .before .before .before .before .before .before .before .before .before .before .before .before .before .fits .units .fits) (c .before .before .before .before .before .before .before .before .before .before .before .before .done .ensures) _ _ _ (c .before .before .before .before .before .before .before .before .before .before .before .apply .ensures) _ (c .before .before .before .before .before .before .before .before .told .ensures) _ (c .before .before .before .before .before .before .a3 .given .1) in
+    let r = cut-returns i h _ _ _ (table-loaded l) (entries-loaded (h .table) l) (hints-loaded (h .table) l) (c .before .before .before .before .before .before .before .before .before .before .before .before .before .before .before .before .opened .ensures) (c .before .before .before .before .before .before .before .before .before .before .before .before .before .before .before .before .before .before .before .before .before .before .before .before .before .before .before .fits .units .fits) (c .before .before .before .before .before .before .before .before .before .before .before .before .done .ensures) _ _ _ (c .before .before .before .before .before .before .before .before .before .before .before .apply .ensures) _ (c .before .before .before .before .before .before .before .before .told .ensures) _ (c .before .before .before .before .before .before .a3 .given .1) in
     back-is i _ _ _ _ (sym r ∙ run-ran i _ (c .before .before .before .before .before .before .before .before .before .before .before .before .before .before .before .before .before .before .before .before .before .refusal .ensures) (c .before .before .before .before .before .before .before .before .before .before .before .before .before .before .before .before .before .before .before .if1 .left)) (c .cut-answer .ensures) refl refl refl refl (c .before .before .before .clear-from3 .ensures) refl
 
 pub run-spec : {M : Type 1} → statement M

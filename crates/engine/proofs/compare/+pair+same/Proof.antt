@@ -1,0 +1,344 @@
+-- `compare::same` and `compare::pair` meet their contract. The outer loop's invariant: a word that answers the pair at hand answers the whole. The
+-- inner one's: from pair i on all goes on to what answers it. By every table, with any bindings and mark. The measure of a
+-- call, and of the outer loop, is the nesting; `pair` hands its own to `same`.
+use mathlib.Core.Path.{_≡_, sym, _∙_}
+use mathlib.Core.List.{List}
+use native.Mathlib.Omega.{arith}
+use borrow.Author.Needs.{needs}
+use Rattle.meaning.specs.Bindings.{Bindings}
+use Rattle.meaning.specs.Rules.{compare}
+use Rattle.meaning.specs.Store.{Ran}
+use Rattle.engine.specs.Visits.{countOf, visit}
+use Rattle.engine.proofs.Telling.{done-node}
+use Rattle.engine.proofs.Limited.{units-kept, nesting-kept}
+use Rattle.engine.proofs.Comparing.{Goes-on, Carried, other-constructor, other-count, agreed, compared, pair-done, pair-stops, last-pair}
+use Prim.Native.Nat.{ℕ, _+_, _-_, _*_, _<_, _≤_}
+use borrow.Fn.Kinds.{In}
+use borrow.Fn.PlainCycle.{Measures, is, falls, and}
+use Rattle.engine.proofs.compare.pair.Reads as pair
+use Rattle.engine.proofs.compare.pair.Kinds as pair-kinds
+use Rattle.engine.proofs.compare.+pair+same.Lts-pair as pair-lts
+use Rattle.engine.proofs.compare.same.Reads as same
+use Rattle.engine.proofs.compare.same.Kinds as same-kinds
+use Rattle.engine.proofs.compare.+pair+same.Lts-same as same-lts
+use Rattle.engine.proofs.answers.done.Reads as done-reads
+use Rattle.engine.proofs.answers.failure.Reads as failure-reads
+use Rattle.engine.proofs.answers.no_nesting.Reads as no-nesting-reads
+use Rattle.engine.proofs.answers.no_units.Reads as no-units-reads
+use Rattle.engine.proofs.answers.told.Reads as told-reads
+use Rattle.engine.proofs.reading.count.Reads as count-reads
+use Rattle.words.proofs.word.Reads as word-reads
+use Rattle.engine.proofs.compare.+pair+same.{statement}
+use Rattle.engine.proofs.compare.+pair+same.Tie.{close}
+
+abbrev μ-pair : Measures 1 pair-kinds.ps ℕ
+μ-pair κs a = 2 * a .1 .1 .1 .1 .0 + 1
+
+abbrev μ-same : Measures 1 same-kinds.ps ℕ
+μ-same κs a = 2 * a .1 .1 .1 .1 .0
+
+abbrev pair-at : ℕ → In 1 pair-kinds.ps
+pair-at t = and 1 pair-kinds.ps (is 1 pair-kinds.ps μ-pair t) pair.Pre
+
+abbrev pair-below : ℕ → In 1 pair-kinds.ps
+pair-below t = and 1 pair-kinds.ps (falls 1 pair-kinds.ps _<_ μ-pair t) pair.Pre
+
+abbrev same-at : ℕ → In 1 same-kinds.ps
+same-at t = and 1 same-kinds.ps (is 1 same-kinds.ps μ-same t) same.Pre
+
+abbrev same-below : ℕ → In 1 same-kinds.ps
+same-below t = and 1 same-kinds.ps (falls 1 same-kinds.ps _<_ μ-same t) same.Pre
+
+abbrev same-calls : ℕ → same-lts.Claims
+same-calls t = (no-units-reads.Asked, no-units-reads.Learnt, no-nesting-reads.Asked, no-nesting-reads.Learnt, count-reads.Asked, count-reads.Learnt, word-reads.Asked, word-reads.Learnt, failure-reads.Asked, failure-reads.Learnt, done-reads.Asked, done-reads.Learnt, pair-below t, pair.Post, told-reads.Asked, told-reads.Learnt)
+
+abbrev pair-calls : ℕ → pair-lts.Claims
+pair-calls t = (no-units-reads.Asked, no-units-reads.Learnt, no-nesting-reads.Asked, no-nesting-reads.Learnt, count-reads.Asked, count-reads.Learnt, word-reads.Asked, word-reads.Learnt, failure-reads.Asked, failure-reads.Learnt, done-reads.Asked, done-reads.Learnt, same-below t, same.Post)
+
+pair-no-units-requires : (t : ℕ) → pair-lts.Need-no-units-requires (pair-calls t) (pair-at t) pair.Post
+pair-no-units-requires t c κs = search needs
+
+pair-returns : (t : ℕ) → pair-lts.Need-returns (pair-calls t) (pair-at t) pair.Post
+pair-returns t c = λ t β m. units-kept t _ _ _ m _ _ _ β (c .no-units .ensures) (c .before .if1 .taken)
+
+pair-no-nesting-requires : (t : ℕ) → pair-lts.Need-no-nesting-requires (pair-calls t) (pair-at t) pair.Post
+pair-no-nesting-requires t c κs = search needs
+
+pair-returns-2 : (t : ℕ) → pair-lts.Need-returns-2 (pair-calls t) (pair-at t) pair.Post
+pair-returns-2 t c = λ t β m. nesting-kept t _ _ _ m _ _ _ β (c .no-nesting .ensures) (c .before .before .before .before .fits .left .fits) (c .before .before .if1 .left) (c .before .if2 .taken)
+
+pair-count-requires : (t : ℕ) → pair-lts.Need-count-requires (pair-calls t) (pair-at t) pair.Post
+pair-count-requires t c κs = search needs
+
+pair-word-requires : (t : ℕ) → pair-lts.Need-word-requires (pair-calls t) (pair-at t) pair.Post
+pair-word-requires t c κs = search needs
+
+pair-word-requires-2 : (t : ℕ) → pair-lts.Need-word-requires-2 (pair-calls t) (pair-at t) pair.Post
+pair-word-requires-2 t c κs = search needs
+
+pair-sub-failure : (t : ℕ) → pair-lts.Need-sub-failure (pair-calls t) (pair-at t) pair.Post
+pair-sub-failure t c = search needs
+
+pair-failure-requires : (t : ℕ) → pair-lts.Need-failure-requires (pair-calls t) (pair-at t) pair.Post
+pair-failure-requires t c κs = search needs
+
+pair-returns-3 : (t : ℕ) → pair-lts.Need-returns-3 (pair-calls t) (pair-at t) pair.Post
+pair-returns-3 t c =
+    let e : _ ≡ _ → ⊥ = λ h. c .before .if3 .taken (c .before .before .before .word .ensures ∙ h ∙ sym (c .before .before .word2 .ensures)) in
+    λ t β m. other-constructor _ _ _ t _ m _ β (c .before .before .before .before .before .before .if1 .left) (c .before .before .before .before .before .if2 .left) _ (c .failure .ensures) (c .before .before .before .before .before .before .before .before .fits .left .fits) e
+
+pair-count-requires-2 : (t : ℕ) → pair-lts.Need-count-requires-2 (pair-calls t) (pair-at t) pair.Post
+pair-count-requires-2 t c κs = search needs
+
+pair-sub-failure-2 : (t : ℕ) → pair-lts.Need-sub-failure-2 (pair-calls t) (pair-at t) pair.Post
+pair-sub-failure-2 t c = search needs
+
+pair-failure-requires-2 : (t : ℕ) → pair-lts.Need-failure-requires-2 (pair-calls t) (pair-at t) pair.Post
+pair-failure-requires-2 t c κs = search needs
+
+pair-returns-4 : (t : ℕ) → pair-lts.Need-returns-4 (pair-calls t) (pair-at t) pair.Post
+pair-returns-4 t c =
+    let a = sym (c .before .before .before .before .before .word .ensures) ∙ c .before .before .before .if3 .left ∙ c .before .before .before .before .word2 .ensures in
+    λ t β m. other-count _ _ _ t _ m _ β (c .before .before .before .before .before .before .before .before .if1 .left) (c .before .before .before .before .before .before .before .if2 .left) _ (c .failure2 .ensures) (c .before .before .before .before .before .before .before .before .before .before .fits .left .fits) a (λ h. c .before .if4 .taken (c .before .before .before .before .before .before .count .ensures ∙ h ∙ sym (c .before .before .count2 .ensures)))
+
+pair-sub-done : (t : ℕ) → pair-lts.Need-sub-done (pair-calls t) (pair-at t) pair.Post
+pair-sub-done t c = search needs
+
+pair-done-requires : (t : ℕ) → pair-lts.Need-done-requires (pair-calls t) (pair-at t) pair.Post
+pair-done-requires t c κs = search needs
+
+pair-returns-5 : (t : ℕ) → pair-lts.Need-returns-5 (pair-calls t) (pair-at t) pair.Post
+pair-returns-5 t c =
+    let a = sym (c .before .before .before .before .before .before .word .ensures) ∙ c .before .before .before .before .if3 .left ∙ c .before .before .before .before .before .word2 .ensures in
+    let n = sym (c .before .before .before .before .before .before .before .count .ensures) ∙ c .before .before .if4 .left ∙ c .before .before .before .count2 .ensures in
+    let z = sym (c .before .before .before .before .before .before .before .count .ensures) ∙ c .before .if5 .taken in
+    λ t β m. compared _ _ _ t _ 0 β m _ (agreed _ _ _ t _ m _ β (c .before .before .before .before .before .before .before .before .before .if1 .left) (c .before .before .before .before .before .before .before .before .if2 .left) a n) _ (c .done .ensures) (omega (arith, c .before .before .before .before .before .before .before .before .before .before .before .fits .left .fits)) (omega (arith, z))
+
+pair-same-requires : (t : ℕ) → pair-lts.Need-same-requires (pair-calls t) (pair-at t) pair.Post
+pair-same-requires t c κs = (omega arith, tt)
+
+pair-returns-6 : (t : ℕ) → pair-lts.Need-returns-6 (pair-calls t) (pair-at t) pair.Post
+pair-returns-6 t c = c .same .ensures
+
+abbrev same-Inv-loop2 : same-lts.InvT-loop2
+same-Inv-loop2 store a b left deep x y u₀ d n i₀ u i =
+    (i < n) × (n ≡ countOf store x) × (n ≡ countOf store y) × (u < 4294967296) × (d < deep)
+    × ((t : List ℕ) (β : Bindings ℕ) (m : ℕ) → (o : Ran) × Goes-on t d store x y i β m u o × Carried store y b β m o (visit t deep (compare a b β) store m left))
+
+abbrev same-μ-loop2 : same-lts.MeasureT-loop2
+same-μ-loop2 store a b left deep x y u₀ d n i₀ u i = n - i
+
+abbrev same-Inv-loop : same-lts.InvT-loop
+same-Inv-loop store a b left deep x₀ y₀ u₀ d₀ x y u d =
+    (u < 4294967296) × (d ≤ deep)
+    × ((t : List ℕ) (β : Bindings ℕ) (m : ℕ) → Carried store y b β m (visit t d (compare x y β) store m u) (visit t deep (compare a b β) store m left))
+
+abbrev same-μ-loop : same-lts.MeasureT-loop
+same-μ-loop store a b left deep x₀ y₀ u₀ d₀ x y u d = d
+
+same-loop-holds : (t : ℕ) → same-lts.Need-loop-holds (same-calls t) (same-at t) same.Post same-Inv-loop2 same-μ-loop2 same-Inv-loop same-μ-loop
+same-loop-holds t c = (omega arith, omega arith, λ t β m r e. e)
+
+same-no-units-requires : (t : ℕ) → same-lts.Need-no-units-requires (same-calls t) (same-at t) same.Post same-Inv-loop2 same-μ-loop2 same-Inv-loop same-μ-loop
+same-no-units-requires t c κs = search needs
+
+same-returns : (t : ℕ) → same-lts.Need-returns (same-calls t) (same-at t) same.Post same-Inv-loop2 same-μ-loop2 same-Inv-loop same-μ-loop
+same-returns t c = λ t β m. c .before .before .loop .inv .2 t β m _ (units-kept t _ _ _ m _ _ _ β (c .no-units .ensures) (c .before .if1 .taken))
+
+same-no-nesting-requires : (t : ℕ) → same-lts.Need-no-nesting-requires (same-calls t) (same-at t) same.Post same-Inv-loop2 same-μ-loop2 same-Inv-loop same-μ-loop
+same-no-nesting-requires t c κs = search needs
+
+same-returns-2 : (t : ℕ) → same-lts.Need-returns-2 (same-calls t) (same-at t) same.Post same-Inv-loop2 same-μ-loop2 same-Inv-loop same-μ-loop
+same-returns-2 t c = λ t β m. c .before .before .before .loop .inv .2 t β m _ (nesting-kept t _ _ _ m _ _ _ β (c .no-nesting .ensures) (c .before .before .before .loop .inv .0) (c .before .before .if1 .left) (c .before .if2 .taken))
+
+same-sub-u : (t : ℕ) → same-lts.Need-sub-u (same-calls t) (same-at t) same.Post same-Inv-loop2 same-μ-loop2 same-Inv-loop same-μ-loop
+same-sub-u t c = search needs
+
+same-sub-d : (t : ℕ) → same-lts.Need-sub-d (same-calls t) (same-at t) same.Post same-Inv-loop2 same-μ-loop2 same-Inv-loop same-μ-loop
+same-sub-d t c = search needs
+
+same-count-requires : (t : ℕ) → same-lts.Need-count-requires (same-calls t) (same-at t) same.Post same-Inv-loop2 same-μ-loop2 same-Inv-loop same-μ-loop
+same-count-requires t c κs = search needs
+
+same-word-requires : (t : ℕ) → same-lts.Need-word-requires (same-calls t) (same-at t) same.Post same-Inv-loop2 same-μ-loop2 same-Inv-loop same-μ-loop
+same-word-requires t c κs = search needs
+
+same-word-requires-2 : (t : ℕ) → same-lts.Need-word-requires-2 (same-calls t) (same-at t) same.Post same-Inv-loop2 same-μ-loop2 same-Inv-loop same-μ-loop
+same-word-requires-2 t c κs = search needs
+
+same-failure-requires : (t : ℕ) → same-lts.Need-failure-requires (same-calls t) (same-at t) same.Post same-Inv-loop2 same-μ-loop2 same-Inv-loop same-μ-loop
+same-failure-requires t c κs = search needs
+
+same-returns-3 : (t : ℕ) → same-lts.Need-returns-3 (same-calls t) (same-at t) same.Post same-Inv-loop2 same-μ-loop2 same-Inv-loop same-μ-loop
+same-returns-3 t c =
+    let e : _ ≡ _ → ⊥ = λ h. c .before .if3 .taken (c .before .before .before .word .ensures ∙ h ∙ sym (c .before .before .word2 .ensures)) in
+    λ t β m. c .before .before .before .before .before .before .before .loop .inv .2 t β m _ (other-constructor _ _ _ t _ m _ β (c .before .before .before .before .before .before .if1 .left) (c .before .before .before .before .before .if2 .left) _ (c .failure .ensures) (c .before .before .before .before .before .before .before .loop .inv .0) e)
+
+same-count-requires-2 : (t : ℕ) → same-lts.Need-count-requires-2 (same-calls t) (same-at t) same.Post same-Inv-loop2 same-μ-loop2 same-Inv-loop same-μ-loop
+same-count-requires-2 t c κs = search needs
+
+same-failure-requires-2 : (t : ℕ) → same-lts.Need-failure-requires-2 (same-calls t) (same-at t) same.Post same-Inv-loop2 same-μ-loop2 same-Inv-loop same-μ-loop
+same-failure-requires-2 t c κs = search needs
+
+same-returns-4 : (t : ℕ) → same-lts.Need-returns-4 (same-calls t) (same-at t) same.Post same-Inv-loop2 same-μ-loop2 same-Inv-loop same-μ-loop
+same-returns-4 t c =
+    let a = sym (c .before .before .before .before .before .word .ensures) ∙ c .before .before .before .if3 .left ∙ c .before .before .before .before .word2 .ensures in
+    λ t β m. c .before .before .before .before .before .before .before .before .before .loop .inv .2 t β m _ (other-count _ _ _ t _ m _ β (c .before .before .before .before .before .before .before .before .if1 .left) (c .before .before .before .before .before .before .before .if2 .left) _ (c .failure2 .ensures) (c .before .before .before .before .before .before .before .before .before .loop .inv .0) a (λ h. c .before .if4 .taken (c .before .before .before .before .before .before .count .ensures ∙ h ∙ sym (c .before .before .count2 .ensures))))
+
+same-done-requires : (t : ℕ) → same-lts.Need-done-requires (same-calls t) (same-at t) same.Post same-Inv-loop2 same-μ-loop2 same-Inv-loop same-μ-loop
+same-done-requires t c κs = search needs
+
+same-returns-5 : (t : ℕ) → same-lts.Need-returns-5 (same-calls t) (same-at t) same.Post same-Inv-loop2 same-μ-loop2 same-Inv-loop same-μ-loop
+same-returns-5 t c =
+    let a = sym (c .before .before .before .before .before .before .word .ensures) ∙ c .before .before .before .before .if3 .left ∙ c .before .before .before .before .before .word2 .ensures in
+    let n = sym (c .before .before .before .before .before .before .before .count .ensures) ∙ c .before .before .if4 .left ∙ c .before .before .before .count2 .ensures in
+    let z = sym (c .before .before .before .before .before .before .before .count .ensures) ∙ c .before .if5 .taken in
+    λ t β m. c .before .before .before .before .before .before .before .before .before .before .loop .inv .2 t β m _ (compared _ _ _ t _ 0 β m _ (agreed _ _ _ t _ m _ β (c .before .before .before .before .before .before .before .before .before .if1 .left) (c .before .before .before .before .before .before .before .before .if2 .left) a n) _ (c .done .ensures) (omega (arith, c .before .before .before .before .before .before .before .before .before .before .loop .inv .0)) (omega (arith, z)))
+
+same-loop2-holds : (t : ℕ) → same-lts.Need-loop2-holds (same-calls t) (same-at t) same.Post same-Inv-loop2 same-μ-loop2 same-Inv-loop same-μ-loop
+same-loop2-holds t c =
+    let a = sym (c .before .before .before .before .before .word .ensures) ∙ c .before .before .before .if3 .left ∙ c .before .before .before .before .word2 .ensures in
+    let n = c .before .if4 .left ∙ c .before .before .count2 .ensures in
+    let l = c .before .before .before .before .before .before .before .before .before .loop .inv in
+    (omega (arith, c .if5 .left), c .before .before .before .before .before .before .count .ensures, n, omega (arith, l .0), omega (arith, l .1, c .before .before .before .before .before .before .before .if2 .left), λ t β m. (_, agreed _ _ _ t _ m _ β (c .before .before .before .before .before .before .before .before .if1 .left) (c .before .before .before .before .before .before .before .if2 .left) a (sym (c .before .before .before .before .before .before .count .ensures) ∙ n), l .2 t β m))
+
+same-add-loop2 : (t : ℕ) → same-lts.Need-add-loop2 (same-calls t) (same-at t) same.Post same-Inv-loop2 same-μ-loop2 same-Inv-loop same-μ-loop
+same-add-loop2 t c = search needs
+
+same-add-word : (t : ℕ) → same-lts.Need-add-word (same-calls t) (same-at t) same.Post same-Inv-loop2 same-μ-loop2 same-Inv-loop same-μ-loop
+same-add-word t c = search needs
+
+same-word-requires-3 : (t : ℕ) → same-lts.Need-word-requires-3 (same-calls t) (same-at t) same.Post same-Inv-loop2 same-μ-loop2 same-Inv-loop same-μ-loop
+same-word-requires-3 t c κs = search needs
+
+same-add-word-2 : (t : ℕ) → same-lts.Need-add-word-2 (same-calls t) (same-at t) same.Post same-Inv-loop2 same-μ-loop2 same-Inv-loop same-μ-loop
+same-add-word-2 t c = search needs
+
+same-word-requires-4 : (t : ℕ) → same-lts.Need-word-requires-4 (same-calls t) (same-at t) same.Post same-Inv-loop2 same-μ-loop2 same-Inv-loop same-μ-loop
+same-word-requires-4 t c κs = search needs
+
+same-pair-requires : (t : ℕ) → same-lts.Need-pair-requires (same-calls t) (same-at t) same.Post same-Inv-loop2 same-μ-loop2 same-Inv-loop same-μ-loop
+same-pair-requires t c κs = (omega (arith, c .before .before .before .loop2 .inv .4), tt)
+
+same-told-requires : (t : ℕ) → same-lts.Need-told-requires (same-calls t) (same-at t) same.Post same-Inv-loop2 same-μ-loop2 same-Inv-loop same-μ-loop
+same-told-requires t c κs = search needs
+
+same-enum-known-more : (t : ℕ) → same-lts.Need-enum-known-more (same-calls t) (same-at t) same.Post same-Inv-loop2 same-μ-loop2 same-Inv-loop same-μ-loop
+same-enum-known-more t c = search needs
+
+same-returns-6 : (t : ℕ) → same-lts.Need-returns-6 (same-calls t) (same-at t) same.Post same-Inv-loop2 same-μ-loop2 same-Inv-loop same-μ-loop
+same-returns-6 t c = λ t β m.
+    let g = c .before .before .before .before .before .before .loop2 .inv .5 t β m in
+    g .2 _ (pair-stops _ _ _ t _ _ β m _ (g .1) (omega arith) (omega arith) _ _ _ (c .before .before .before .before .word3 .ensures) (c .before .before .before .word4 .ensures) (c .before .before .pair .ensures t β m) _ (c .before .told .ensures) (c .match .keys2))
+
+same-add-i : (t : ℕ) → same-lts.Need-add-i (same-calls t) (same-at t) same.Post same-Inv-loop2 same-μ-loop2 same-Inv-loop same-μ-loop
+same-add-i t c = search needs
+
+same-loop2-less : (t : ℕ) → same-lts.Need-loop2-less (same-calls t) (same-at t) same.Post same-Inv-loop2 same-μ-loop2 same-Inv-loop same-μ-loop
+same-loop2-less t c = search needs
+
+same-loop2-again : (t : ℕ) → same-lts.Need-loop2-again (same-calls t) (same-at t) same.Post same-Inv-loop2 same-μ-loop2 same-Inv-loop same-μ-loop
+same-loop2-again t c =
+    let l = c .before .before .before .before .before .before .before .before .loop2 .inv in (
+      search needs,
+      l .1,
+      l .2,
+      omega (arith, done-node _ _ _ (sym (c .before .before .before .told .ensures) ∙ c .before .more .given .1)),
+      l .4,
+      λ t β m.
+          let g = l .5 t β m in
+          (_, pair-done _ _ _ t _ _ β m _ (g .1) (omega arith) (omega arith) _ _ _ (c .before .before .before .before .before .before .word3 .ensures) (c .before .before .before .before .before .word4 .ensures) (c .before .before .before .before .pair .ensures t β m) _ (c .before .before .before .told .ensures) _ _ (c .before .more .given .1), g .2),
+    )
+
+same-add-word-3 : (t : ℕ) → same-lts.Need-add-word-3 (same-calls t) (same-at t) same.Post same-Inv-loop2 same-μ-loop2 same-Inv-loop same-μ-loop
+same-add-word-3 t c = search needs
+
+same-word-requires-5 : (t : ℕ) → same-lts.Need-word-requires-5 (same-calls t) (same-at t) same.Post same-Inv-loop2 same-μ-loop2 same-Inv-loop same-μ-loop
+same-word-requires-5 t c κs = search needs
+
+same-add-word-4 : (t : ℕ) → same-lts.Need-add-word-4 (same-calls t) (same-at t) same.Post same-Inv-loop2 same-μ-loop2 same-Inv-loop same-μ-loop
+same-add-word-4 t c = search needs
+
+same-word-requires-6 : (t : ℕ) → same-lts.Need-word-requires-6 (same-calls t) (same-at t) same.Post same-Inv-loop2 same-μ-loop2 same-Inv-loop same-μ-loop
+same-word-requires-6 t c κs = search needs
+
+same-loop-less : (t : ℕ) → same-lts.Need-loop-less (same-calls t) (same-at t) same.Post same-Inv-loop2 same-μ-loop2 same-Inv-loop same-μ-loop
+same-loop-less t c = omega (arith, c .before .before .before .before .before .before .before .before .before .before .before .if2 .left)
+
+same-loop-again : (t : ℕ) → same-lts.Need-loop-again (same-calls t) (same-at t) same.Post same-Inv-loop2 same-μ-loop2 same-Inv-loop same-μ-loop
+same-loop-again t c =
+    let l = c .before .before .before .loop2 .inv in (
+      l .3,
+      omega (arith, l .4),
+      λ t β m r e.
+          let g = l .5 t β m in
+          g .2 r (last-pair _ _ _ t _ _ β m _ (g .1) (omega arith) (omega arith) _ _ (c .before .word5 .ensures) (c .word6 .ensures) r e),
+    )
+
+pub +pair+same-spec : {M : Type 1} → statement M
++pair+same-spec = close μ-pair μ-same
+    (λ t. pair-lts.spec (pair-calls t)
+    (pair-at t)
+    pair.Post
+    (pair-no-units-requires t)
+    (pair-returns t)
+    (pair-no-nesting-requires t)
+    (pair-returns-2 t)
+    (pair-count-requires t)
+    (pair-word-requires t)
+    (pair-word-requires-2 t)
+    (pair-sub-failure t)
+    (pair-failure-requires t)
+    (pair-returns-3 t)
+    (pair-count-requires-2 t)
+    (pair-sub-failure-2 t)
+    (pair-failure-requires-2 t)
+    (pair-returns-4 t)
+    (pair-sub-done t)
+    (pair-done-requires t)
+    (pair-returns-5 t)
+    (pair-same-requires t)
+    (pair-returns-6 t))
+    λ t. same-lts.spec (same-calls t)
+    (same-at t)
+    same.Post
+    same-Inv-loop2
+    same-μ-loop2
+    same-Inv-loop
+    same-μ-loop
+    (same-loop-holds t)
+    (same-no-units-requires t)
+    (same-returns t)
+    (same-no-nesting-requires t)
+    (same-returns-2 t)
+    (same-sub-u t)
+    (same-sub-d t)
+    (same-count-requires t)
+    (same-word-requires t)
+    (same-word-requires-2 t)
+    (same-failure-requires t)
+    (same-returns-3 t)
+    (same-count-requires-2 t)
+    (same-failure-requires-2 t)
+    (same-returns-4 t)
+    (same-done-requires t)
+    (same-returns-5 t)
+    (same-loop2-holds t)
+    (same-add-loop2 t)
+    (same-add-word t)
+    (same-word-requires-3 t)
+    (same-add-word-2 t)
+    (same-word-requires-4 t)
+    (same-pair-requires t)
+    (same-told-requires t)
+    (same-enum-known-more t)
+    (same-returns-6 t)
+    (same-add-i t)
+    (same-loop2-less t)
+    (same-loop2-again t)
+    (same-add-word-3 t)
+    (same-word-requires-5 t)
+    (same-add-word-4 t)
+    (same-word-requires-6 t)
+    (same-loop-less t)
+    (same-loop-again t)

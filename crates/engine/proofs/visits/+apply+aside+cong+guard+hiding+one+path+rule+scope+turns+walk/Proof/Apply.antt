@@ -1,0 +1,68 @@
+-- One visit: ALL by the child walker, or at once where there is no child; every other kind by the turns of the loop.
+use Rattle.engine.proofs.Looping.{first-turn, ends-units, ends-nesting, ready-same, all-itself, two-kinds, whole, pos}
+use Rattle.engine.proofs.Returning.{renamed}
+use Rattle.engine.proofs.Ruling.{ruled-all}
+use Prim.Native.Nat.{ℕ, _<_, _≤_, _-_, _+_}
+use mathlib.Core.Path.{_≡_, refl, sym, ap, _∙_}
+use borrow.Author.Needs.{needs}
+use native.Mathlib.Omega.{arith}
+use Rattle.engine.proofs.visits.apply.Reads as apply
+use Rattle.engine.proofs.visits.+apply+aside+cong+guard+hiding+one+path+rule+scope+turns+walk.Lts-apply as apply-lts
+use Rattle.engine.proofs.visits.+apply+aside+cong+guard+hiding+one+path+rule+scope+turns+walk.Proof.Common.{apply-at, apply-calls}
+
+pub apply-kind-requires : (t : ℕ) → apply-lts.Need-kind-requires (apply-calls t) (apply-at t) apply.Post
+apply-kind-requires t c κs = (c .before .pre .1) .inside
+
+pub apply-turns-requires : (t : ℕ) → apply-lts.Need-turns-requires (apply-calls t) (apply-at t) apply.Post
+apply-turns-requires t c κs = (omega arith, c .before .before .before .before .before .pre .1)
+
+pub apply-same-length : (t : ℕ) → apply-lts.Need-same-length (apply-calls t) (apply-at t) apply.Post
+apply-same-length t c = c .before .before .turns .kept .1 .0
+
+pub apply-returns : (t : ℕ) → apply-lts.Need-returns (apply-calls t) (apply-at t) apply.Post
+apply-returns t c = c .before .before .turns .ensures
+
+pub apply-cast-left : (t : ℕ) → apply-lts.Need-cast-left (apply-calls t) (apply-at t) apply.Post
+apply-cast-left t c = search needs
+
+pub apply-no-units-requires : (t : ℕ) → apply-lts.Need-no-units-requires (apply-calls t) (apply-at t) apply.Post
+apply-no-units-requires t c κs = search needs
+
+pub apply-returns-2 : (t : ℕ) → apply-lts.Need-returns-2 (apply-calls t) (apply-at t) apply.Post
+apply-returns-2 t c = ends-units (first-turn _ (c .before .before .before .before .before .pre .1) (c .before .before .before .before .before .fits .given .fits)) _ (c .no-units .ensures) (c .before .if2 .taken)
+
+pub apply-no-nesting-requires : (t : ℕ) → apply-lts.Need-no-nesting-requires (apply-calls t) (apply-at t) apply.Post
+apply-no-nesting-requires t c κs = search needs
+
+pub apply-returns-3 : (t : ℕ) → apply-lts.Need-returns-3 (apply-calls t) (apply-at t) apply.Post
+apply-returns-3 t c = ends-nesting (first-turn _ (c .before .before .before .before .before .before .pre .1) (c .before .before .before .before .before .before .fits .given .fits)) _ (c .no-nesting .ensures) (c .before .before .if2 .left) (c .before .if3 .taken)
+
+pub apply-cast-count : (t : ℕ) → apply-lts.Need-cast-count (apply-calls t) (apply-at t) apply.Post
+apply-cast-count t c = search needs
+
+pub apply-count-requires : (t : ℕ) → apply-lts.Need-count-requires (apply-calls t) (apply-at t) apply.Post
+apply-count-requires t c κs = search needs
+
+pub apply-sub-result : (t : ℕ) → apply-lts.Need-sub-result (apply-calls t) (apply-at t) apply.Post
+apply-sub-result t c = omega (arith, pos _ (c .before .before .before .before .if2 .left))
+
+pub apply-same-length-2 : (t : ℕ) → apply-lts.Need-same-length-2 (apply-calls t) (apply-at t) apply.Post
+apply-same-length-2 t c = search needs
+
+pub apply-returns-4 : (t : ℕ) → apply-lts.Need-returns-4 (apply-calls t) (apply-at t) apply.Post
+apply-returns-4 t c = all-itself (first-turn _ (c .before .before .before .before .before .before .before .before .pre .1) (c .before .before .before .before .before .before .before .before .fits .given .fits)) (c .before .before .before .before .if2 .left) (c .before .before .before .if3 .left) (sym (c .before .before .before .before .before .before .kind .ensures) ∙ c .before .before .before .before .before .if1 .left) (sym (c .before .count .ensures) ∙ c .if4 .taken)
+
+pub apply-sub-walk : (t : ℕ) → apply-lts.Need-sub-walk (apply-calls t) (apply-at t) apply.Post
+apply-sub-walk t c = omega (arith, pos _ (c .before .before .before .before .before .before .if2 .left))
+
+pub apply-sub-walk-2 : (t : ℕ) → apply-lts.Need-sub-walk-2 (apply-calls t) (apply-at t) apply.Post
+apply-sub-walk-2 t c = omega (arith, pos _ (c .before .before .before .before .before .if3 .left))
+
+pub apply-walk-requires : (t : ℕ) → apply-lts.Need-walk-requires (apply-calls t) (apply-at t) apply.Post
+apply-walk-requires t c κs = (omega (arith, pos _ (c .before .before .before .before .before .if3 .left)), (ready-same (first-turn _ (c .before .before .before .before .before .before .before .before .before .before .pre .1) (c .before .before .before .before .before .before .before .before .before .before .fits .given .fits)) (c .before .before .before .before .before .before .if2 .left) (c .before .before .before .before .before .if3 .left), λ z. absurd (two-kinds (c .before .before .before .before .before .before .before .before .kind .ensures) (c .before .before .before .before .before .before .before .if1 .left) z (omega arith))))
+
+pub apply-same-length-3 : (t : ℕ) → apply-lts.Need-same-length-3 (apply-calls t) (apply-at t) apply.Post
+apply-same-length-3 t c = c .before .before .walk .kept .1 .0
+
+pub apply-returns-5 : (t : ℕ) → apply-lts.Need-returns-5 (apply-calls t) (apply-at t) apply.Post
+apply-returns-5 t c = whole (first-turn _ (c .before .before .before .before .before .before .before .before .before .before .before .before .before .pre .1) (c .before .before .before .before .before .before .before .before .before .before .before .before .before .fits .given .fits)) (c .before .before .before .before .before .before .before .before .before .if2 .left) (c .before .before .before .before .before .before .before .before .if3 .left) (renamed (c .before .before .walk .ensures) (sym (ruled-all _ _ _ _ _ _ _ _ (sym (c .before .before .before .before .before .before .before .before .before .before .before .kind .ensures) ∙ c .before .before .before .before .before .before .before .before .before .before .if1 .left))))

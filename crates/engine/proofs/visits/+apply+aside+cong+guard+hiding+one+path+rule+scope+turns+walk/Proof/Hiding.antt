@@ -1,0 +1,47 @@
+-- SCOPE, where some masked variable is bound: the operand runs with them hidden, and their words are put back.
+use Rattle.engine.proofs.Scoping.{ready-hiding, gives-hiding}
+use Prim.Native.Nat.{ℕ}
+use borrow.Author.Needs.{needs}
+use native.Mathlib.Omega.{arith}
+use Rattle.engine.proofs.visits.hiding.Reads as hiding
+use Rattle.engine.proofs.visits.+apply+aside+cong+guard+hiding+one+path+rule+scope+turns+walk.Lts-hiding as hiding-lts
+use Rattle.engine.proofs.visits.+apply+aside+cong+guard+hiding+one+path+rule+scope+turns+walk.Proof.Common.{hiding-at, hiding-calls}
+
+pub hiding-entry-requires : (t : ℕ) → hiding-lts.Need-entry-requires (hiding-calls t) (hiding-at t) hiding.Post
+hiding-entry-requires t c κs = ((c .before .pre .1 .0) .inside, omega arith)
+
+pub hiding-element-copy-out-hidden : (t : ℕ) → hiding-lts.Need-element-copy-out-hidden (hiding-calls t) (hiding-at t) hiding.Post
+hiding-element-copy-out-hidden t c = search needs
+
+pub hiding-element-copy-out-hide : (t : ℕ) → hiding-lts.Need-element-copy-out-hide (hiding-calls t) (hiding-at t) hiding.Post
+hiding-element-copy-out-hide t c = search needs
+
+pub hiding-hide-requires : (t : ℕ) → hiding-lts.Need-hide-requires (hiding-calls t) (hiding-at t) hiding.Post
+hiding-hide-requires t c κs = search needs
+
+pub hiding-element-write-st : (t : ℕ) → hiding-lts.Need-element-write-st (hiding-calls t) (hiding-at t) hiding.Post
+hiding-element-write-st t c = search needs
+
+pub hiding-entry-requires-2 : (t : ℕ) → hiding-lts.Need-entry-requires-2 (hiding-calls t) (hiding-at t) hiding.Post
+hiding-entry-requires-2 t c κs = ((c .before .before .before .before .before .before .before .before .pre .1 .0) .inside, omega arith)
+
+pub hiding-apply-requires : (t : ℕ) → hiding-lts.Need-apply-requires (hiding-calls t) (hiding-at t) hiding.Post
+hiding-apply-requires t c κs = (omega arith, ready-hiding (c .before .before .before .before .before .before .before .before .before .args .deep) (c .before .before .before .before .before .before .before .before .before .pre .1 .0) (c .before .before .before .before .before .before .before .entry .ensures) (omega (arith, c .before .before .before .before .before .before .before .entry .ok)) (c .entry2 .ensures) (c .before .before .before .hide .ensures))
+
+pub hiding-put-back-requires : (t : ℕ) → hiding-lts.Need-put-back-requires (hiding-calls t) (hiding-at t) hiding.Post
+hiding-put-back-requires t c κs = search needs
+
+pub hiding-element-copy-out-hide-2 : (t : ℕ) → hiding-lts.Need-element-copy-out-hide-2 (hiding-calls t) (hiding-at t) hiding.Post
+hiding-element-copy-out-hide-2 t c = search needs
+
+pub hiding-hide-requires-2 : (t : ℕ) → hiding-lts.Need-hide-requires-2 (hiding-calls t) (hiding-at t) hiding.Post
+hiding-hide-requires-2 t c κs = search needs
+
+pub hiding-element-write-st-2 : (t : ℕ) → hiding-lts.Need-element-write-st-2 (hiding-calls t) (hiding-at t) hiding.Post
+hiding-element-write-st-2 t c = search needs
+
+pub hiding-same-length : (t : ℕ) → hiding-lts.Need-same-length (hiding-calls t) (hiding-at t) hiding.Post
+hiding-same-length t c = search needs
+
+pub hiding-returns : (t : ℕ) → hiding-lts.Need-returns (hiding-calls t) (hiding-at t) hiding.Post
+hiding-returns t c = gives-hiding _ (c .before .before .before .before .before .before .before .before .before .before .before .before .before .before .before .before .pre .1 .0) (c .before .before .before .before .before .before .before .before .before .before .before .before .before .before .entry .ensures) (omega (arith, c .before .before .before .before .before .before .before .before .before .before .before .before .before .before .entry .ok)) (c .before .before .before .before .before .before .before .entry2 .ensures) (c .before .before .before .before .before .before .before .before .before .before .hide .ensures) (c .before .before .before .before .before .before .apply .ensures) (c .before .before .before .before .before .before .before .before .before .before .before .before .before .before .before .before .pre .1 .1) (c .before .before .put-back .ensures) (c .hide2 .ensures)

@@ -1,0 +1,111 @@
+use mathlib.Core.Path.{_∙_}
+-- ONE: the children are tried from the left, each from the mark and the bindings of the start.
+use Rattle.engine.proofs.Descending.{Trying, one-begins, ready-one, gives-one-off, roomy-one, gives-one, one-again, gives-one-none}
+use Prim.Native.Nat.{ℕ, _-_}
+use borrow.Author.Needs.{needs}
+use native.Mathlib.Omega.{arith}
+use Rattle.engine.proofs.visits.one.Reads as one
+use Rattle.engine.proofs.visits.+apply+aside+cong+guard+hiding+one+path+rule+scope+turns+walk.Lts-one as one-lts
+use Rattle.engine.proofs.visits.+apply+aside+cong+guard+hiding+one+path+rule+scope+turns+walk.Proof.Common.{one-at, one-calls}
+
+abbrev pub one-Inv-loop : one-lts.InvT-loop
+one-Inv-loop table store₀ st₀ e s deep t u₀ n mark mask op i₀ store st u i = Trying table store₀ st₀ deep e s n op store st u i
+
+abbrev pub one-μ-loop : one-lts.MeasureT-loop
+one-μ-loop table store₀ st₀ e s deep t u₀ n mark mask op i₀ store st u i = n - i
+
+pub one-cast-t : (t : ℕ) → one-lts.Need-cast-t (one-calls t) (one-at t) one.Post one-Inv-loop one-μ-loop
+one-cast-t t c = search needs
+
+pub one-cast-u : (t : ℕ) → one-lts.Need-cast-u (one-calls t) (one-at t) one.Post one-Inv-loop one-μ-loop
+one-cast-u t c = search needs
+
+pub one-count-requires : (t : ℕ) → one-lts.Need-count-requires (one-calls t) (one-at t) one.Post one-Inv-loop one-μ-loop
+one-count-requires t c κs = search needs
+
+pub one-element-copy-out-mark : (t : ℕ) → one-lts.Need-element-copy-out-mark (one-calls t) (one-at t) one.Post one-Inv-loop one-μ-loop
+one-element-copy-out-mark t c = search needs
+
+pub one-element-copy-out-mask : (t : ℕ) → one-lts.Need-element-copy-out-mask (one-calls t) (one-at t) one.Post one-Inv-loop one-μ-loop
+one-element-copy-out-mask t c = search needs
+
+pub one-entry-requires : (t : ℕ) → one-lts.Need-entry-requires (one-calls t) (one-at t) one.Post one-Inv-loop one-μ-loop
+one-entry-requires t c κs = ((c .before .before .before .before .before .pre .1 .0) .inside, omega arith)
+
+pub one-loop-holds : (t : ℕ) → one-lts.Need-loop-holds (one-calls t) (one-at t) one.Post one-Inv-loop one-μ-loop
+one-loop-holds t c = one-begins _ (c .before .before .before .before .before .before .pre .1 .0) (c .before .before .before .before .before .before .pre .1 .1) (c .before .before .before .count .ensures) (c .entry .ensures)
+
+pub one-add-word : (t : ℕ) → one-lts.Need-add-word (one-calls t) (one-at t) one.Post one-Inv-loop one-μ-loop
+one-add-word t c = search needs
+
+pub one-word-requires : (t : ℕ) → one-lts.Need-word-requires (one-calls t) (one-at t) one.Post one-Inv-loop one-μ-loop
+one-word-requires t c κs = search needs
+
+pub one-done-requires : (t : ℕ) → one-lts.Need-done-requires (one-calls t) (one-at t) one.Post one-Inv-loop one-μ-loop
+one-done-requires t c κs = search needs
+
+pub one-apply-requires : (t : ℕ) → one-lts.Need-apply-requires (one-calls t) (one-at t) one.Post one-Inv-loop one-μ-loop
+one-apply-requires t c κs = (omega arith, ready-one (c .before .before .before .before .before .before .before .before .before .before .before .before .before .args .deep) (c .before .before .before .before .before .before .before .before .before .before .before .before .before .pre .1 .0) (c .before .before .before .before .before .before .loop .inv) (c .before .before .before .before .before .loop-test .taken) (c .before .word .ensures) (c .done .ensures) (c .before .before .before .before .before .before .before .entry .ensures))
+
+pub one-hear-requires : (t : ℕ) → one-lts.Need-hear-requires (one-calls t) (one-at t) one.Post one-Inv-loop one-μ-loop
+one-hear-requires t c κs = search needs
+
+pub one-enum-known-yes : (t : ℕ) → one-lts.Need-enum-known-yes (one-calls t) (one-at t) one.Post one-Inv-loop one-μ-loop
+one-enum-known-yes t c = search needs
+
+pub one-enum-told : (t : ℕ) → one-lts.Need-enum-told (one-calls t) (one-at t) one.Post one-Inv-loop one-μ-loop
+one-enum-told t c = search needs
+
+pub one-same-length : (t : ℕ) → one-lts.Need-same-length (one-calls t) (one-at t) one.Post one-Inv-loop one-μ-loop
+one-same-length t c = search needs
+
+pub one-returns : (t : ℕ) → one-lts.Need-returns (one-calls t) (one-at t) one.Post one-Inv-loop one-μ-loop
+one-returns t c = gives-one-off _ (c .before .before .before .before .before .before .before .before .before .before .before .before .before .before .before .before .before .before .before .pre .1 .0) (c .before .before .before .before .before .before .before .before .before .before .before .before .loop .inv) (c .before .before .before .before .before .before .before .before .before .before .before .loop-test .taken) (c .before .before .before .before .before .before .before .word .ensures) (c .before .before .before .before .before .before .done .ensures) (c .before .before .before .before .before .apply .ensures) (c .before .before .hear .ensures) (c .enum-told .given .1)
+
+pub one-row-requires : (t : ℕ) → one-lts.Need-row-requires (one-calls t) (one-at t) one.Post one-Inv-loop one-μ-loop
+one-row-requires t c κs = search needs
+
+pub one-cast-made : (t : ℕ) → one-lts.Need-cast-made (one-calls t) (one-at t) one.Post one-Inv-loop one-μ-loop
+one-cast-made t c = search needs
+
+pub one-add-made : (t : ℕ) → one-lts.Need-add-made (one-calls t) (one-at t) one.Post one-Inv-loop one-μ-loop
+one-add-made t c = search needs
+
+pub one-mul-made : (t : ℕ) → one-lts.Need-mul-made (one-calls t) (one-at t) one.Post one-Inv-loop one-μ-loop
+one-mul-made t c = search needs
+
+pub one-array-write-made : (t : ℕ) → one-lts.Need-array-write-made (one-calls t) (one-at t) one.Post one-Inv-loop one-μ-loop
+one-array-write-made t c = search needs
+
+pub one-node-requires : (t : ℕ) → one-lts.Need-node-requires (one-calls t) (one-at t) one.Post one-Inv-loop one-μ-loop
+one-node-requires t c κs = (roomy-one (c .before .before .before .before .before .before .before .before .before .before .before .before .before .before .before .before .before .before .before .before .before .before .before .before .before .args .deep) (c .before .before .before .before .before .before .before .before .before .before .before .before .before .before .before .before .before .before .before .before .before .before .before .before .before .pre .1 .0) (c .before .before .before .before .before .before .before .before .before .before .before .before .before .before .before .before .before .before .loop .inv) (c .before .before .before .before .before .before .before .before .before .before .before .before .before .before .before .before .before .loop-test .taken) (c .before .before .before .before .before .before .before .before .before .before .before .before .before .word .ensures) (c .before .before .before .before .before .before .before .before .before .before .before .before .done .ensures) (c .before .before .before .before .before .before .before .before .before .before .before .apply .ensures) (c .before .before .before .before .before .before .before .before .hear .ensures) (c .before .before .before .before .before .before .yes .given .1) (c .before .before .before .before .if1 .taken), c .before .before .before .before .before .before .before .before .before .before .before .apply .ensures .frame .long ∙ c .before .before .before .before .before .before .before .before .before .before .before .before .before .before .before .before .before .before .loop .inv .wide ∙ c .before .before .before .before .before .before .before .before .before .before .before .before .before .before .before .before .before .before .before .before .before .before .before .before .before .pre .1 .0 .long)
+
+pub one-same-length-2 : (t : ℕ) → one-lts.Need-same-length-2 (one-calls t) (one-at t) one.Post one-Inv-loop one-μ-loop
+one-same-length-2 t c = search needs
+
+pub one-returns-2 : (t : ℕ) → one-lts.Need-returns-2 (one-calls t) (one-at t) one.Post one-Inv-loop one-μ-loop
+one-returns-2 t c = gives-one _ (c .before .before .before .before .before .before .before .before .before .before .before .before .before .before .before .before .before .before .before .before .before .before .before .before .before .before .before .before .pre .1 .0) (c .before .before .before .before .before .before .before .before .before .before .before .before .before .before .before .before .before .before .before .before .before .loop .inv) (c .before .before .before .before .before .before .before .before .before .before .before .before .before .before .before .before .before .before .before .before .loop-test .taken) (c .before .before .before .before .before .before .before .before .before .before .before .before .before .before .before .before .word .ensures) (c .before .before .before .before .before .before .before .before .before .before .before .before .before .before .before .done .ensures) (c .before .before .before .before .before .before .before .before .before .before .before .before .before .before .apply .ensures) (c .before .before .before .before .before .before .before .before .before .before .before .hear .ensures) (c .before .before .before .before .before .before .before .before .before .yes .given .1) (c .before .before .before .before .before .before .before .if1 .taken) (c .before .before .before .before .before .row .ensures) (c .before .before .node .ensures)
+
+pub one-element-write-st : (t : ℕ) → one-lts.Need-element-write-st (one-calls t) (one-at t) one.Post one-Inv-loop one-μ-loop
+one-element-write-st t c = search needs
+
+pub one-element-write-st-2 : (t : ℕ) → one-lts.Need-element-write-st-2 (one-calls t) (one-at t) one.Post one-Inv-loop one-μ-loop
+one-element-write-st-2 t c = search needs
+
+pub one-add-i : (t : ℕ) → one-lts.Need-add-i (one-calls t) (one-at t) one.Post one-Inv-loop one-μ-loop
+one-add-i t c = search needs
+
+pub one-loop-less : (t : ℕ) → one-lts.Need-loop-less (one-calls t) (one-at t) one.Post one-Inv-loop one-μ-loop
+one-loop-less t c = omega (arith, c .before .before .before .before .before .before .before .before .before .before .before .before .before .loop-test .taken)
+
+pub one-loop-again : (t : ℕ) → one-lts.Need-loop-again (one-calls t) (one-at t) one.Post one-Inv-loop one-μ-loop
+one-loop-again t c = one-again _ (c .before .before .before .before .before .before .before .before .before .before .before .before .before .before .before .before .before .before .before .before .before .pre .1 .0) (c .before .before .before .before .before .before .before .before .before .before .before .before .before .before .loop .inv) (c .before .before .before .before .before .before .before .before .before .before .before .before .before .loop-test .taken) (c .before .before .before .before .before .before .before .before .before .word .ensures) (c .before .before .before .before .before .before .before .before .done .ensures) (c .before .before .before .before .before .before .before .apply .ensures) (c .before .before .before .before .hear .ensures) (c .before .before .yes .given .1) (c .if1 .left)
+
+pub one-failure-requires : (t : ℕ) → one-lts.Need-failure-requires (one-calls t) (one-at t) one.Post one-Inv-loop one-μ-loop
+one-failure-requires t c κs = search needs
+
+pub one-same-length-3 : (t : ℕ) → one-lts.Need-same-length-3 (one-calls t) (one-at t) one.Post one-Inv-loop one-μ-loop
+one-same-length-3 t c = search needs
+
+pub one-returns-3 : (t : ℕ) → one-lts.Need-returns-3 (one-calls t) (one-at t) one.Post one-Inv-loop one-μ-loop
+one-returns-3 t c = gives-one-none _ (c .before .before .before .before .before .before .before .before .before .pre .1 .0) (c .before .before .loop .inv) (c .before .loop-test .left) (c .failure .ensures)

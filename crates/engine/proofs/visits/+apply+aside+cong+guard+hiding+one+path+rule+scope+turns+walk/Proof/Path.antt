@@ -1,0 +1,87 @@
+use mathlib.Core.Path.{_∙_}
+-- PATH: a failure where there is no such child, else the child's answer, and the node made again with it.
+use Rattle.engine.proofs.Descending.{gives-path-zero, gives-path-past, ready-path, gives-path-stops, roomy-path, gives-path}
+use Prim.Native.Nat.{ℕ}
+use borrow.Author.Needs.{needs}
+use native.Mathlib.Omega.{arith}
+use Rattle.engine.proofs.visits.path.Reads as path
+use Rattle.engine.proofs.visits.+apply+aside+cong+guard+hiding+one+path+rule+scope+turns+walk.Lts-path as path-lts
+use Rattle.engine.proofs.visits.+apply+aside+cong+guard+hiding+one+path+rule+scope+turns+walk.Proof.Common.{path-at, path-calls}
+
+pub path-entry-requires : (t : ℕ) → path-lts.Need-entry-requires (path-calls t) (path-at t) path.Post
+path-entry-requires t c κs = ((c .before .pre .1 .0) .inside, omega arith)
+
+pub path-cast-t : (t : ℕ) → path-lts.Need-cast-t (path-calls t) (path-at t) path.Post
+path-cast-t t c = search needs
+
+pub path-cast-left : (t : ℕ) → path-lts.Need-cast-left (path-calls t) (path-at t) path.Post
+path-cast-left t c = search needs
+
+pub path-failure-requires : (t : ℕ) → path-lts.Need-failure-requires (path-calls t) (path-at t) path.Post
+path-failure-requires t c κs = search needs
+
+pub path-returns : (t : ℕ) → path-lts.Need-returns (path-calls t) (path-at t) path.Post
+path-returns t c = gives-path-zero _ (c .before .before .before .before .pre .1 .0) (c .before .before .before .before .pre .1 .1) (c .before .before .entry .ensures) (c .before .if1 .taken) (c .failure .ensures)
+
+pub path-count-requires : (t : ℕ) → path-lts.Need-count-requires (path-calls t) (path-at t) path.Post
+path-count-requires t c κs = search needs
+
+pub path-failure-requires-2 : (t : ℕ) → path-lts.Need-failure-requires-2 (path-calls t) (path-at t) path.Post
+path-failure-requires-2 t c κs = search needs
+
+pub path-same-length : (t : ℕ) → path-lts.Need-same-length (path-calls t) (path-at t) path.Post
+path-same-length t c = search needs
+
+pub path-returns-2 : (t : ℕ) → path-lts.Need-returns-2 (path-calls t) (path-at t) path.Post
+path-returns-2 t c = gives-path-past _ (c .before .before .before .before .before .before .before .pre .1 .0) (c .before .before .before .before .before .before .before .pre .1 .1) (c .before .before .before .before .before .entry .ensures) (c .before .before .count .ensures) (c .before .before .before .before .if1 .left) (c .before .if2 .taken) (c .failure2 .ensures)
+
+pub path-entry-requires-2 : (t : ℕ) → path-lts.Need-entry-requires-2 (path-calls t) (path-at t) path.Post
+path-entry-requires-2 t c κs = ((c .before .before .before .before .before .before .before .before .pre .1 .0) .inside, omega arith)
+
+pub path-add-word : (t : ℕ) → path-lts.Need-add-word (path-calls t) (path-at t) path.Post
+path-add-word t c = search needs
+
+pub path-word-requires : (t : ℕ) → path-lts.Need-word-requires (path-calls t) (path-at t) path.Post
+path-word-requires t c κs = search needs
+
+pub path-done-requires : (t : ℕ) → path-lts.Need-done-requires (path-calls t) (path-at t) path.Post
+path-done-requires t c κs = search needs
+
+pub path-apply-requires : (t : ℕ) → path-lts.Need-apply-requires (path-calls t) (path-at t) path.Post
+path-apply-requires t c κs = (omega arith, ready-path (c .before .before .before .before .before .before .before .before .before .before .before .before .args .deep) (c .before .before .before .before .before .before .before .before .before .before .before .before .pre .1 .0) (c .before .before .before .before .before .before .before .before .before .before .before .before .pre .1 .1) (c .before .before .before .before .before .before .before .before .before .before .entry .ensures) (c .before .before .before .before .before .before .before .count .ensures) (c .before .before .before .before .before .before .before .before .before .if1 .left) (c .before .before .before .before .before .before .if2 .left) (c .before .before .before .entry2 .ensures) (c .before .word .ensures) (c .done .ensures))
+
+pub path-told-requires : (t : ℕ) → path-lts.Need-told-requires (path-calls t) (path-at t) path.Post
+path-told-requires t c κs = search needs
+
+pub path-enum-known-x : (t : ℕ) → path-lts.Need-enum-known-x (path-calls t) (path-at t) path.Post
+path-enum-known-x t c = search needs
+
+pub path-same-length-2 : (t : ℕ) → path-lts.Need-same-length-2 (path-calls t) (path-at t) path.Post
+path-same-length-2 t c = search needs
+
+pub path-returns-3 : (t : ℕ) → path-lts.Need-returns-3 (path-calls t) (path-at t) path.Post
+path-returns-3 t c = gives-path-stops _ (c .before .before .before .before .before .before .before .before .before .before .before .before .before .before .before .before .before .pre .1 .0) (c .before .before .before .before .before .before .before .before .before .before .before .before .before .before .before .before .before .pre .1 .1) (c .before .before .before .before .before .before .before .before .before .before .before .before .before .before .before .entry .ensures) (c .before .before .before .before .before .before .before .before .before .before .before .before .count .ensures) (c .before .before .before .before .before .before .before .before .before .before .before .before .before .before .if1 .left) (c .before .before .before .before .before .before .before .before .before .before .before .if2 .left) (c .before .before .before .before .before .before .before .before .entry2 .ensures) (c .before .before .before .before .before .before .word .ensures) (c .before .before .before .before .before .done .ensures) (c .before .before .before .before .apply .ensures) (c .before .told .ensures) (c .match .keys2)
+
+pub path-row-requires : (t : ℕ) → path-lts.Need-row-requires (path-calls t) (path-at t) path.Post
+path-row-requires t c κs = search needs
+
+pub path-cast-made : (t : ℕ) → path-lts.Need-cast-made (path-calls t) (path-at t) path.Post
+path-cast-made t c = search needs
+
+pub path-add-made : (t : ℕ) → path-lts.Need-add-made (path-calls t) (path-at t) path.Post
+path-add-made t c = search needs
+
+pub path-mul-made : (t : ℕ) → path-lts.Need-mul-made (path-calls t) (path-at t) path.Post
+path-mul-made t c = search needs
+
+pub path-array-write-made : (t : ℕ) → path-lts.Need-array-write-made (path-calls t) (path-at t) path.Post
+path-array-write-made t c = search needs
+
+pub path-node-requires : (t : ℕ) → path-lts.Need-node-requires (path-calls t) (path-at t) path.Post
+path-node-requires t c κs = (roomy-path (c .before .before .before .before .before .before .before .before .before .before .before .before .before .before .before .before .before .before .before .before .before .before .before .args .deep) (c .before .before .before .before .before .before .before .before .before .before .before .before .before .before .before .before .before .before .before .before .before .before .before .pre .1 .0) (c .before .before .before .before .before .before .before .before .before .before .before .before .before .before .before .before .before .before .before .before .before .before .before .pre .1 .1) (c .before .before .before .before .before .before .before .before .before .before .before .before .before .before .before .before .before .before .before .before .before .entry .ensures) (c .before .before .before .before .before .before .before .before .before .before .before .before .before .before .before .before .before .before .count .ensures) (c .before .before .before .before .before .before .before .before .before .before .before .before .before .before .before .before .before .before .before .before .if1 .left) (c .before .before .before .before .before .before .before .before .before .before .before .before .before .before .before .before .before .if2 .left) (c .before .before .before .before .before .before .before .before .before .before .before .before .before .before .entry2 .ensures) (c .before .before .before .before .before .before .before .before .before .before .before .before .word .ensures) (c .before .before .before .before .before .before .before .before .before .before .before .done .ensures) (c .before .before .before .before .before .before .before .before .before .before .apply .ensures) (c .before .before .before .before .before .before .before .told .ensures) (c .before .before .before .before .before .x .given .1), c .before .before .before .before .before .before .before .before .before .before .apply .ensures .frame .long ∙ c .before .before .before .before .before .before .before .before .before .before .before .before .before .before .before .before .before .before .before .before .before .before .before .pre .1 .0 .long)
+
+pub path-same-length-3 : (t : ℕ) → path-lts.Need-same-length-3 (path-calls t) (path-at t) path.Post
+path-same-length-3 t c = search needs
+
+pub path-returns-4 : (t : ℕ) → path-lts.Need-returns-4 (path-calls t) (path-at t) path.Post
+path-returns-4 t c = gives-path _ (c .before .before .before .before .before .before .before .before .before .before .before .before .before .before .before .before .before .before .before .before .before .before .before .before .before .before .pre .1 .0) (c .before .before .before .before .before .before .before .before .before .before .before .before .before .before .before .before .before .before .before .before .before .before .before .before .before .before .pre .1 .1) (c .before .before .before .before .before .before .before .before .before .before .before .before .before .before .before .before .before .before .before .before .before .before .before .before .entry .ensures) (c .before .before .before .before .before .before .before .before .before .before .before .before .before .before .before .before .before .before .before .before .before .count .ensures) (c .before .before .before .before .before .before .before .before .before .before .before .before .before .before .before .before .before .before .before .before .before .before .before .if1 .left) (c .before .before .before .before .before .before .before .before .before .before .before .before .before .before .before .before .before .before .before .before .if2 .left) (c .before .before .before .before .before .before .before .before .before .before .before .before .before .before .before .before .before .entry2 .ensures) (c .before .before .before .before .before .before .before .before .before .before .before .before .before .before .before .word .ensures) (c .before .before .before .before .before .before .before .before .before .before .before .before .before .before .done .ensures) (c .before .before .before .before .before .before .before .before .before .before .before .before .before .apply .ensures) (c .before .before .before .before .before .before .before .before .before .before .told .ensures) (c .before .before .before .before .before .before .before .before .x .given .1) (c .before .before .before .before .before .row .ensures) (c .before .before .node .ensures)

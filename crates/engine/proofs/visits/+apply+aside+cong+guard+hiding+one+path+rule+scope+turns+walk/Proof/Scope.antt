@@ -1,0 +1,45 @@
+-- SCOPE, where nothing masked is bound: the operand runs on the record as it is, and what it bound of the mask is unbound.
+use Rattle.engine.proofs.Ruling.{ready-operand}
+use Rattle.engine.proofs.Scoping.{gives-scope}
+use Prim.Native.Nat.{ℕ}
+use borrow.Author.Needs.{needs}
+use native.Mathlib.Omega.{arith}
+use Rattle.engine.proofs.visits.scope.Reads as scope
+use Rattle.engine.proofs.visits.+apply+aside+cong+guard+hiding+one+path+rule+scope+turns+walk.Lts-scope as scope-lts
+use Rattle.engine.proofs.visits.+apply+aside+cong+guard+hiding+one+path+rule+scope+turns+walk.Proof.Common.{scope-at, scope-calls}
+
+pub scope-entry-requires : (t : ℕ) → scope-lts.Need-entry-requires (scope-calls t) (scope-at t) scope.Post
+scope-entry-requires t c κs = ((c .before .pre .1 .0) .inside, omega arith)
+
+pub scope-element-copy-out-if1 : (t : ℕ) → scope-lts.Need-element-copy-out-if1 (scope-calls t) (scope-at t) scope.Post
+scope-element-copy-out-if1 t c = search needs
+
+pub scope-hiding-requires : (t : ℕ) → scope-lts.Need-hiding-requires (scope-calls t) (scope-at t) scope.Post
+scope-hiding-requires t c κs = (omega arith, c .before .before .before .before .before .before .pre .1)
+
+pub scope-same-length : (t : ℕ) → scope-lts.Need-same-length (scope-calls t) (scope-at t) scope.Post
+scope-same-length t c = search needs
+
+pub scope-returns : (t : ℕ) → scope-lts.Need-returns (scope-calls t) (scope-at t) scope.Post
+scope-returns t c = c .before .before .hiding .ensures
+
+pub scope-entry-requires-2 : (t : ℕ) → scope-lts.Need-entry-requires-2 (scope-calls t) (scope-at t) scope.Post
+scope-entry-requires-2 t c κs = ((c .before .before .before .before .before .before .pre .1 .0) .inside, omega arith)
+
+pub scope-apply-requires : (t : ℕ) → scope-lts.Need-apply-requires (scope-calls t) (scope-at t) scope.Post
+scope-apply-requires t c κs = (omega arith, ready-operand (c .before .before .before .before .before .before .before .pre .1 .0) 0 _ _ (omega arith) (c .entry2 .ensures) ((c .before .before .before .before .before .before .before .pre .1 .0) .subject))
+
+pub scope-element-copy-out-hide : (t : ℕ) → scope-lts.Need-element-copy-out-hide (scope-calls t) (scope-at t) scope.Post
+scope-element-copy-out-hide t c = search needs
+
+pub scope-hide-requires : (t : ℕ) → scope-lts.Need-hide-requires (scope-calls t) (scope-at t) scope.Post
+scope-hide-requires t c κs = search needs
+
+pub scope-element-write-st : (t : ℕ) → scope-lts.Need-element-write-st (scope-calls t) (scope-at t) scope.Post
+scope-element-write-st t c = search needs
+
+pub scope-same-length-2 : (t : ℕ) → scope-lts.Need-same-length-2 (scope-calls t) (scope-at t) scope.Post
+scope-same-length-2 t c = search needs
+
+pub scope-returns-2 : (t : ℕ) → scope-lts.Need-returns-2 (scope-calls t) (scope-at t) scope.Post
+scope-returns-2 t c = gives-scope _ (c .before .before .before .before .before .before .before .before .before .before .before .before .pre .1 .0) (c .before .before .before .before .before .before .before .before .before .before .entry .ensures) (omega (arith, c .before .before .before .before .before .before .before .before .before .before .entry .ok)) (c .before .before .before .before .before .entry2 .ensures) (c .before .before .before .before .apply .ensures) (c .before .before .before .before .before .before .before .before .before .before .before .before .pre .1 .1) (c .before .before .before .before .before .before .before .before .if1 .left) (c .hide .ensures)

@@ -1,0 +1,157 @@
+use Rattle.engine.proofs.Looping.{Turn, first-turn, ends-units, ends-nesting, ready-next, ready-same, seq-returns, seq-turn, left-returns, left-turn, skip-turn, within, rec-turn, of-two, last-kind, five-up, whole, pos}
+use mathlib.Core.Logic.{inl, inr, ⊎-elim}
+use Rattle.engine.proofs.Keeping.{node-small}
+use Prim.Native.Nat.{ℕ, _<_, _≤_, _-_, _+_}
+use mathlib.Core.Path.{_≡_, refl, sym, ap, _∙_}
+use borrow.Author.Needs.{needs}
+use native.Mathlib.Omega.{arith}
+use Rattle.engine.proofs.visits.turns.Reads as turns
+use Rattle.engine.proofs.visits.+apply+aside+cong+guard+hiding+one+path+rule+scope+turns+walk.Lts-turns as turns-lts
+use Rattle.engine.proofs.visits.+apply+aside+cong+guard+hiding+one+path+rule+scope+turns+walk.Proof.Common.{turns-at, turns-calls}
+
+abbrev pub turns-Inv-loop : turns-lts.InvT-loop
+turns-Inv-loop table store₀ st₀ start given deep e₀ s₀ d₀ store st e s d = Turn table store₀ st₀ start given deep store st e s d
+
+abbrev pub turns-μ-loop : turns-lts.MeasureT-loop
+turns-μ-loop table store₀ st₀ start given deep e₀ s₀ d₀ store st e s d = d
+
+pub turns-loop-holds : (t : ℕ) → turns-lts.Need-loop-holds (turns-calls t) (turns-at t) turns.Post turns-Inv-loop turns-μ-loop
+turns-loop-holds t c = first-turn _ (c .before .pre .1) (c .before .fits .given .fits)
+
+pub turns-cast-left : (t : ℕ) → turns-lts.Need-cast-left (turns-calls t) (turns-at t) turns.Post turns-Inv-loop turns-μ-loop
+turns-cast-left t c = search needs
+
+pub turns-no-units-requires : (t : ℕ) → turns-lts.Need-no-units-requires (turns-calls t) (turns-at t) turns.Post turns-Inv-loop turns-μ-loop
+turns-no-units-requires t c κs = search needs
+
+pub turns-same-length : (t : ℕ) → turns-lts.Need-same-length (turns-calls t) (turns-at t) turns.Post turns-Inv-loop turns-μ-loop
+turns-same-length t c = (c .before .before .loop .inv) .long
+
+pub turns-returns : (t : ℕ) → turns-lts.Need-returns (turns-calls t) (turns-at t) turns.Post turns-Inv-loop turns-μ-loop
+turns-returns t c = ends-units (c .before .before .loop .inv) _ (c .no-units .ensures) (c .before .if1 .taken)
+
+pub turns-no-nesting-requires : (t : ℕ) → turns-lts.Need-no-nesting-requires (turns-calls t) (turns-at t) turns.Post turns-Inv-loop turns-μ-loop
+turns-no-nesting-requires t c κs = search needs
+
+pub turns-same-length-2 : (t : ℕ) → turns-lts.Need-same-length-2 (turns-calls t) (turns-at t) turns.Post turns-Inv-loop turns-μ-loop
+turns-same-length-2 t c = (c .before .before .before .loop .inv) .long
+
+pub turns-returns-2 : (t : ℕ) → turns-lts.Need-returns-2 (turns-calls t) (turns-at t) turns.Post turns-Inv-loop turns-μ-loop
+turns-returns-2 t c = ends-nesting (c .before .before .before .loop .inv) _ (c .no-nesting .ensures) (c .before .before .if1 .left) (c .before .if2 .taken)
+
+pub turns-sub-d : (t : ℕ) → turns-lts.Need-sub-d (turns-calls t) (turns-at t) turns.Post turns-Inv-loop turns-μ-loop
+turns-sub-d t c = omega (arith, pos _ (c .if2 .left))
+
+pub turns-sub-s : (t : ℕ) → turns-lts.Need-sub-s (turns-calls t) (turns-at t) turns.Post turns-Inv-loop turns-μ-loop
+turns-sub-s t c = omega (arith, pos _ (c .before .if1 .left))
+
+pub turns-kind-requires : (t : ℕ) → turns-lts.Need-kind-requires (turns-calls t) (turns-at t) turns.Post turns-Inv-loop turns-μ-loop
+turns-kind-requires t c κs = (c .before .before .loop .inv) .ready .inside
+
+pub turns-entry-requires : (t : ℕ) → turns-lts.Need-entry-requires (turns-calls t) (turns-at t) turns.Post turns-Inv-loop turns-μ-loop
+turns-entry-requires t c κs = ((c .before .before .before .before .before .before .loop .inv) .ready .inside, omega arith)
+
+pub turns-apply-requires : (t : ℕ) → turns-lts.Need-apply-requires (turns-calls t) (turns-at t) turns.Post turns-Inv-loop turns-μ-loop
+turns-apply-requires t c κs = (omega (arith, (c .before .before .before .before .before .before .before .loop .inv) .deeper, pos _ (c .before .before .before .before .before .if2 .left), c .before .before .before .before .before .before .before .before .before .pre .0), ready-next (c .before .before .before .before .before .before .before .loop .inv) (c .before .before .before .before .before .before .if1 .left) (c .before .before .before .before .before .if2 .left) 0 _ (omega arith) (c .entry .ensures))
+
+pub turns-told-requires : (t : ℕ) → turns-lts.Need-told-requires (turns-calls t) (turns-at t) turns.Post turns-Inv-loop turns-μ-loop
+turns-told-requires t c κs = search needs
+
+pub turns-enum-told : (t : ℕ) → turns-lts.Need-enum-told (turns-calls t) (turns-at t) turns.Post turns-Inv-loop turns-μ-loop
+turns-enum-told t c = search needs
+
+pub turns-same-length-3 : (t : ℕ) → turns-lts.Need-same-length-3 (turns-calls t) (turns-at t) turns.Post turns-Inv-loop turns-μ-loop
+turns-same-length-3 t c = c .before .before .before .before .apply .kept .1 .0 ∙ (c .before .before .before .before .before .before .before .before .before .before .before .before .loop .inv) .long
+
+pub turns-returns-3 : (t : ℕ) → turns-lts.Need-returns-3 (turns-calls t) (turns-at t) turns.Post turns-Inv-loop turns-μ-loop
+turns-returns-3 t c = seq-returns (c .before .before .before .before .before .before .before .before .before .before .before .before .loop .inv) (c .before .before .before .before .before .before .before .before .before .before .before .if1 .left) (c .before .before .before .before .before .before .before .before .before .before .if2 .left) (c .before .before .before .before .before .entry .ensures) (c .before .before .before .before .apply .ensures) (c .before .told .ensures) refl (sym (c .before .before .before .before .before .before .before .before .before .kind .ensures) ∙ c .before .before .before .before .before .before .before .before .match .keys1) (c .match2 .keys2)
+
+pub turns-entry-requires-2 : (t : ℕ) → turns-lts.Need-entry-requires-2 (turns-calls t) (turns-at t) turns.Post turns-Inv-loop turns-μ-loop
+turns-entry-requires-2 t c κs = ((c .before .before .before .before .before .before .before .before .before .before .before .before .before .loop .inv) .ready .inside, omega arith)
+
+pub turns-loop-less : (t : ℕ) → turns-lts.Need-loop-less (turns-calls t) (turns-at t) turns.Post turns-Inv-loop turns-μ-loop
+turns-loop-less t c = omega (arith, pos _ (c .before .before .before .before .before .before .before .before .before .before .before .before .if2 .left))
+
+pub turns-loop-again : (t : ℕ) → turns-lts.Need-loop-again (turns-calls t) (turns-at t) turns.Post turns-Inv-loop turns-μ-loop
+turns-loop-again t c = seq-turn (c .before .before .before .before .before .before .before .before .before .before .before .before .before .before .loop .inv) (c .before .before .before .before .before .before .before .before .before .before .before .before .before .if1 .left) (c .before .before .before .before .before .before .before .before .before .before .before .before .if2 .left) (c .before .before .before .before .before .before .before .entry .ensures) (c .before .before .before .before .before .before .apply .ensures) (c .before .before .before .told .ensures) (c .entry2 .ensures) (sym (c .before .before .before .before .before .before .before .before .before .before .before .kind .ensures) ∙ c .before .before .before .before .before .before .before .before .before .before .match .keys1) (c .before .enum-told .given .1) (c .before .before .before .before .before .before .apply .kept .1 .0)
+
+pub turns-entry-requires-3 : (t : ℕ) → turns-lts.Need-entry-requires-3 (turns-calls t) (turns-at t) turns.Post turns-Inv-loop turns-μ-loop
+turns-entry-requires-3 t c κs = ((c .before .before .before .before .before .before .loop .inv) .ready .inside, omega arith)
+
+pub turns-skipped-requires : (t : ℕ) → turns-lts.Need-skipped-requires (turns-calls t) (turns-at t) turns.Post turns-Inv-loop turns-μ-loop
+turns-skipped-requires t c κs = ((c .before .before .before .before .before .before .before .before .loop .inv) .ready .hints, (c .before .before .before .before .before .before .before .before .loop .inv) .ready .inside, (c .before .before .before .before .before .before .before .before .loop .inv) .ready .entries .operand _ 2 ((c .before .before .before .before .before .before .before .before .loop .inv) .ready .inside) (omega arith), (of-two _ _ 5 (c .before .before .before .before .before .kind .ensures) (five-up _ (c .before .before .before .before .match .rest .1) (c .before .before .before .if3 .left)) (c .before .before .if4 .taken)))
+
+pub turns-cast-s : (t : ℕ) → turns-lts.Need-cast-s (turns-calls t) (turns-at t) turns.Post turns-Inv-loop turns-μ-loop
+turns-cast-s t c = search needs
+
+pub turns-sub-s-2 : (t : ℕ) → turns-lts.Need-sub-s-2 (turns-calls t) (turns-at t) turns.Post turns-Inv-loop turns-μ-loop
+turns-sub-s-2 t c = within _ _ _ (c .before .skipped .ensures .few)
+
+pub turns-entry-requires-4 : (t : ℕ) → turns-lts.Need-entry-requires-4 (turns-calls t) (turns-at t) turns.Post turns-Inv-loop turns-μ-loop
+turns-entry-requires-4 t c κs = ((c .before .before .before .before .before .before .before .before .before .before .loop .inv) .ready .inside, omega arith)
+
+pub turns-loop-less-2 : (t : ℕ) → turns-lts.Need-loop-less-2 (turns-calls t) (turns-at t) turns.Post turns-Inv-loop turns-μ-loop
+turns-loop-less-2 t c = omega (arith, pos _ (c .before .before .before .before .before .before .before .before .before .if2 .left))
+
+pub turns-loop-again-2 : (t : ℕ) → turns-lts.Need-loop-again-2 (turns-calls t) (turns-at t) turns.Post turns-Inv-loop turns-μ-loop
+turns-loop-again-2 t c = skip-turn (c .before .before .before .before .before .before .before .before .before .before .before .loop .inv) (c .before .before .before .before .before .before .before .before .before .before .if1 .left) (c .before .before .before .before .before .before .before .before .before .if2 .left) refl (c .before .before .skipped .ensures) (c .before .if5 .taken) (of-two _ _ 5 (c .before .before .before .before .before .before .before .before .kind .ensures) (five-up _ (c .before .before .before .before .before .before .before .match .rest .1) (c .before .before .before .before .before .before .if3 .left)) (c .before .before .before .before .before .if4 .taken)) (c .entry4 .ensures)
+
+pub turns-element-copy-out-mark : (t : ℕ) → turns-lts.Need-element-copy-out-mark (turns-calls t) (turns-at t) turns.Post turns-Inv-loop turns-μ-loop
+turns-element-copy-out-mark t c = search needs
+
+pub turns-element-copy-out-mask : (t : ℕ) → turns-lts.Need-element-copy-out-mask (turns-calls t) (turns-at t) turns.Post turns-Inv-loop turns-μ-loop
+turns-element-copy-out-mask t c = search needs
+
+pub turns-turns-requires : (t : ℕ) → turns-lts.Need-turns-requires (turns-calls t) (turns-at t) turns.Post turns-Inv-loop turns-μ-loop
+turns-turns-requires t c κs = (omega (arith, (c .before .before .before .before .before .before .before .before .before .before .before .before .before .before .loop .inv) .deeper, pos _ (c .before .before .before .before .before .before .before .before .before .before .before .before .if2 .left), c .before .before .before .before .before .before .before .before .before .before .before .before .before .before .before .before .pre .0), ready-next (c .before .before .before .before .before .before .before .before .before .before .before .before .before .before .loop .inv) (c .before .before .before .before .before .before .before .before .before .before .before .before .before .if1 .left) (c .before .before .before .before .before .before .before .before .before .before .before .before .if2 .left) 0 _ (omega arith) (c .before .before .before .before .before .before .before .entry3 .ensures))
+
+pub turns-told-requires-2 : (t : ℕ) → turns-lts.Need-told-requires-2 (turns-calls t) (turns-at t) turns.Post turns-Inv-loop turns-μ-loop
+turns-told-requires-2 t c κs = search needs
+
+pub turns-enum-known-u : (t : ℕ) → turns-lts.Need-enum-known-u (turns-calls t) (turns-at t) turns.Post turns-Inv-loop turns-μ-loop
+turns-enum-known-u t c = search needs
+
+pub turns-same-length-4 : (t : ℕ) → turns-lts.Need-same-length-4 (turns-calls t) (turns-at t) turns.Post turns-Inv-loop turns-μ-loop
+turns-same-length-4 t c = c .before .before .before .before .turns .kept .1 .0 ∙ (c .before .before .before .before .before .before .before .before .before .before .before .before .before .before .before .before .before .before .before .loop .inv) .long
+
+pub turns-returns-4 : (t : ℕ) → turns-lts.Need-returns-4 (turns-calls t) (turns-at t) turns.Post turns-Inv-loop turns-μ-loop
+turns-returns-4 t c = left-returns (c .before .before .before .before .before .before .before .before .before .before .before .before .before .before .before .before .before .before .before .loop .inv) (c .before .before .before .before .before .before .before .before .before .before .before .before .before .before .before .before .before .before .if1 .left) (c .before .before .before .before .before .before .before .before .before .before .before .before .before .before .before .before .before .if2 .left) (c .before .before .before .before .before .before .before .before .before .before .before .before .entry3 .ensures) (c .before .before .before .before .turns .ensures) (c .before .told2 .ensures) (of-two _ _ 5 (c .before .before .before .before .before .before .before .before .before .before .before .before .before .before .before .before .kind .ensures) (five-up _ (c .before .before .before .before .before .before .before .before .before .before .before .before .before .before .before .match .rest .1) (c .before .before .before .before .before .before .before .before .before .before .before .before .before .before .if3 .left)) (c .before .before .before .before .before .before .before .before .before .before .before .before .before .if4 .taken)) refl (c .match3 .keys2)
+
+pub turns-element-write-st : (t : ℕ) → turns-lts.Need-element-write-st (turns-calls t) (turns-at t) turns.Post turns-Inv-loop turns-μ-loop
+turns-element-write-st t c = search needs
+
+pub turns-element-write-st-2 : (t : ℕ) → turns-lts.Need-element-write-st-2 (turns-calls t) (turns-at t) turns.Post turns-Inv-loop turns-μ-loop
+turns-element-write-st-2 t c = search needs
+
+pub turns-cast-done : (t : ℕ) → turns-lts.Need-cast-done (turns-calls t) (turns-at t) turns.Post turns-Inv-loop turns-μ-loop
+turns-cast-done t c = omega (arith, node-small ((c .before .before .before .before .before .before .before .before .before .before .before .before .before .before .before .before .before .before .before .before .before .loop .inv) .ready .steady) _ (ready-same (c .before .before .before .before .before .before .before .before .before .before .before .before .before .before .before .before .before .before .before .before .before .loop .inv) (c .before .before .before .before .before .before .before .before .before .before .before .before .before .before .before .before .before .before .before .before .if1 .left) (c .before .before .before .before .before .before .before .before .before .before .before .before .before .before .before .before .before .before .before .if2 .left) .subject))
+
+pub turns-done-requires : (t : ℕ) → turns-lts.Need-done-requires (turns-calls t) (turns-at t) turns.Post turns-Inv-loop turns-μ-loop
+turns-done-requires t c κs = search needs
+
+pub turns-entry-requires-5 : (t : ℕ) → turns-lts.Need-entry-requires-5 (turns-calls t) (turns-at t) turns.Post turns-Inv-loop turns-μ-loop
+turns-entry-requires-5 t c κs = ((c .before .before .before .before .before .before .before .before .before .before .before .before .before .before .before .before .before .before .before .before .before .before .loop .inv) .ready .inside, omega arith)
+
+pub turns-loop-less-3 : (t : ℕ) → turns-lts.Need-loop-less-3 (turns-calls t) (turns-at t) turns.Post turns-Inv-loop turns-μ-loop
+turns-loop-less-3 t c = omega (arith, pos _ (c .before .before .before .before .before .before .before .before .before .before .before .before .before .before .before .before .before .before .before .before .before .if2 .left))
+
+pub turns-loop-again-3 : (t : ℕ) → turns-lts.Need-loop-again-3 (turns-calls t) (turns-at t) turns.Post turns-Inv-loop turns-μ-loop
+turns-loop-again-3 t c = left-turn (c .before .before .before .before .before .before .before .before .before .before .before .before .before .before .before .before .before .before .before .before .before .before .before .loop .inv) (c .before .before .before .before .before .before .before .before .before .before .before .before .before .before .before .before .before .before .before .before .before .before .if1 .left) (c .before .before .before .before .before .before .before .before .before .before .before .before .before .before .before .before .before .before .before .before .before .if2 .left) (c .before .before .before .before .before .before .before .before .before .before .before .before .before .before .before .before .entry3 .ensures) (c .before .before .before .before .before .before .before .before .turns .ensures) (c .before .before .before .before .before .told2 .ensures) (of-two _ _ 5 (c .before .before .before .before .before .before .before .before .before .before .before .before .before .before .before .before .before .before .before .before .kind .ensures) (five-up _ (c .before .before .before .before .before .before .before .before .before .before .before .before .before .before .before .before .before .before .before .match .rest .1) (c .before .before .before .before .before .before .before .before .before .before .before .before .before .before .before .before .before .before .if3 .left)) (c .before .before .before .before .before .before .before .before .before .before .before .before .before .before .before .before .before .if4 .taken)) (c .entry5 .ensures) (c .before .before .before .u .given .1) (c .before .done .ensures) (c .before .before .before .before .before .before .before .before .turns .kept .1 .0)
+
+pub turns-entry-requires-6 : (t : ℕ) → turns-lts.Need-entry-requires-6 (turns-calls t) (turns-at t) turns.Post turns-Inv-loop turns-μ-loop
+turns-entry-requires-6 t c κs = ((c .before .before .before .before .before .before .before .loop .inv) .ready .inside, omega arith)
+
+pub turns-loop-less-4 : (t : ℕ) → turns-lts.Need-loop-less-4 (turns-calls t) (turns-at t) turns.Post turns-Inv-loop turns-μ-loop
+turns-loop-less-4 t c = omega (arith, pos _ (c .before .before .before .before .before .before .if2 .left))
+
+pub turns-loop-again-4 : (t : ℕ) → turns-lts.Need-loop-again-4 (turns-calls t) (turns-at t) turns.Post turns-Inv-loop turns-μ-loop
+turns-loop-again-4 t c = rec-turn (c .before .before .before .before .before .before .before .before .loop .inv) (c .before .before .before .before .before .before .before .if1 .left) (c .before .before .before .before .before .before .if2 .left) _ (c .entry6 .ensures) (of-two _ _ 7 (c .before .before .before .before .before .kind .ensures) (c .before .before .if4 .left) (c .before .if6 .taken))
+
+pub turns-rule-requires : (t : ℕ) → turns-lts.Need-rule-requires (turns-calls t) (turns-at t) turns.Post turns-Inv-loop turns-μ-loop
+turns-rule-requires t c κs = (omega (arith, (c .before .before .before .before .before .before .before .loop .inv) .deeper, pos _ (c .before .before .before .before .before .if2 .left), c .before .before .before .before .before .before .before .before .before .pre .0), (ready-same (c .before .before .before .before .before .before .before .loop .inv) (c .before .before .before .before .before .before .if1 .left) (c .before .before .before .before .before .if2 .left), last-kind _ _ (c .before .before .before .before .kind .ensures) (c .before .before .before .match .rest .1) (⊎-elim (λ w. inl (w .taken)) (λ w. inr (w .2 .left)) (c .before .before .if3 .came))))
+
+pub turns-same-length-5 : (t : ℕ) → turns-lts.Need-same-length-5 (turns-calls t) (turns-at t) turns.Post turns-Inv-loop turns-μ-loop
+turns-same-length-5 t c = c .before .before .rule .kept .1 .0 ∙ (c .before .before .before .before .before .before .before .before .before .before .loop .inv) .long
+
+pub turns-returns-5 : (t : ℕ) → turns-lts.Need-returns-5 (turns-calls t) (turns-at t) turns.Post turns-Inv-loop turns-μ-loop
+turns-returns-5 t c = whole (c .before .before .before .before .before .before .before .before .before .before .loop .inv) (c .before .before .before .before .before .before .before .before .before .if1 .left) (c .before .before .before .before .before .before .before .before .if2 .left) (c .before .before .rule .ensures)

@@ -1,0 +1,43 @@
+-- `hints::first` meets its contract: a SEQ begins one visit later than its operand.
+use mathlib.Core.Path.{_≡_, sym, _∙_}
+use Rattle.marshtrundle.proofs.Hinting.{begun-none, begun-seq}
+use borrow.Author.Needs.{needs}
+use Rattle.marshtrundle.proofs.hints.first.Statement.{statement}
+use Rattle.marshtrundle.proofs.hints.first.Tie as tie
+
+kind-requires : tie.Need-kind-requires
+kind-requires c κs = search needs
+
+matched-requires : tie.Need-matched-requires
+matched-requires c κs = search needs
+
+returns : tie.Need-returns
+returns c = search needs
+
+word-requires : tie.Need-word-requires
+word-requires c κs = search needs
+
+matched-requires-2 : tie.Need-matched-requires-2
+matched-requires-2 c κs = search needs
+
+returns-2 : tie.Need-returns-2
+returns-2 c = begun-none (c .if2 .taken)
+
+add-t4 : tie.Need-add-t4
+add-t4 c = search needs
+
+returns-3 : tie.Need-returns-3
+returns-3 c = begun-seq (c .before .before .before .before .word .ensures) (c .before .before .before .matched2 .ensures) (c .before .if2 .left) (sym (c .before .before .before .before .before .before .kind .ensures) ∙ c .before .before .before .before .before .if1 .left)
+
+pub first-spec : {M : Type 1} → statement M
+first-spec =
+    tie.close
+    (tie.spec
+    kind-requires
+    matched-requires
+    returns
+    word-requires
+    matched-requires-2
+    returns-2
+    add-t4
+    returns-3)

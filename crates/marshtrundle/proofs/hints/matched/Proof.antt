@@ -1,0 +1,28 @@
+-- `hints::matched` meets its contract: a MATCH of a PCON.
+use mathlib.Core.Path.{_≡_, refl, sym, _∙_}
+use Rattle.marshtrundle.proofs.Hinting.{begun-none, begun-match}
+use borrow.Author.Needs.{needs}
+use Rattle.marshtrundle.proofs.hints.matched.Statement.{statement}
+use Rattle.marshtrundle.proofs.hints.matched.Tie as tie
+
+kind-requires : tie.Need-kind-requires
+kind-requires c κs = search needs
+
+returns : tie.Need-returns
+returns c = begun-none refl
+
+word-requires : tie.Need-word-requires
+word-requires c κs = search needs
+
+kind-requires-2 : tie.Need-kind-requires-2
+kind-requires-2 c κs = search needs
+
+returns-2 : tie.Need-returns-2
+returns-2 c = begun-none refl
+
+returns-3 : tie.Need-returns-3
+returns-3 c = begun-match (sym (c .before .before .before .before .kind .ensures) ∙ c .before .before .before .if1 .left) (c .before .before .word .ensures) (sym (c .before .kind2 .ensures) ∙ c .if2 .left)
+
+pub matched-spec : {M : Type 1} → statement M
+matched-spec =
+    tie.close (tie.spec kind-requires returns word-requires kind-requires-2 returns-2 returns-3)

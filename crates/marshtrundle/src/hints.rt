@@ -1,0 +1,92 @@
+// What the given table tells of an entry's first operand before a run: hints, which the run keeps in two words that the entry
+// does not use.
+use words::word;
+ghost use mathlib.Core.Path.{_≡_};
+ghost use Rattle.checks.specs.Good.{kindOf};
+ghost use Rattle.marshtrundle.specs.Loaded.{Begun, Calls, Noted};
+
+// An entry, and a number of visits; 0 visits where nothing is known.
+pub struct Hint(pub u32, pub u32);
+
+fn kind(table: &[u32], e: u32) -> u32
+    ensures { λ r. ⌜ r ≡ kindOf (now (table .entry)) e ⌝ }
+{
+    word(table, e, 0) / 16
+}
+
+// A MATCH of a PCON: the PCON's visit is the second.
+fn matched(table: &[u32], q: u32) -> Hint
+    ensures { λ r. ⌜ Begun (now (table .entry)) q 2 (r .0) (r .1) ⌝ }
+{
+    if kind(table, q) != 14 {
+        return Hint(0, 0);
+    }
+    let p = word(table, q, 2);
+    if kind(table, p) != 19 {
+        return Hint(0, 0);
+    }
+    Hint(p, 2)
+}
+
+// The same, alone or first in a SEQ.
+fn first(table: &[u32], q: u32) -> Hint
+    ensures { λ r. ⌜ Begun (now (table .entry)) q 3 (r .0) (r .1) ⌝ }
+{
+    if kind(table, q) != 4 {
+        return matched(table, q);
+    }
+    let h = matched(table, word(table, q, 2));
+    if h.1 == 0 {
+        return h;
+    }
+    Hint(h.0, h.1 + 1)
+}
+
+// The same, also inside a SCOPE.
+fn begun(table: &[u32], q: u32) -> Hint
+    ensures { λ r. ⌜ Begun (now (table .entry)) q 4 (r .0) (r .1) ⌝ }
+{
+    if kind(table, q) != 16 {
+        return first(table, q);
+    }
+    let h = first(table, word(table, q, 2));
+    if h.1 == 0 {
+        return h;
+    }
+    Hint(h.0, h.1 + 1)
+}
+
+// A CALL of a REC: the REC's operand is visited after both.
+fn called(table: &[u32], q: u32) -> Hint
+    ensures { λ r. ⌜ ((r .1 ≡ 0 → ⊥) → Calls (now (table .entry)) (r .0) q (r .1)) ⌝ }
+{
+    if kind(table, q) != 8 {
+        return Hint(0, 0);
+    }
+    let r = word(table, q, 2);
+    if kind(table, r) != 7 {
+        return Hint(0, 0);
+    }
+    Hint(word(table, r, 2), 2)
+}
+
+// What is known of entry e: of CHOICE and LEFT what their first operand begins with, of ALL and SOME where their operand leads.
+pub fn known(table: &[u32], e: u32) -> Hint
+    ensures { λ r. ⌜ ((r .1 ≡ 0 → ⊥) → Noted (now (table .entry)) e (r .0) (r .1)) ⌝ }
+{
+    let k = kind(table, e);
+    let q = word(table, e, 2);
+    if k == 5 {
+        return begun(table, q);
+    }
+    if k == 6 {
+        return begun(table, q);
+    }
+    if k == 11 {
+        return called(table, q);
+    }
+    if k == 13 {
+        return called(table, q);
+    }
+    Hint(0, 0)
+}
