@@ -20,6 +20,12 @@ extern "C" {
         units: u32,
         numbers: *mut u32,
     );
+    fn marshtrundle_free_variables(
+        table: *const u32,
+        table_words: usize,
+        entry: u32,
+        numbers: *mut u32,
+    );
     fn marshtrundle_check_table(table: *const u32, table_words: usize, numbers: *mut u32);
     fn marshtrundle_check_store(
         store: *const u32,
@@ -56,6 +62,16 @@ pub fn run(
             units,
             numbers.as_mut_ptr(),
         );
+    }
+    numbers
+}
+
+/// The question of free variables: answer, place and mask.
+pub fn free_variables(table: &[u32], entry: u32) -> [u32; 3] {
+    let mut numbers = [0; 3];
+    // The slice is borrowed for the call; `numbers` is a local of three words.
+    unsafe {
+        marshtrundle_free_variables(table.as_ptr(), table.len(), entry, numbers.as_mut_ptr());
     }
     numbers
 }

@@ -1,0 +1,83 @@
+//! `differ FIRST LAST COUNT`: the generated cases of rust/twin, COUNT runs and
+//! COUNT questions of free variables for each seed from FIRST to LAST. Each run
+//! goes through the proved engine, the plain one and the optimised one, and the
+//! five numbers, every word of the store and every word of the bindings are
+//! compared; so are the two checks of its words. The questions go through the
+//! proved function and the plain one. It ends with 1 where two of them differ.
+
+#![forbid(unsafe_code)]
+
+use bench::engines::ENGINES;
+use bench::foreign;
+use std::process::ExitCode;
+use twin::generate::{free_case, run_case};
+use twin::text::{FreeCase, RunCase};
+
+/// Whether the three engines agree on a case.
+fn run_agrees(case: &RunCase) -> bool {
+    let mut answers = ENGINES.iter().map(|engine| {
+        let mut store = case.store.clone();
+        let mut bindings = case.bindings.clone();
+        let checks = (
+            (engine.check_table)(&case.table),
+            (engine.check_store)(&store, case.mark),
+        );
+        let numbers = (engine.run)(
+            &case.table,
+            &mut store,
+            &mut bindings,
+            case.mark,
+            case.start,
+            case.subject,
+            case.units,
+        );
+        (checks, numbers, store, bindings)
+    });
+    let proved = answers.next().expect("three engines");
+    answers.all(|other| other == proved)
+}
+
+/// Whether the proved function and the plain one agree on a question.
+fn question_agrees(case: &FreeCase) -> bool {
+    let (answer, place, mask) = twin::free_variables(&case.table, case.entry);
+    foreign::free_variables(&case.table, case.entry) == [answer, place, mask]
+}
+
+/// Compares all; gives the number of runs and questions that differ.
+fn compare(first: u64, last: u64, count: u64) -> u64 {
+    let mut differ = 0;
+    for seed in first..=last {
+        for index in 0..count {
+            if !run_agrees(&run_case(seed, index)) {
+                println!("run {} of seed {} differs", index, seed);
+                differ += 1;
+            }
+            if !question_agrees(&free_case(seed, index)) {
+                println!("question {} of seed {} differs", index, seed);
+                differ += 1;
+            }
+        }
+    }
+    differ
+}
+
+fn main() -> ExitCode {
+    let words: Vec<u64> = std::env::args()
+        .skip(1)
+        .filter_map(|word| word.parse().ok())
+        .collect();
+    let (first, last, count) = match words[..] {
+        [first, last, count] => (first, last, count),
+        _ => {
+            eprintln!("usage: differ FIRST LAST COUNT");
+            return ExitCode::from(2);
+        }
+    };
+    let differ = twin::with_big_stack(move || compare(first, last, count));
+    let each = (last + 1).saturating_sub(first) * count;
+    println!(
+        "{} runs and {} questions compared, {} differ",
+        each, each, differ
+    );
+    ExitCode::from(u8::from(differ > 0))
+}
