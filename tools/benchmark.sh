@@ -1,7 +1,8 @@
 #!/bin/sh
 # benchmark.sh [ROUNDS]: the one command of the benchmark. It makes the archive for the machine at hand, compares the three
-# engines, measures them, and writes docs/BENCHMARK.md and docs/benchmark.svg. With MARSHTRUNDLE_ARCHIVE set to a folder
-# that has libmarshtrundle.a, that archive is taken as it is.
+# engines, measures them, and writes docs/BENCHMARK.md and docs/benchmark.svg. Where the program maude is on the path, the
+# same tasks are done by it too. With MARSHTRUNDLE_ARCHIVE set to a folder that has libmarshtrundle.a, that archive is
+# taken as it is.
 set -eu
 
 root=$(cd "$(dirname "$0")/.." && pwd -P)

@@ -3,13 +3,15 @@
 //! The files in reading order: `strategies` and `terms` (how a task's words are
 //! made), `tasks`, `foreign` (the archive's functions and a clock), `optimised`
 //! (an engine written for speed), `engines` (the three behind one signature),
-//! `measure`, `report` (the page), `chart` (the picture).
+//! `maude` (the tasks in Maude, where it is installed), `measure`, `report` (the
+//! page), `chart` (the picture).
 
 #![deny(unsafe_code)]
 
 pub mod chart;
 pub mod engines;
 pub mod foreign;
+pub mod maude;
 pub mod measure;
 pub mod optimised;
 pub mod report;

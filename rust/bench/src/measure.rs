@@ -4,6 +4,7 @@
 
 use crate::engines::{agreed, Run, ENGINES};
 use crate::foreign::processor_time;
+use crate::maude::{self, Maude};
 use crate::optimised;
 use crate::tasks::{by_entries, by_nodes, by_units, seven, Task};
 use crate::terms::Terms;
@@ -53,6 +54,8 @@ pub struct Cost {
 pub struct All {
     /// The seven tasks.
     pub tasks: Vec<Measured>,
+    /// The same tasks in Maude, where it is installed.
+    pub maude: Option<Maude>,
     /// The checks and the clearing.
     pub costs: Vec<Cost>,
     /// The time by nodes, by entries, by units.
@@ -175,16 +178,18 @@ fn costs(rounds: usize) -> Vec<Cost> {
 
 /// Measures all. The rounds are those of the tasks.
 pub fn all(rounds: usize) -> All {
-    let several = |tasks: Vec<Task>, rounds| -> Vec<Measured> {
+    let several = |tasks: &[Task], rounds| -> Vec<Measured> {
         tasks.iter().map(|task| measure(task, rounds)).collect()
     };
+    let tasks = seven();
     All {
-        tasks: several(seven(), rounds),
+        tasks: several(&tasks, rounds),
+        maude: maude::beside(&tasks),
         costs: costs(4 * rounds),
         growth: [
-            several(by_nodes(), 2 * rounds),
-            several(by_entries(), rounds),
-            several(by_units(), 1 + rounds / 3),
+            several(&by_nodes(), 2 * rounds),
+            several(&by_entries(), rounds),
+            several(&by_units(), 1 + rounds / 3),
         ],
         rounds,
     }

@@ -2,6 +2,7 @@
 
 #![forbid(unsafe_code)]
 
+use crate::maude::{self, Maude};
 use crate::measure::{All, Measured};
 use std::env;
 use std::fmt::Write;
@@ -16,8 +17,6 @@ pub struct Machine {
     pub model: String,
     /// Whether the process may use one core alone.
     pub pinned: bool,
-    /// Whether there is a program `maude`.
-    pub maude: bool,
 }
 
 impl Machine {
@@ -32,9 +31,6 @@ impl Machine {
             architecture,
             model: model(),
             pinned: cores.map_or(false, |cores| cores.parse::<u32>().is_ok()),
-            maude: env::var_os("PATH").map_or(false, |folders| {
-                env::split_paths(&folders).any(|folder| folder.join("maude").is_file())
-            }),
         }
     }
 }
@@ -147,6 +143,92 @@ fn ratio_of(tasks: &[Measured], name: &str, engine: usize) -> f64 {
         .map_or(0.0, |task| task.ratio(engine))
 }
 
+/// The tasks in Maude beside the proved engine.
+fn beside(page: &mut String, maude: &Maude, tasks: &[Measured]) {
+    line!(page, "## Maude");
+    line!(page);
+    line!(
+        page,
+        "The same tasks in Maude {}, in the same run of the benchmark, each as often as in our run \
+         of it. Ratios are speeds: above 1 the proved engine is the faster one.",
+        maude.version
+    );
+    line!(page);
+    line!(
+        page,
+        "| task | Maude ms | Maude's rewrites | proved ms | proved/Maude |"
+    );
+    line!(page, "|---|---:|---:|---:|---:|");
+    let mut reasons = Vec::new();
+    let mut ahead = 0;
+    for (row, task) in maude.rows.iter().zip(tasks) {
+        match &row.outcome {
+            Ok(timed) => {
+                let ratio = timed.seconds / task.best[0];
+                ahead += usize::from(ratio >= 1.0);
+                line!(
+                    page,
+                    "| {} | {} | {} | {} | {:.2} |",
+                    row.name,
+                    milliseconds(timed.seconds),
+                    grouped(timed.rewrites),
+                    milliseconds(task.best[0]),
+                    ratio
+                );
+            }
+            Err(reason) => {
+                let proved = milliseconds(task.best[0]);
+                line!(page, "| {} | - | - | {} | - |", row.name, proved);
+                reasons.push((&row.name, reason));
+            }
+        }
+    }
+    line!(page);
+    for (name, reason) in &reasons {
+        line!(page, "No figure for the task {}: {}.", name, reason);
+        line!(page);
+    }
+    let done = maude.rows.len() - reasons.len();
+    if done > 0 {
+        line!(
+            page,
+            "The proved engine is at or ahead of Maude on {} of {} tasks.",
+            ahead,
+            done
+        );
+        line!(page);
+    }
+    line!(
+        page,
+        "Each task is a module of Maude and has a process of its own. It has our start term, handed \
+         over as a string and built by equations before the time starts. Maude prints the term and \
+         its result, and both are compared with ours as a whole. Its time is the processor time that \
+         it prints, the best of {}. It prints whole milliseconds, so one command does the task more \
+         often than our run, and time and rewrites are divided. So its figure is a mean of several, \
+         where ours is the best single run.",
+        maude::ROUNDS
+    );
+    line!(page);
+    line!(
+        page,
+        "The tasks are written in Maude's equations, which it applies innermost, not in its strategy \
+         language. So it is the same task, not the same visits:"
+    );
+    line!(page);
+    for row in &maude.rows {
+        line!(page, "- {}: {}.", row.name, row.about);
+    }
+    line!(page);
+    line!(
+        page,
+        "What is not compared: Maude's time does not include reading the module. Ours includes the \
+         checks and copies of a run. Maude counts rewrites, we count visits. Maude does not go again \
+         through what it has reduced; our simplifier does. Maude's memory grows and is swept; our \
+         room is fixed, and TEST gives the mark back."
+    );
+    line!(page);
+}
+
 /// The page's text.
 pub fn page(all: &All, machine: &Machine) -> String {
     let mut page = String::new();
@@ -244,6 +326,9 @@ pub fn page(all: &All, machine: &Machine) -> String {
          answered by 8: a sum's steps go down under its s, deeper than 4,096. So fib(15) is taken."
     );
     line!(page);
+    if let Some(maude) = &all.maude {
+        beside(&mut page, maude, &all.tasks);
+    }
     line!(page, "## Alternatives skipped by their head");
     line!(page);
     line!(
@@ -353,13 +438,76 @@ pub fn page(all: &All, machine: &Machine) -> String {
         page,
         "- Times differ from machine to machine. Every ratio is within this one run."
     );
-    if machine.maude {
-        line!(
-            page,
-            "- Maude is installed here, but the tasks are not written for it. It was not run."
-        );
-    } else {
+    if all.maude.is_none() {
         line!(page, "- Maude is not installed here. It was not run.");
     }
     page
+}
+
+#[cfg(test)]
+mod tests {
+    use super::{beside, page, Machine};
+    use crate::maude::{Maude, Row, Timed};
+    use crate::measure::{All, Measured};
+
+    fn measured(name: &str) -> Measured {
+        Measured {
+            name: name.to_string(),
+            about: String::new(),
+            times: 1,
+            visits: 1_000,
+            best: [0.02, 0.04, 0.01],
+            trying: 0.01,
+        }
+    }
+
+    fn row(name: &str, outcome: Result<Timed, String>) -> Row {
+        Row {
+            name: name.to_string(),
+            about: "an equation",
+            outcome,
+        }
+    }
+
+    #[test]
+    fn a_figure_of_maude_and_a_reason() {
+        let timed = Timed {
+            seconds: 0.05,
+            rewrites: 1_234_567,
+        };
+        let maude = Maude {
+            version: "9.9".to_string(),
+            rows: vec![row("one", Ok(timed)), row("other", Err("why".to_string()))],
+        };
+        let mut text = String::new();
+        beside(&mut text, &maude, &[measured("one"), measured("other")]);
+        for line in [
+            "| one | 50.00 | 1,234,567 | 20.00 | 2.50 |",
+            "| other | - | - | 20.00 | - |",
+            "No figure for the task other: why.",
+            "The proved engine is at or ahead of Maude on 1 of 1 tasks.",
+            "- other: an equation.",
+        ] {
+            assert!(text.lines().any(|known| known == line), "{}", line);
+        }
+    }
+
+    #[test]
+    fn without_maude() {
+        let all = All {
+            tasks: vec![measured("one")],
+            maude: None,
+            costs: Vec::new(),
+            growth: [Vec::new(), Vec::new(), Vec::new()],
+            rounds: 1,
+        };
+        let machine = Machine {
+            architecture: "any".to_string(),
+            model: "any".to_string(),
+            pinned: false,
+        };
+        let text = page(&all, &machine);
+        assert!(text.contains("- Maude is not installed here. It was not run."));
+        assert!(!text.contains("## Maude"));
+    }
 }

@@ -33,19 +33,39 @@ mul-room : tie.Need-mul-room
 mul-room c = search needs
 
 slice-reshare-prefix-answer-run : tie.Need-slice-reshare-prefix-answer-run
-slice-reshare-prefix-answer-run c = let z = read-sized (c .before .before .before .before .before .before .before .before .before .before .before .before .before .before .before .before .before .before .before .before .args .text .now) (c .before .before .before .before .before .before .before .before .before .before .before .read .ensures) (c .before .before .before .o2 .given .1) in omega (arith, z .entries, z .table)
+slice-reshare-prefix-answer-run c =
+    let at-o2 = c .before .before .before in
+    let at-read = at-o2 .before .before .before .before .before .before .before .before in
+    let start = at-read .before .before .before .before .before .before .before .before .before in
+    let z = read-sized (start .args .text .now) (at-read .read .ensures) (at-o2 .o2 .given .1) in omega (arith, z .entries, z .table)
 
 slice-aggregate-answer-run : tie.Need-slice-aggregate-answer-run
-slice-aggregate-answer-run c = let z = read-sized (c .before .before .before .before .before .before .before .before .before .before .before .before .before .before .before .before .before .before .before .before .before .args .text .now) (c .before .before .before .before .before .before .before .before .before .before .before .before .read .ensures) (c .before .before .before .before .o2 .given .1) in sym (length-take-le _ _ (omega (arith, z .entries, z .table)))
+slice-aggregate-answer-run c =
+    let at-o2 = c .before .before .before .before in
+    let at-read = at-o2 .before .before .before .before .before .before .before .before in
+    let start = at-read .before .before .before .before .before .before .before .before .before in
+    let z = read-sized (start .args .text .now) (at-read .read .ensures) (at-o2 .o2 .given .1) in sym (length-take-le _ _ (omega (arith, z .entries, z .table)))
 
 slice-relend-prefix-answer-run : tie.Need-slice-relend-prefix-answer-run
-slice-relend-prefix-answer-run c = let z = read-sized (c .before .before .before .before .before .before .before .before .before .before .before .before .before .before .before .before .before .before .before .before .before .args .text .now) (c .before .before .before .before .before .before .before .before .before .before .before .before .read .ensures) (c .before .before .before .before .o2 .given .1) in omega (arith, z .room, z .store)
+slice-relend-prefix-answer-run c =
+    let at-o2 = c .before .before .before .before in
+    let at-read = at-o2 .before .before .before .before .before .before .before .before in
+    let start = at-read .before .before .before .before .before .before .before .before .before in
+    let z = read-sized (start .args .text .now) (at-read .read .ensures) (at-o2 .o2 .given .1) in omega (arith, z .room, z .store)
 
 slice-aggregate-answer-run-2 : tie.Need-slice-aggregate-answer-run-2
-slice-aggregate-answer-run-2 c = let z = read-sized (c .before .before .before .before .before .before .before .before .before .before .before .before .before .before .before .before .before .before .before .before .before .before .args .text .now) (c .before .before .before .before .before .before .before .before .before .before .before .before .before .read .ensures) (c .before .before .before .before .before .o2 .given .1) in sym (length-take-le _ _ (omega (arith, z .room, z .store)))
+slice-aggregate-answer-run-2 c =
+    let at-o2 = c .before .before .before .before .before in
+    let at-read = at-o2 .before .before .before .before .before .before .before .before in
+    let start = at-read .before .before .before .before .before .before .before .before .before in
+    let z = read-sized (start .args .text .now) (at-read .read .ensures) (at-o2 .o2 .given .1) in sym (length-take-le _ _ (omega (arith, z .room, z .store)))
 
 answer-run-requires : tie.Need-answer-run-requires
-answer-run-requires c κs = let z = read-sized (c .before .before .before .before .before .before .before .before .before .before .before .before .before .before .before .before .before .before .before .before .before .before .before .before .args .text .now) (c .before .before .before .before .before .before .before .before .before .before .before .before .before .before .before .read .ensures) (c .before .before .before .before .before .before .before .o2 .given .1) in (c .before .before .before .before .before .before .before .before .before .before .before .before .before .before .before .before .before .before .before .before .before .before .before .before .pre .3, simp length-take (omega (arith, z .store)), z .bindings, z .nodes)
+answer-run-requires c κs =
+    let at-o2 = c .before .before .before .before .before .before .before in
+    let at-read = at-o2 .before .before .before .before .before .before .before .before in
+    let start = at-read .before .before .before .before .before .before .before .before .before in
+    let z = read-sized (start .args .text .now) (at-read .read .ensures) (at-o2 .o2 .given .1) in (start .pre .3, simp length-take (omega (arith, z .store)), z .bindings, z .nodes)
 
 same-length : tie.Need-same-length
 same-length c = search needs
@@ -60,7 +80,12 @@ same-length-4 : tie.Need-same-length-4
 same-length-4 c = search needs
 
 returns : tie.Need-returns
-returns c = put-bad (c .before .before .before .before .before .before .before .before .before .before .before .before .before .before .before .before .before .before .before .before .before .before .before .before .args .text .now) _ _ (read-bad (c .before .before .before .before .before .before .before .before .before .before .before .before .before .before .before .before .before .before .before .before .before .before .before .before .args .text .now) (c .before .before .before .before .before .before .before .before .before .before .before .before .before .before .before .read .ensures) (c .before .before .before .before .before .before .before .o .given .1)) (c .before .before .answer .ensures)
+returns c =
+    let at-answer = c .before .before in
+    let at-o = at-answer .before .before .before .before .before in
+    let at-read = at-o .before .before .before .before .before .before .before .before in
+    let start = at-read .before .before .before .before .before .before .before .before .before in
+    put-bad (start .args .text .now) _ _ (read-bad (start .args .text .now) (at-read .read .ensures) (at-o .o .given .1)) (at-answer .answer .ensures)
 
 same-length-5 : tie.Need-same-length-5
 same-length-5 c = search needs
@@ -75,7 +100,12 @@ same-length-8 : tie.Need-same-length-8
 same-length-8 c = search needs
 
 returns-2 : tie.Need-returns-2
-returns-2 c = put-good (c .before .before .before .before .before .before .before .before .before .before .before .before .before .before .before .before .before .before .before .before .before .before .before .before .before .before .before .before .before .before .before .args .text .now) (read-good (c .before .before .before .before .before .before .before .before .before .before .before .before .before .before .before .before .before .before .before .before .before .before .before .before .before .before .before .before .before .before .before .args .text .now) (c .before .before .before .before .before .before .before .before .before .before .before .before .before .before .before .before .before .before .before .before .before .before .read .ensures) (c .before .before .before .before .before .before .before .before .before .before .before .before .before .before .o2 .given .1)) (c .before .before .before .before .before .before .answer-run .ensures)
+returns-2 c =
+    let at-answer-run = c .before .before .before .before .before .before in
+    let at-o2 = at-answer-run .before .before .before .before .before .before .before .before in
+    let at-read = at-o2 .before .before .before .before .before .before .before .before in
+    let start = at-read .before .before .before .before .before .before .before .before .before in
+    put-good (start .args .text .now) (read-good (start .args .text .now) (at-read .read .ensures) (at-o2 .o2 .given .1)) (at-answer-run .answer-run .ensures)
 
 pub answer-in-spec : {M : Type 1} → statement M
 answer-in-spec =

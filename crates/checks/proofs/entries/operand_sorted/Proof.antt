@@ -36,13 +36,19 @@ same-requires c κs = search needs
 returns-2 : tie.Need-returns-2
 unfolding operandSorted
 returns-2 c =
+    let at-takes = c .before in
+    let at-sort-of = at-takes .before in
+    let at-if1 = at-sort-of .before in
+    let at-kind-of2 = at-if1 .before in
+    let at-held = at-kind-of2 .before in
+    let at-kind-of = at-held .before in
     rw (
-      ← c .before .before .before .before .before .before .kind-of .ensures,
-      ne-eqb _ _ (c .before .before .before .if1 .left),
-      ← c .before .before .before .before .before .held .ensures,
-      ← c .before .before .before .before .kind-of2 .ensures,
-      ← c .before .before .sort-of .ensures,
-      ← c .before .takes .ensures,
+      ← at-kind-of .kind-of .ensures,
+      ne-eqb _ _ (at-if1 .if1 .left),
+      ← at-held .held .ensures,
+      ← at-kind-of2 .kind-of2 .ensures,
+      ← at-sort-of .sort-of .ensures,
+      ← at-takes .takes .ensures,
     )
     (c .same .ensures)
 

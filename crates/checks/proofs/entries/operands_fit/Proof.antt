@@ -43,14 +43,19 @@ operand-sorted-requires c κs = search needs
 
 returns-2 : tie.Need-returns-2 Inv-loop μ-loop
 returns-2 c =
+    let at-operand-sorted = c .before in
+    let at-if1 = at-operand-sorted .before in
+    let at-operand-placed = at-if1 .before in
+    let at-loop-test = at-operand-placed .before in
+    let at-loop = at-loop-test .before in
     every-stop _ _ _ _
-    (c .before .before .before .before .before .loop .inv .1)
-    (c .before .before .before .before .loop-test .taken)
+    (at-loop .loop .inv .1)
+    (at-loop-test .loop-test .taken)
     (rw (
-      ← c .before .before .before .operand-placed .ensures,
-      not-false (c .before .before .before .operand-placed .result) (c .before .before .if1 .left),
-      ← c .before .operand-sorted .ensures,
-      not-true (c .before .operand-sorted .result) (c .if2 .taken),
+      ← at-operand-placed .operand-placed .ensures,
+      not-false (at-operand-placed .operand-placed .result) (at-if1 .if1 .left),
+      ← at-operand-sorted .operand-sorted .ensures,
+      not-true (at-operand-sorted .operand-sorted .result) (c .if2 .taken),
     ))
 
 add-i : tie.Need-add-i Inv-loop μ-loop
@@ -60,18 +65,23 @@ loop-less : tie.Need-loop-less Inv-loop μ-loop
 loop-less c = omega arith
 
 loop-again : tie.Need-loop-again Inv-loop μ-loop
-loop-again c = (
-  omega arith,
-  every-turn _ _ _ _
-      (c .before .before .before .before .before .loop .inv .1)
-      (c .before .before .before .before .loop-test .taken)
-      (rw (
-        ← c .before .before .before .operand-placed .ensures,
-        not-false (c .before .before .before .operand-placed .result) (c .before .before .if1 .left),
-        ← c .before .operand-sorted .ensures,
-        not-false (c .before .operand-sorted .result) (c .if2 .left),
-      )),
-)
+loop-again c =
+    let at-operand-sorted = c .before in
+    let at-if1 = at-operand-sorted .before in
+    let at-operand-placed = at-if1 .before in
+    let at-loop-test = at-operand-placed .before in
+    let at-loop = at-loop-test .before in (
+      omega arith,
+      every-turn _ _ _ _
+          (at-loop .loop .inv .1)
+          (at-loop-test .loop-test .taken)
+          (rw (
+            ← at-operand-placed .operand-placed .ensures,
+            not-false (at-operand-placed .operand-placed .result) (at-if1 .if1 .left),
+            ← at-operand-sorted .operand-sorted .ensures,
+            not-false (at-operand-sorted .operand-sorted .result) (c .if2 .left),
+          )),
+    )
 
 returns-3 : tie.Need-returns-3 Inv-loop μ-loop
 returns-3 c = every-end _ _ _ _ (c .before .loop .inv .1) (c .loop-test .left)

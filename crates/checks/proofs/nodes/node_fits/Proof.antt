@@ -46,13 +46,19 @@ unused-zero-requires c κs = search needs
 returns-4 : tie.Need-returns-4
 unfolding goodNode
 returns-4 c =
+    let at-if3 = c .before in
+    let at-children-below = at-if3 .before in
+    let at-if2 = at-children-below .before in
+    let at-word2 = at-if2 .before in
+    let at-if1 = at-word2 .before in
+    let at-word = at-if1 .before in
     rw (
-      ← c .before .before .before .before .before .before .word .ensures,
-      le-leb _ _ (c .before .before .before .before .before .if1 .left),
-      ← c .before .before .before .before .word2 .ensures,
-      le-leb _ _ (c .before .before .before .if2 .left),
-      ← c .before .before .children-below .ensures,
-      not-false (c .before .before .children-below .result) (c .before .if3 .left),
+      ← at-word .word .ensures,
+      le-leb _ _ (at-if1 .if1 .left),
+      ← at-word2 .word2 .ensures,
+      le-leb _ _ (at-if2 .if2 .left),
+      ← at-children-below .children-below .ensures,
+      not-false (at-children-below .children-below .result) (at-if3 .if3 .left),
     )
     (c .unused-zero .ensures)
 

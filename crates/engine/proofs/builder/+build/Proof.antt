@@ -104,13 +104,28 @@ build-done-requires : (t : ℕ) → build-lts.Need-done-requires (build-calls t)
 build-done-requires t c κs = search needs
 
 build-returns-3 : (t : ℕ) → build-lts.Need-returns-3 (build-calls t) (build-at t) build.Post build-Inv-loop build-μ-loop
-build-returns-3 t c = λ k. variable-built _ _ _ _ _ _ (c .before .before .before .before .before .before .before .before .before .if1 .left) (c .before .before .before .before .before .before .before .before .if2 .left) _ (is-variable t (c .before .before .before .before .before)) (c .before .before .before .before .before .entry .ensures) k _ (omega arith) (c .before .before .before .before .before .before .before .before .before .before .before .pre .1 .3) (small t (c .before .before .before .before .before)) (sym (c .before .before .before .bit .ensures) ∙ c .before .before .if4 .taken) (c .done .ensures)
+build-returns-3 t c =
+    let at-if4 = c .before .before in
+    let at-bit = at-if4 .before in
+    let at-before = at-bit .before in
+    let at-entry = at-before .before in
+    let at-if2 = at-entry .before .before .before in
+    let at-if1 = at-if2 .before in
+    let start = at-if1 .before .before in
+    λ k. variable-built _ _ _ _ _ _ (at-if1 .if1 .left) (at-if2 .if2 .left) _ (is-variable t (at-before .before)) (at-entry .entry .ensures) k _ (omega arith) (start .pre .1 .3) (small t (at-before .before)) (sym (at-bit .bit .ensures) ∙ at-if4 .if4 .taken) (c .done .ensures)
 
 build-failure-requires : (t : ℕ) → build-lts.Need-failure-requires (build-calls t) (build-at t) build.Post build-Inv-loop build-μ-loop
 build-failure-requires t c κs = search needs
 
 build-returns-4 : (t : ℕ) → build-lts.Need-returns-4 (build-calls t) (build-at t) build.Post build-Inv-loop build-μ-loop
-build-returns-4 t c = λ k. variable-fails _ _ _ _ _ _ (c .before .before .before .before .before .before .before .before .if1 .left) (c .before .before .before .before .before .before .before .if2 .left) _ (is-variable t (c .before .before .before .before)) (c .before .before .before .before .entry .ensures) k _ (omega arith) (λ e. c .before .if4 .left (c .before .before .bit .ensures ∙ e)) (c .failure .ensures)
+build-returns-4 t c =
+    let at-if4 = c .before in
+    let at-bit = at-if4 .before in
+    let at-before = at-bit .before in
+    let at-entry = at-before .before in
+    let at-if2 = at-entry .before .before .before in
+    let at-if1 = at-if2 .before in
+    λ k. variable-fails _ _ _ _ _ _ (at-if1 .if1 .left) (at-if2 .if2 .left) _ (is-variable t (at-before .before)) (at-entry .entry .ensures) k _ (omega arith) (λ e. at-if4 .if4 .left (at-bit .bit .ensures ∙ e)) (c .failure .ensures)
 
 build-operands-requires : (t : ℕ) → build-lts.Need-operands-requires (build-calls t) (build-at t) build.Post build-Inv-loop build-μ-loop
 build-operands-requires t c κs = search needs
@@ -120,14 +135,20 @@ build-entry-requires-2 t c κs = search needs
 
 build-loop-holds : (t : ℕ) → build-lts.Need-loop-holds (build-calls t) (build-at t) build.Post build-Inv-loop build-μ-loop
 build-loop-holds t c =
-    let k = no-variable (c .before .before .before .before .before .before .before .args .table .now) (c .before .before .before .before .before .before .before .args .p) _ (c .before .before .before .before .before .before .before .pre .1 .2) (c .before .before .before .kind .ensures) (c .before .before .if3 .left) in (
+    let at-operands = c .before in
+    let at-if3 = at-operands .before in
+    let at-kind = at-if3 .before in
+    let at-if2 = at-kind .before in
+    let at-if1 = at-if2 .before in
+    let start = at-if1 .before .before in
+    let k = no-variable (start .args .table .now) (start .args .p) _ (start .pre .1 .2) (at-kind .kind .ensures) (at-if3 .if3 .left) in (
       search needs,
-      c .before .operands .ensures,
+      at-operands .operands .ensures,
       k,
       omega arith,
       refl,
       refl,
-      built-none _ _ _ _ _ _ (c .before .before .before .before .before .if1 .left) (c .before .before .before .before .if2 .left) _ _ (c .entry2 .ensures) (c .before .operands .ensures) k (c .before .before .before .before .before .before .before .pre .1 .3),
+      built-none _ _ _ _ _ _ (at-if1 .if1 .left) (at-if2 .if2 .left) _ _ (c .entry2 .ensures) (at-operands .operands .ensures) k (start .pre .1 .3),
     )
 
 build-add-entry : (t : ℕ) → build-lts.Need-add-entry (build-calls t) (build-at t) build.Post build-Inv-loop build-μ-loop
@@ -141,9 +162,12 @@ build-sub-build t c = search needs
 
 build-build-requires : (t : ℕ) → build-lts.Need-build-requires (build-calls t) (build-at t) build.Post build-Inv-loop build-μ-loop
 build-build-requires t c κs =
-    let i = c .before .before .before .before .loop .inv in
-    let q = operand-pattern _ (c .before .before .before .before .before .before .before .before .before .before .before .before .pre .1 .0) _ _ _ (c .before .before .before .before .before .before .before .before .before .before .before .before .pre .1 .1) (i .2) (below t (c .before .before .before)) (c .entry3 .ensures) in
-    (omega arith, (c .before .before .before .before .before .before .before .before .before .before .before .before .pre .1 .0, q .0, q .1, i .6 .steady, i .6 .frame .long ∙ c .before .before .before .before .before .before .before .before .before .before .before .before .pre .1 .4))
+    let at-before = c .before .before in
+    let at-loop = at-before .before .before in
+    let start = at-loop .before .before .before .before .before .before .before .before in
+    let i = at-loop .loop .inv in
+    let q = operand-pattern _ (start .pre .1 .0) _ _ _ (start .pre .1 .1) (i .2) (below t (at-before .before)) (c .entry3 .ensures) in
+    (omega arith, (start .pre .1 .0, q .0, q .1, i .6 .steady, i .6 .frame .long ∙ start .pre .1 .4))
 
 build-told-requires : (t : ℕ) → build-lts.Need-told-requires (build-calls t) (build-at t) build.Post build-Inv-loop build-μ-loop
 build-told-requires t c κs = search needs
@@ -155,7 +179,14 @@ build-same-length : (t : ℕ) → build-lts.Need-same-length (build-calls t) (bu
 build-same-length t c = search needs
 
 build-returns-5 : (t : ℕ) → build-lts.Need-returns-5 (build-calls t) (build-at t) build.Post build-Inv-loop build-μ-loop
-build-returns-5 t c = build-stops _ _ _ _ _ _ _ _ _ _ (c .before .before .before .before .before .before .before .before .before .loop .inv .6) (c .before .before .before .before .before .before .before .before .before .before .before .before .before .before .before .before .before .pre .1 .0 .few _ (c .before .before .before .before .before .before .before .before .before .before .before .before .before .before .before .before .before .pre .1 .1)) (below t (c .before .before .before .before .before .before .before .before)) _ _ (c .before .before .before .before .before .entry3 .ensures) _ _ (c .before .before .before .before .build .ensures) _ (c .before .told .ensures) (c .match .keys2)
+build-returns-5 t c =
+    let at-told = c .before in
+    let at-build = at-told .before .before .before in
+    let at-entry3 = at-build .before in
+    let at-before = at-entry3 .before .before in
+    let at-loop = at-before .before .before in
+    let start = at-loop .before .before .before .before .before .before .before .before in
+    build-stops _ _ _ _ _ _ _ _ _ _ (at-loop .loop .inv .6) (start .pre .1 .0 .few _ (start .pre .1 .1)) (below t (at-before .before)) _ _ (at-entry3 .entry3 .ensures) _ _ (at-build .build .ensures) _ (at-told .told .ensures) (c .match .keys2)
 
 build-cast-made : (t : ℕ) → build-lts.Need-cast-made (build-calls t) (build-at t) build.Post build-Inv-loop build-μ-loop
 build-cast-made t c = search needs
@@ -167,7 +198,9 @@ build-mul-made : (t : ℕ) → build-lts.Need-mul-made (build-calls t) (build-at
 build-mul-made t c = search needs
 
 build-array-write-made : (t : ℕ) → build-lts.Need-array-write-made (build-calls t) (build-at t) build.Post build-Inv-loop build-μ-loop
-build-array-write-made t c = omega (arith, c .before .before .before .before .before .before .before .before .before .before .before .before .before .before .before .before .before .before .before .pre .1 .0 .few _ (c .before .before .before .before .before .before .before .before .before .before .before .before .before .before .before .before .before .before .before .pre .1 .1))
+build-array-write-made t c =
+    let start = c .before .before .before .before .before .before .before .before .before .before .before .before .before .before .before .before .before .before .before in
+    omega (arith, start .pre .1 .0 .few _ (start .pre .1 .1))
 
 build-add-i : (t : ℕ) → build-lts.Need-add-i (build-calls t) (build-at t) build.Post build-Inv-loop build-μ-loop
 build-add-i t c = search needs
@@ -177,14 +210,21 @@ build-loop-less t c = search needs
 
 build-loop-again : (t : ℕ) → build-lts.Need-loop-again (build-calls t) (build-at t) build.Post build-Inv-loop build-μ-loop
 build-loop-again t c =
-    let i = c .before .before .before .before .before .before .before .before .before .before .before .loop .inv in (
+    let at-x = c .before in
+    let at-told = at-x .before .before in
+    let at-build = at-told .before .before .before in
+    let at-entry3 = at-build .before in
+    let at-before = at-entry3 .before .before in
+    let at-loop = at-before .before .before in
+    let start = at-loop .before .before .before .before .before .before .before .before in
+    let i = at-loop .loop .inv in (
       search needs,
       i .1,
       i .2,
-      omega (arith, done-node _ _ _ (sym (c .before .before .before .told .ensures) ∙ c .before .x .given .1)),
-      c .before .before .before .before .before .before .build .kept .1 .0 ∙ i .4,
+      omega (arith, done-node _ _ _ (sym (at-told .told .ensures) ∙ at-x .x .given .1)),
+      at-build .build .kept .1 .0 ∙ i .4,
       simp length-set (i .5),
-      built-more _ _ _ _ _ _ _ _ _ _ (i .6) (c .before .before .before .before .before .before .before .before .before .before .before .before .before .before .before .before .before .before .before .pre .1 .0 .few _ (c .before .before .before .before .before .before .before .before .before .before .before .before .before .before .before .before .before .before .before .pre .1 .1)) (below t (c .before .before .before .before .before .before .before .before .before .before)) _ _ (c .before .before .before .before .before .before .before .entry3 .ensures) _ _ (c .before .before .before .before .before .before .build .ensures) _ (c .before .before .before .told .ensures) (c .before .before .before .before .before .before .before .before .before .before .before .before .before .before .before .before .before .before .before .pre .1 .0) _ _ (c .before .x .given .1),
+      built-more _ _ _ _ _ _ _ _ _ _ (i .6) (start .pre .1 .0 .few _ (start .pre .1 .1)) (below t (at-before .before)) _ _ (at-entry3 .entry3 .ensures) _ _ (at-build .build .ensures) _ (at-told .told .ensures) (start .pre .1 .0) _ _ (at-x .x .given .1),
     )
 
 build-node-requires : (t : ℕ) → build-lts.Need-node-requires (build-calls t) (build-at t) build.Post build-Inv-loop build-μ-loop
@@ -195,8 +235,11 @@ build-same-length-2 t c = search needs
 
 build-returns-6 : (t : ℕ) → build-lts.Need-returns-6 (build-calls t) (build-at t) build.Post build-Inv-loop build-μ-loop
 build-returns-6 t c =
-    let l : operandCount (c .before .before .before .before .before .before .before .before .before .before .before .before .before .before .args .table .now) (c .before .before .before .before .before .before .before .before .before .before .before .before .before .before .args .p) ≡ c .before .before .before .before .before .before .loop .i = omega arith in
-    built-all _ _ _ _ _ _ _ _ _ _ (c .before .before .before .before .before .before .loop .inv .6) (c .before .before .before .before .before .before .before .before .before .before .before .before .before .before .pre .1 .0 .few _ (c .before .before .before .before .before .before .before .before .before .before .before .before .before .before .pre .1 .1)) l _ _ _ (c .before .before .node .ensures)
+    let at-node = c .before .before in
+    let at-loop = at-node .before .before .before .before in
+    let start = at-loop .before .before .before .before .before .before .before .before in
+    let l : operandCount (start .args .table .now) (start .args .p) ≡ at-loop .loop .i = omega arith in
+    built-all _ _ _ _ _ _ _ _ _ _ (at-loop .loop .inv .6) (start .pre .1 .0 .few _ (start .pre .1 .1)) l _ _ _ (at-node .node .ensures)
 
 pub +build-spec : {M : Type 1} → statement M
 +build-spec = close μ-build λ t. build-lts.spec (build-calls t)

@@ -40,7 +40,11 @@ same-length : tie.Need-same-length
 same-length c = search needs
 
 returns-2 : tie.Need-returns-2
-returns-2 c = rw (c .before .before .before .put-row .ensures) (node-made _ _ _ _ _ (c .before .before .before .before .before .before .before .before .pre .0) (omega arith) (c .before .before .before .before .before .before .before .before .pre .1) (c .before .before .before .before .before .if1 .left) (c .done .ensures))
+returns-2 c =
+    let at-put-row = c .before .before .before in
+    let at-if1 = at-put-row .before .before in
+    let start = at-if1 .before .before .before in
+    rw (at-put-row .put-row .ensures) (node-made _ _ _ _ _ (start .pre .0) (omega arith) (start .pre .1) (at-if1 .if1 .left) (c .done .ensures))
 
 pub node-spec : {M : Type 1} → statement M
 node-spec =

@@ -84,8 +84,14 @@ pair-failure-requires t c κs = search needs
 
 pair-returns-3 : (t : ℕ) → pair-lts.Need-returns-3 (pair-calls t) (pair-at t) pair.Post
 pair-returns-3 t c =
-    let e : _ ≡ _ → ⊥ = λ h. c .before .if3 .taken (c .before .before .before .word .ensures ∙ h ∙ sym (c .before .before .word2 .ensures)) in
-    λ t β m. other-constructor _ _ _ t _ m _ β (c .before .before .before .before .before .before .if1 .left) (c .before .before .before .before .before .if2 .left) _ (c .failure .ensures) (c .before .before .before .before .before .before .before .before .fits .left .fits) e
+    let at-if3 = c .before in
+    let at-word2 = at-if3 .before in
+    let at-word = at-word2 .before in
+    let at-if2 = at-word .before .before in
+    let at-if1 = at-if2 .before in
+    let start = at-if1 .before .before in
+    let e : _ ≡ _ → ⊥ = λ h. at-if3 .if3 .taken (at-word .word .ensures ∙ h ∙ sym (at-word2 .word2 .ensures)) in
+    λ t β m. other-constructor _ _ _ t _ m _ β (at-if1 .if1 .left) (at-if2 .if2 .left) _ (c .failure .ensures) (start .fits .left .fits) e
 
 pair-count-requires-2 : (t : ℕ) → pair-lts.Need-count-requires-2 (pair-calls t) (pair-at t) pair.Post
 pair-count-requires-2 t c κs = search needs
@@ -98,8 +104,17 @@ pair-failure-requires-2 t c κs = search needs
 
 pair-returns-4 : (t : ℕ) → pair-lts.Need-returns-4 (pair-calls t) (pair-at t) pair.Post
 pair-returns-4 t c =
-    let a = sym (c .before .before .before .before .before .word .ensures) ∙ c .before .before .before .if3 .left ∙ c .before .before .before .before .word2 .ensures in
-    λ t β m. other-count _ _ _ t _ m _ β (c .before .before .before .before .before .before .before .before .if1 .left) (c .before .before .before .before .before .before .before .if2 .left) _ (c .failure2 .ensures) (c .before .before .before .before .before .before .before .before .before .before .fits .left .fits) a (λ h. c .before .if4 .taken (c .before .before .before .before .before .before .count .ensures ∙ h ∙ sym (c .before .before .count2 .ensures)))
+    let at-if4 = c .before in
+    let at-count2 = at-if4 .before in
+    let at-if3 = at-count2 .before in
+    let at-word2 = at-if3 .before in
+    let at-word = at-word2 .before in
+    let at-count = at-word .before in
+    let at-if2 = at-count .before in
+    let at-if1 = at-if2 .before in
+    let start = at-if1 .before .before in
+    let a = sym (at-word .word .ensures) ∙ at-if3 .if3 .left ∙ at-word2 .word2 .ensures in
+    λ t β m. other-count _ _ _ t _ m _ β (at-if1 .if1 .left) (at-if2 .if2 .left) _ (c .failure2 .ensures) (start .fits .left .fits) a (λ h. at-if4 .if4 .taken (at-count .count .ensures ∙ h ∙ sym (at-count2 .count2 .ensures)))
 
 pair-sub-done : (t : ℕ) → pair-lts.Need-sub-done (pair-calls t) (pair-at t) pair.Post
 pair-sub-done t c = search needs
@@ -109,10 +124,20 @@ pair-done-requires t c κs = search needs
 
 pair-returns-5 : (t : ℕ) → pair-lts.Need-returns-5 (pair-calls t) (pair-at t) pair.Post
 pair-returns-5 t c =
-    let a = sym (c .before .before .before .before .before .before .word .ensures) ∙ c .before .before .before .before .if3 .left ∙ c .before .before .before .before .before .word2 .ensures in
-    let n = sym (c .before .before .before .before .before .before .before .count .ensures) ∙ c .before .before .if4 .left ∙ c .before .before .before .count2 .ensures in
-    let z = sym (c .before .before .before .before .before .before .before .count .ensures) ∙ c .before .if5 .taken in
-    λ t β m. compared _ _ _ t _ 0 β m _ (agreed _ _ _ t _ m _ β (c .before .before .before .before .before .before .before .before .before .if1 .left) (c .before .before .before .before .before .before .before .before .if2 .left) a n) _ (c .done .ensures) (omega (arith, c .before .before .before .before .before .before .before .before .before .before .before .fits .left .fits)) (omega (arith, z))
+    let at-if5 = c .before in
+    let at-if4 = at-if5 .before in
+    let at-count2 = at-if4 .before in
+    let at-if3 = at-count2 .before in
+    let at-word2 = at-if3 .before in
+    let at-word = at-word2 .before in
+    let at-count = at-word .before in
+    let at-if2 = at-count .before in
+    let at-if1 = at-if2 .before in
+    let start = at-if1 .before .before in
+    let a = sym (at-word .word .ensures) ∙ at-if3 .if3 .left ∙ at-word2 .word2 .ensures in
+    let n = sym (at-count .count .ensures) ∙ at-if4 .if4 .left ∙ at-count2 .count2 .ensures in
+    let z = sym (at-count .count .ensures) ∙ at-if5 .if5 .taken in
+    λ t β m. compared _ _ _ t _ 0 β m _ (agreed _ _ _ t _ m _ β (at-if1 .if1 .left) (at-if2 .if2 .left) a n) _ (c .done .ensures) (omega (arith, start .fits .left .fits)) (omega (arith, z))
 
 pair-same-requires : (t : ℕ) → pair-lts.Need-same-requires (pair-calls t) (pair-at t) pair.Post
 pair-same-requires t c κs = (omega arith, tt)
@@ -171,8 +196,14 @@ same-failure-requires t c κs = search needs
 
 same-returns-3 : (t : ℕ) → same-lts.Need-returns-3 (same-calls t) (same-at t) same.Post same-Inv-loop2 same-μ-loop2 same-Inv-loop same-μ-loop
 same-returns-3 t c =
-    let e : _ ≡ _ → ⊥ = λ h. c .before .if3 .taken (c .before .before .before .word .ensures ∙ h ∙ sym (c .before .before .word2 .ensures)) in
-    λ t β m. c .before .before .before .before .before .before .before .loop .inv .2 t β m _ (other-constructor _ _ _ t _ m _ β (c .before .before .before .before .before .before .if1 .left) (c .before .before .before .before .before .if2 .left) _ (c .failure .ensures) (c .before .before .before .before .before .before .before .loop .inv .0) e)
+    let at-if3 = c .before in
+    let at-word2 = at-if3 .before in
+    let at-word = at-word2 .before in
+    let at-if2 = at-word .before .before in
+    let at-if1 = at-if2 .before in
+    let at-loop = at-if1 .before in
+    let e : _ ≡ _ → ⊥ = λ h. at-if3 .if3 .taken (at-word .word .ensures ∙ h ∙ sym (at-word2 .word2 .ensures)) in
+    λ t β m. at-loop .loop .inv .2 t β m _ (other-constructor _ _ _ t _ m _ β (at-if1 .if1 .left) (at-if2 .if2 .left) _ (c .failure .ensures) (at-loop .loop .inv .0) e)
 
 same-count-requires-2 : (t : ℕ) → same-lts.Need-count-requires-2 (same-calls t) (same-at t) same.Post same-Inv-loop2 same-μ-loop2 same-Inv-loop same-μ-loop
 same-count-requires-2 t c κs = search needs
@@ -182,25 +213,53 @@ same-failure-requires-2 t c κs = search needs
 
 same-returns-4 : (t : ℕ) → same-lts.Need-returns-4 (same-calls t) (same-at t) same.Post same-Inv-loop2 same-μ-loop2 same-Inv-loop same-μ-loop
 same-returns-4 t c =
-    let a = sym (c .before .before .before .before .before .word .ensures) ∙ c .before .before .before .if3 .left ∙ c .before .before .before .before .word2 .ensures in
-    λ t β m. c .before .before .before .before .before .before .before .before .before .loop .inv .2 t β m _ (other-count _ _ _ t _ m _ β (c .before .before .before .before .before .before .before .before .if1 .left) (c .before .before .before .before .before .before .before .if2 .left) _ (c .failure2 .ensures) (c .before .before .before .before .before .before .before .before .before .loop .inv .0) a (λ h. c .before .if4 .taken (c .before .before .before .before .before .before .count .ensures ∙ h ∙ sym (c .before .before .count2 .ensures))))
+    let at-if4 = c .before in
+    let at-count2 = at-if4 .before in
+    let at-if3 = at-count2 .before in
+    let at-word2 = at-if3 .before in
+    let at-word = at-word2 .before in
+    let at-count = at-word .before in
+    let at-if2 = at-count .before in
+    let at-if1 = at-if2 .before in
+    let at-loop = at-if1 .before in
+    let a = sym (at-word .word .ensures) ∙ at-if3 .if3 .left ∙ at-word2 .word2 .ensures in
+    λ t β m. at-loop .loop .inv .2 t β m _ (other-count _ _ _ t _ m _ β (at-if1 .if1 .left) (at-if2 .if2 .left) _ (c .failure2 .ensures) (at-loop .loop .inv .0) a (λ h. at-if4 .if4 .taken (at-count .count .ensures ∙ h ∙ sym (at-count2 .count2 .ensures))))
 
 same-done-requires : (t : ℕ) → same-lts.Need-done-requires (same-calls t) (same-at t) same.Post same-Inv-loop2 same-μ-loop2 same-Inv-loop same-μ-loop
 same-done-requires t c κs = search needs
 
 same-returns-5 : (t : ℕ) → same-lts.Need-returns-5 (same-calls t) (same-at t) same.Post same-Inv-loop2 same-μ-loop2 same-Inv-loop same-μ-loop
 same-returns-5 t c =
-    let a = sym (c .before .before .before .before .before .before .word .ensures) ∙ c .before .before .before .before .if3 .left ∙ c .before .before .before .before .before .word2 .ensures in
-    let n = sym (c .before .before .before .before .before .before .before .count .ensures) ∙ c .before .before .if4 .left ∙ c .before .before .before .count2 .ensures in
-    let z = sym (c .before .before .before .before .before .before .before .count .ensures) ∙ c .before .if5 .taken in
-    λ t β m. c .before .before .before .before .before .before .before .before .before .before .loop .inv .2 t β m _ (compared _ _ _ t _ 0 β m _ (agreed _ _ _ t _ m _ β (c .before .before .before .before .before .before .before .before .before .if1 .left) (c .before .before .before .before .before .before .before .before .if2 .left) a n) _ (c .done .ensures) (omega (arith, c .before .before .before .before .before .before .before .before .before .before .loop .inv .0)) (omega (arith, z)))
+    let at-if5 = c .before in
+    let at-if4 = at-if5 .before in
+    let at-count2 = at-if4 .before in
+    let at-if3 = at-count2 .before in
+    let at-word2 = at-if3 .before in
+    let at-word = at-word2 .before in
+    let at-count = at-word .before in
+    let at-if2 = at-count .before in
+    let at-if1 = at-if2 .before in
+    let at-loop = at-if1 .before in
+    let a = sym (at-word .word .ensures) ∙ at-if3 .if3 .left ∙ at-word2 .word2 .ensures in
+    let n = sym (at-count .count .ensures) ∙ at-if4 .if4 .left ∙ at-count2 .count2 .ensures in
+    let z = sym (at-count .count .ensures) ∙ at-if5 .if5 .taken in
+    λ t β m. at-loop .loop .inv .2 t β m _ (compared _ _ _ t _ 0 β m _ (agreed _ _ _ t _ m _ β (at-if1 .if1 .left) (at-if2 .if2 .left) a n) _ (c .done .ensures) (omega (arith, at-loop .loop .inv .0)) (omega (arith, z)))
 
 same-loop2-holds : (t : ℕ) → same-lts.Need-loop2-holds (same-calls t) (same-at t) same.Post same-Inv-loop2 same-μ-loop2 same-Inv-loop same-μ-loop
 same-loop2-holds t c =
-    let a = sym (c .before .before .before .before .before .word .ensures) ∙ c .before .before .before .if3 .left ∙ c .before .before .before .before .word2 .ensures in
-    let n = c .before .if4 .left ∙ c .before .before .count2 .ensures in
-    let l = c .before .before .before .before .before .before .before .before .before .loop .inv in
-    (omega (arith, c .if5 .left), c .before .before .before .before .before .before .count .ensures, n, omega (arith, l .0), omega (arith, l .1, c .before .before .before .before .before .before .before .if2 .left), λ t β m. (_, agreed _ _ _ t _ m _ β (c .before .before .before .before .before .before .before .before .if1 .left) (c .before .before .before .before .before .before .before .if2 .left) a (sym (c .before .before .before .before .before .before .count .ensures) ∙ n), l .2 t β m))
+    let at-if4 = c .before in
+    let at-count2 = at-if4 .before in
+    let at-if3 = at-count2 .before in
+    let at-word2 = at-if3 .before in
+    let at-word = at-word2 .before in
+    let at-count = at-word .before in
+    let at-if2 = at-count .before in
+    let at-if1 = at-if2 .before in
+    let at-loop = at-if1 .before in
+    let a = sym (at-word .word .ensures) ∙ at-if3 .if3 .left ∙ at-word2 .word2 .ensures in
+    let n = at-if4 .if4 .left ∙ at-count2 .count2 .ensures in
+    let l = at-loop .loop .inv in
+    (omega (arith, c .if5 .left), at-count .count .ensures, n, omega (arith, l .0), omega (arith, l .1, at-if2 .if2 .left), λ t β m. (_, agreed _ _ _ t _ m _ β (at-if1 .if1 .left) (at-if2 .if2 .left) a (sym (at-count .count .ensures) ∙ n), l .2 t β m))
 
 same-add-loop2 : (t : ℕ) → same-lts.Need-add-loop2 (same-calls t) (same-at t) same.Post same-Inv-loop2 same-μ-loop2 same-Inv-loop same-μ-loop
 same-add-loop2 t c = search needs
@@ -239,15 +298,21 @@ same-loop2-less t c = search needs
 
 same-loop2-again : (t : ℕ) → same-lts.Need-loop2-again (same-calls t) (same-at t) same.Post same-Inv-loop2 same-μ-loop2 same-Inv-loop same-μ-loop
 same-loop2-again t c =
-    let l = c .before .before .before .before .before .before .before .before .loop2 .inv in (
+    let at-more = c .before in
+    let at-told = at-more .before .before in
+    let at-pair = at-told .before in
+    let at-word4 = at-pair .before in
+    let at-word3 = at-word4 .before in
+    let at-loop2 = at-word3 .before .before in
+    let l = at-loop2 .loop2 .inv in (
       search needs,
       l .1,
       l .2,
-      omega (arith, done-node _ _ _ (sym (c .before .before .before .told .ensures) ∙ c .before .more .given .1)),
+      omega (arith, done-node _ _ _ (sym (at-told .told .ensures) ∙ at-more .more .given .1)),
       l .4,
       λ t β m.
           let g = l .5 t β m in
-          (_, pair-done _ _ _ t _ _ β m _ (g .1) (omega arith) (omega arith) _ _ _ (c .before .before .before .before .before .before .word3 .ensures) (c .before .before .before .before .before .word4 .ensures) (c .before .before .before .before .pair .ensures t β m) _ (c .before .before .before .told .ensures) _ _ (c .before .more .given .1), g .2),
+          (_, pair-done _ _ _ t _ _ β m _ (g .1) (omega arith) (omega arith) _ _ _ (at-word3 .word3 .ensures) (at-word4 .word4 .ensures) (at-pair .pair .ensures t β m) _ (at-told .told .ensures) _ _ (at-more .more .given .1), g .2),
     )
 
 same-add-word-3 : (t : ℕ) → same-lts.Need-add-word-3 (same-calls t) (same-at t) same.Post same-Inv-loop2 same-μ-loop2 same-Inv-loop same-μ-loop

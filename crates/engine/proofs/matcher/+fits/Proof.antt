@@ -174,7 +174,15 @@ fits-enum-known-left : (t : ℕ) → fits-lts.Need-enum-known-left (fits-calls t
 fits-enum-known-left t c = search needs
 
 fits-returns-2 : (t : ℕ) → fits-lts.Need-returns-2 (fits-calls t) (fits-at t) fits.Post fits-Inv-loop fits-μ-loop
-fits-returns-2 t c = bound-stops (turn t (c .before .before .before .before .before .before .before .before .before)) (c .before .before .before .before .before .before .before .before .if1 .left) (levels t (c .before .before .before .before .before .before .before .before .before)) (is-variable t (c .before .before .before .before .before .before)) (c .before .before .before .before .before .entry2 .ensures) (sym (c .before .before .before .before .bit .ensures) ∙ c .before .before .before .if3 .taken) _ (λ m. c .before .before .same .ensures _ (held (c .before .before .before .before .before .before .before .before .before .before .before .before .loop .words)) m) _ (c .before .told .ensures) (c .match .keys2)
+fits-returns-2 t c =
+    let at-told = c .before in
+    let at-same = at-told .before in
+    let at-if3 = at-same .before in
+    let at-bit = at-if3 .before in
+    let at-before = at-bit .before in
+    let at-before′ = at-before .before .before .before in
+    let at-loop = at-before′ .before .before .before .before in
+    bound-stops (turn t (at-before′ .before)) (at-before′ .if1 .left) (levels t (at-before′ .before)) (is-variable t (at-before .before)) (at-before .entry2 .ensures) (sym (at-bit .bit .ensures) ∙ at-if3 .if3 .taken) _ (λ m. at-same .same .ensures _ (held (at-loop .loop .words)) m) _ (at-told .told .ensures) (c .match .keys2)
 
 fits-cast-words : (t : ℕ) → fits-lts.Need-cast-words (fits-calls t) (fits-at t) fits.Post fits-Inv-loop fits-μ-loop
 fits-cast-words t c = search needs
@@ -211,7 +219,12 @@ fits-stopped-requires t c κs = search needs
 
 fits-returns-4 : (t : ℕ) → fits-lts.Need-returns-4 (fits-calls t) (fits-at t) fits.Post fits-Inv-loop fits-μ-loop
 fits-returns-4 t c =
-    inner-stopped (turn t (c .before .before .before .before .before .before .before .before .before)) (c .before .before .before .before .before .before .before .before .if1 .left) (is-constructor t (c .before .before .before .before .before .before)) (agrees t (c .before .before .before .before)) (λ z. c .before .before .if5 .taken (c .before .before .before .operands2 .ensures ∙ z)) (c .before .if6 .taken) (c .stopped .ensures)
+    let at-if6 = c .before in
+    let at-if5 = at-if6 .before in
+    let at-before = at-if5 .before in
+    let at-before′ = at-before .before .before in
+    let at-before′′ = at-before′ .before .before .before in
+    inner-stopped (turn t (at-before′′ .before)) (at-before′′ .if1 .left) (is-constructor t (at-before′ .before)) (agrees t (at-before .before)) (λ z. at-if5 .if5 .taken (at-before .operands2 .ensures ∙ z)) (at-if6 .if6 .taken) (c .stopped .ensures)
 
 fits-done-requires : (t : ℕ) → fits-lts.Need-done-requires (fits-calls t) (fits-at t) fits.Post fits-Inv-loop fits-μ-loop
 fits-done-requires t c κs = search needs
@@ -220,7 +233,13 @@ fits-sub-fits : (t : ℕ) → fits-lts.Need-sub-fits (fits-calls t) (fits-at t) 
 fits-sub-fits t c = search needs
 
 fits-fits-requires : (t : ℕ) → fits-lts.Need-fits-requires (fits-calls t) (fits-at t) fits.Post fits-Inv-loop fits-μ-loop
-fits-fits-requires t c κs = (omega arith, (c .before .before .before .before .before .before .before .before .before .before .before .before .before .before .before .before .pre .1 .0, operand-is (turn t (c .before .before .before .before .before .before .before .before .before)) .0, is-constructor t (c .before .before .before .before .before .before), handed (turn t (c .before .before .before .before .before .before .before .before .before)) (c .before .before .before .before .before .before .before .before .if1 .left) (levels t (c .before .before .before .before .before .before .before .before .before)) (is-constructor t (c .before .before .before .before .before .before)) (agrees t (c .before .before .before .before)) (c .done .ensures), omega (arith, c .before .if6 .left)))
+fits-fits-requires t c κs =
+    let at-if6 = c .before in
+    let at-before = at-if6 .before .before in
+    let at-before′ = at-before .before .before in
+    let at-before′′ = at-before′ .before .before .before in
+    let start = at-before′′ .before .before .before .before .before .before .before .before in
+    (omega arith, (start .pre .1 .0, operand-is (turn t (at-before′′ .before)) .0, is-constructor t (at-before′ .before), handed (turn t (at-before′′ .before)) (at-before′′ .if1 .left) (levels t (at-before′′ .before)) (is-constructor t (at-before′ .before)) (agrees t (at-before .before)) (c .done .ensures), omega (arith, at-if6 .if6 .left)))
 
 fits-told-requires-2 : (t : ℕ) → fits-lts.Need-told-requires-2 (fits-calls t) (fits-at t) fits.Post fits-Inv-loop fits-μ-loop
 fits-told-requires-2 t c κs = search needs
@@ -229,7 +248,14 @@ fits-enum-known-left-2 : (t : ℕ) → fits-lts.Need-enum-known-left-2 (fits-cal
 fits-enum-known-left-2 t c = search needs
 
 fits-returns-5 : (t : ℕ) → fits-lts.Need-returns-5 (fits-calls t) (fits-at t) fits.Post fits-Inv-loop fits-μ-loop
-fits-returns-5 t c = inner-stops (turn t (c .before .before .before .before .before .before .before .before .before .before .before .before)) (c .before .before .before .before .before .before .before .before .before .before .before .if1 .left) (levels t (c .before .before .before .before .before .before .before .before .before .before .before .before)) (is-constructor t (c .before .before .before .before .before .before .before .before .before)) (agrees t (c .before .before .before .before .before .before .before)) (c .before .before .before .done .ensures) _ _ (c .before .before .fits2 .ensures) _ (c .before .told2 .ensures) (c .match2 .keys2)
+fits-returns-5 t c =
+    let at-told2 = c .before in
+    let at-fits2 = at-told2 .before in
+    let at-done = at-fits2 .before in
+    let at-before = at-done .before .before .before in
+    let at-before′ = at-before .before .before in
+    let at-before′′ = at-before′ .before .before .before in
+    inner-stops (turn t (at-before′′ .before)) (at-before′′ .if1 .left) (levels t (at-before′′ .before)) (is-constructor t (at-before′ .before)) (agrees t (at-before .before)) (at-done .done .ensures) _ _ (at-fits2 .fits2 .ensures) _ (at-told2 .told2 .ensures) (c .match2 .keys2)
 
 fits-add-i : (t : ℕ) → fits-lts.Need-add-i (fits-calls t) (fits-at t) fits.Post fits-Inv-loop fits-μ-loop
 fits-add-i t c = search needs

@@ -120,16 +120,32 @@ enum-known-left : tie.Need-enum-known-left Inv-loop μ-loop
 enum-known-left c = search needs
 
 returns-2 : tie.Need-returns-2 Inv-loop μ-loop
-returns-2 c = c .before .before .before .before .before .before .before .before .before .before .before .before .before .before .loop .inv .5 .whole _ _ (bound-stops (turn (c .before .before .before .before .before .before .before .before .before .before .before)) (c .before .before .before .before .before .before .before .before .before .before .if1 .left) (levels (c .before .before .before .before .before .before .before .before .before .before .before)) (is-variable (c .before .before .before .before .before .before .before .before)) (c .before .before .before .before .before .before .before .entry2 .ensures) (sym (c .before .before .before .before .before .bit .ensures) ∙ c .before .before .before .before .if3 .taken) _ (λ m. c .before .before .same .ensures _ (held (c .before .before .before .before .before .before .before .before .before .before .before .before .before .before .loop .st)) m) _ (c .before .told .ensures) (c .match .keys2))
+returns-2 c =
+    let at-told = c .before in
+    let at-same = at-told .before in
+    let at-if3 = at-same .before .before in
+    let at-bit = at-if3 .before in
+    let at-before = at-bit .before .before in
+    let at-before′ = at-before .before .before .before in
+    let at-loop = at-before′ .before .before .before .before in
+    at-loop .loop .inv .5 .whole _ _ (bound-stops (turn (at-before′ .before)) (at-before′ .if1 .left) (levels (at-before′ .before)) (is-variable (at-before .before)) (at-before .entry2 .ensures) (sym (at-bit .bit .ensures) ∙ at-if3 .if3 .taken) _ (λ m. at-same .same .ensures _ (held (at-loop .loop .st)) m) _ (at-told .told .ensures) (c .match .keys2))
 
 loop-less : tie.Need-loop-less Inv-loop μ-loop
 loop-less c = omega arith
 
 loop-again : tie.Need-loop-again Inv-loop μ-loop
 loop-again c =
-    let l = c .before .before .before .before .before .before .before .before .before .before .before .before .before .before .before .before .loop .inv in
-    let f = bound-matched (turn (c .before .before .before .before .before .before .before .before .before .before .before .before .before)) (c .before .before .before .before .before .before .before .before .before .before .before .before .if1 .left) (levels (c .before .before .before .before .before .before .before .before .before .before .before .before .before)) (is-variable (c .before .before .before .before .before .before .before .before .before .before)) (c .before .before .before .before .before .before .before .before .before .entry2 .ensures) (sym (c .before .before .before .before .before .before .before .bit .ensures) ∙ c .before .before .before .before .before .before .if3 .taken) _ (λ m. c .before .before .before .before .same .ensures _ (held (c .before .before .before .before .before .before .before .before .before .before .before .before .before .before .before .before .loop .st)) m) _ (c .before .before .before .told .ensures) _ _ (c .before .left .given .1) in
-    (omega arith, l .1, omega (arith, done-node _ _ _ (sym (c .before .before .before .told .ensures) ∙ c .before .left .given .1)), l .3, going-long (l .5) (l .4) f, going-on (l .5) f)
+    let at-left = c .before in
+    let at-told = at-left .before .before in
+    let at-same = at-told .before in
+    let at-if3 = at-same .before .before in
+    let at-bit = at-if3 .before in
+    let at-before = at-bit .before .before in
+    let at-before′ = at-before .before .before .before in
+    let at-loop = at-before′ .before .before .before .before in
+    let l = at-loop .loop .inv in
+    let f = bound-matched (turn (at-before′ .before)) (at-before′ .if1 .left) (levels (at-before′ .before)) (is-variable (at-before .before)) (at-before .entry2 .ensures) (sym (at-bit .bit .ensures) ∙ at-if3 .if3 .taken) _ (λ m. at-same .same .ensures _ (held (at-loop .loop .st)) m) _ (at-told .told .ensures) _ _ (at-left .left .given .1) in
+    (omega arith, l .1, omega (arith, done-node _ _ _ (sym (at-told .told .ensures) ∙ at-left .left .given .1)), l .3, going-long (l .5) (l .4) f, going-on (l .5) f)
 
 put-variable-requires : tie.Need-put-variable-requires Inv-loop μ-loop
 put-variable-requires c κs = small (c .before .before .before .before)
@@ -139,8 +155,13 @@ loop-less-2 c = omega arith
 
 loop-again-2 : tie.Need-loop-again-2 Inv-loop μ-loop
 loop-again-2 c =
-    let l = c .before .before .before .before .before .before .before .before .before .before .before .before .loop .inv in
-    let f = free-matched (turn (c .before .before .before .before .before .before .before .before .before)) (c .before .before .before .before .before .before .before .before .if1 .left) (levels (c .before .before .before .before .before .before .before .before .before)) (is-variable (c .before .before .before .before .before .before)) (c .before .before .before .before .before .entry2 .ensures) (l .4) (λ e. c .before .before .if3 .left (c .before .before .before .bit .ensures ∙ e)) (c .put-variable .ensures) in
+    let at-if3 = c .before .before in
+    let at-bit = at-if3 .before in
+    let at-before = at-bit .before .before in
+    let at-before′ = at-before .before .before .before in
+    let at-loop = at-before′ .before .before .before .before in
+    let l = at-loop .loop .inv in
+    let f = free-matched (turn (at-before′ .before)) (at-before′ .if1 .left) (levels (at-before′ .before)) (is-variable (at-before .before)) (at-before .entry2 .ensures) (l .4) (λ e. at-if3 .if3 .left (at-bit .bit .ensures ∙ e)) (c .put-variable .ensures) in
     (omega arith, l .1, omega (arith, l .2), l .3, going-long (l .5) (l .4) f, going-on (l .5) f)
 
 agree-requires : tie.Need-agree-requires Inv-loop μ-loop
@@ -150,7 +171,12 @@ failure-requires : tie.Need-failure-requires Inv-loop μ-loop
 failure-requires c κs = search needs
 
 returns-3 : tie.Need-returns-3 Inv-loop μ-loop
-returns-3 c = c .before .before .before .before .before .before .before .before .before .loop .inv .5 .whole _ _ (other (turn (c .before .before .before .before .before .before)) (c .before .before .before .before .before .if1 .left) (levels (c .before .before .before .before .before .before)) (is-constructor (c .before .before .before)) (c .failure .ensures) (sym (c .before .before .agree .ensures) ∙ not-true _ (c .before .if4 .taken)))
+returns-3 c =
+    let at-if4 = c .before in
+    let at-agree = at-if4 .before in
+    let at-before = at-agree .before .before .before in
+    let at-loop = at-before .before .before .before .before in
+    at-loop .loop .inv .5 .whole _ _ (other (turn (at-before .before)) (at-before .if1 .left) (levels (at-before .before)) (is-constructor (at-agree .before)) (c .failure .ensures) (sym (at-agree .agree .ensures) ∙ not-true _ (at-if4 .if4 .taken)))
 
 operands-requires-2 : tie.Need-operands-requires-2 Inv-loop μ-loop
 operands-requires-2 c κs = operand-is (turn (c .before .before .before .before .before)) .0
@@ -159,18 +185,35 @@ stopped-requires : tie.Need-stopped-requires Inv-loop μ-loop
 stopped-requires c κs = search needs
 
 returns-4 : tie.Need-returns-4 Inv-loop μ-loop
-returns-4 c = c .before .before .before .before .before .before .before .before .before .before .before .before .loop .inv .5 .whole _ _ (inner-stopped (turn (c .before .before .before .before .before .before .before .before .before)) (c .before .before .before .before .before .before .before .before .if1 .left) (is-constructor (c .before .before .before .before .before .before)) (agrees (c .before .before .before .before)) (λ z. c .before .before .if5 .taken (c .before .before .before .operands2 .ensures ∙ z)) (c .before .if6 .taken) (c .stopped .ensures))
+returns-4 c =
+    let at-if6 = c .before in
+    let at-if5 = at-if6 .before in
+    let at-before = at-if5 .before in
+    let at-before′ = at-before .before .before in
+    let at-before′′ = at-before′ .before .before .before in
+    let at-loop = at-before′′ .before .before .before .before in
+    at-loop .loop .inv .5 .whole _ _ (inner-stopped (turn (at-before′′ .before)) (at-before′′ .if1 .left) (is-constructor (at-before′ .before)) (agrees (at-before .before)) (λ z. at-if5 .if5 .taken (at-before .operands2 .ensures ∙ z)) (at-if6 .if6 .taken) (c .stopped .ensures))
 
 sub-d : tie.Need-sub-d Inv-loop μ-loop
 sub-d c = search needs
 
 loop-less-3 : tie.Need-loop-less-3 Inv-loop μ-loop
-loop-less-3 c = let f : _ ≤ 6 = c .before .before .before .before .before .before .before .before .before .before .before .before .before .before .before .pre .0 .few _ (operand-is (turn (c .before .before .before .before .before .before .before .before .before)) .0) in omega (arith, c .before .before .before .operands2 .ensures, c .before .before .before .before .before .before .before .before .before .before .before .before .loop .inv .3)
+loop-less-3 c =
+    let at-operands2 = c .before .before .before in
+    let at-before = at-operands2 .before .before .before .before .before in
+    let at-loop = at-before .before .before .before .before in
+    let start = at-loop .before .before .before in
+    let f : _ ≤ 6 = start .pre .0 .few _ (operand-is (turn (at-before .before)) .0) in omega (arith, at-operands2 .operands2 .ensures, at-loop .loop .inv .3)
 
 loop-again-3 : tie.Need-loop-again-3 Inv-loop μ-loop
 loop-again-3 c =
-    let l = c .before .before .before .before .before .before .before .before .before .before .before .before .loop .inv in
-    (omega arith, c .before .before .before .operands2 .ensures, omega (arith, l .2), omega (arith, c .before .if6 .left), l .4, going-down (l .5) (turn (c .before .before .before .before .before .before .before .before .before)) (c .before .before .before .before .before .before .before .before .if1 .left) (levels (c .before .before .before .before .before .before .before .before .before)) (is-constructor (c .before .before .before .before .before .before)) (agrees (c .before .before .before .before)) (omega (arith, c .if7 .taken, l .1)))
+    let at-if6 = c .before in
+    let at-before = at-if6 .before .before in
+    let at-before′ = at-before .before .before in
+    let at-before′′ = at-before′ .before .before .before in
+    let at-loop = at-before′′ .before .before .before .before in
+    let l = at-loop .loop .inv in
+    (omega arith, at-before .operands2 .ensures, omega (arith, l .2), omega (arith, at-if6 .if6 .left), l .4, going-down (l .5) (turn (at-before′′ .before)) (at-before′′ .if1 .left) (levels (at-before′′ .before)) (is-constructor (at-before′ .before)) (agrees (at-before .before)) (omega (arith, c .if7 .taken, l .1)))
 
 done-requires : tie.Need-done-requires Inv-loop μ-loop
 done-requires c κs = search needs
@@ -179,7 +222,15 @@ sub-fits : tie.Need-sub-fits Inv-loop μ-loop
 sub-fits c = search needs
 
 fits-requires : tie.Need-fits-requires Inv-loop μ-loop
-fits-requires c κs = (c .before .before .before .before .before .before .before .before .before .before .before .before .before .before .before .before .before .pre .0, operand-is (turn (c .before .before .before .before .before .before .before .before .before .before .before)) .0, is-constructor (c .before .before .before .before .before .before .before .before), handed (turn (c .before .before .before .before .before .before .before .before .before .before .before)) (c .before .before .before .before .before .before .before .before .before .before .if1 .left) (levels (c .before .before .before .before .before .before .before .before .before .before .before)) (is-constructor (c .before .before .before .before .before .before .before .before)) (agrees (c .before .before .before .before .before .before)) (c .before .done .ensures), omega (arith, c .before .before .before .if6 .left, c .before .before .before .before .before .before .before .before .before .before .before .before .before .before .loop .inv .3))
+fits-requires c κs =
+    let at-done = c .before in
+    let at-if6 = at-done .before .before in
+    let at-before = at-if6 .before .before in
+    let at-before′ = at-before .before .before in
+    let at-before′′ = at-before′ .before .before .before in
+    let at-loop = at-before′′ .before .before .before .before in
+    let start = at-loop .before .before .before in
+    (start .pre .0, operand-is (turn (at-before′′ .before)) .0, is-constructor (at-before′ .before), handed (turn (at-before′′ .before)) (at-before′′ .if1 .left) (levels (at-before′′ .before)) (is-constructor (at-before′ .before)) (agrees (at-before .before)) (at-done .done .ensures), omega (arith, at-if6 .if6 .left, at-loop .loop .inv .3))
 
 told-requires-2 : tie.Need-told-requires-2 Inv-loop μ-loop
 told-requires-2 c κs = search needs
@@ -188,24 +239,44 @@ enum-known-left-2 : tie.Need-enum-known-left-2 Inv-loop μ-loop
 enum-known-left-2 c = search needs
 
 returns-5 : tie.Need-returns-5 Inv-loop μ-loop
-returns-5 c = c .before .before .before .before .before .before .before .before .before .before .before .before .before .before .before .before .before .loop .inv .5 .whole _ _ (inner-refused (turn (c .before .before .before .before .before .before .before .before .before .before .before .before .before .before)) (c .before .before .before .before .before .before .before .before .before .before .before .before .before .if1 .left) (levels (c .before .before .before .before .before .before .before .before .before .before .before .before .before .before)) (is-constructor (c .before .before .before .before .before .before .before .before .before .before .before)) (agrees (c .before .before .before .before .before .before .before .before .before)) (c .before .before .before .before .done .ensures) _ _ (c .before .before .fits2 .ensures) _ (c .before .told2 .ensures) (c .match2 .keys2))
+returns-5 c =
+    let at-told2 = c .before in
+    let at-fits2 = at-told2 .before in
+    let at-done = at-fits2 .before .before in
+    let at-before = at-done .before .before .before .before in
+    let at-before′ = at-before .before .before in
+    let at-before′′ = at-before′ .before .before .before in
+    let at-loop = at-before′′ .before .before .before .before in
+    at-loop .loop .inv .5 .whole _ _ (inner-refused (turn (at-before′′ .before)) (at-before′′ .if1 .left) (levels (at-before′′ .before)) (is-constructor (at-before′ .before)) (agrees (at-before .before)) (at-done .done .ensures) _ _ (at-fits2 .fits2 .ensures) _ (at-told2 .told2 .ensures) (c .match2 .keys2))
 
 loop-less-4 : tie.Need-loop-less-4 Inv-loop μ-loop
 loop-less-4 c = omega arith
 
 loop-again-4 : tie.Need-loop-again-4 Inv-loop μ-loop
 loop-again-4 c =
-    let l = c .before .before .before .before .before .before .before .before .before .before .before .before .before .before .before .before .before .before .before .before .before .loop .inv in
-    let f = inner-matched (turn (c .before .before .before .before .before .before .before .before .before .before .before .before .before .before .before .before .before .before)) (c .before .before .before .before .before .before .before .before .before .before .before .before .before .before .before .before .before .if1 .left) (levels (c .before .before .before .before .before .before .before .before .before .before .before .before .before .before .before .before .before .before)) (is-constructor (c .before .before .before .before .before .before .before .before .before .before .before .before .before .before .before)) (agrees (c .before .before .before .before .before .before .before .before .before .before .before .before .before)) (c .before .before .before .before .before .before .before .before .done .ensures) _ _ (c .before .before .before .before .before .before .fits2 .ensures) _ (c .before .before .before .before .before .told2 .ensures) _ _ (c .before .before .before .left2 .given .1) in
-    (omega arith, l .1, omega (arith, done-node _ _ _ (sym (c .before .before .before .before .before .told2 .ensures) ∙ c .before .before .before .left2 .given .1)), l .3, going-long (l .5) (l .4) f, going-on (l .5) f)
+    let at-left2 = c .before .before .before in
+    let at-told2 = at-left2 .before .before in
+    let at-fits2 = at-told2 .before in
+    let at-done = at-fits2 .before .before in
+    let at-before = at-done .before .before .before .before in
+    let at-before′ = at-before .before .before in
+    let at-before′′ = at-before′ .before .before .before in
+    let at-loop = at-before′′ .before .before .before .before in
+    let l = at-loop .loop .inv in
+    let f = inner-matched (turn (at-before′′ .before)) (at-before′′ .if1 .left) (levels (at-before′′ .before)) (is-constructor (at-before′ .before)) (agrees (at-before .before)) (at-done .done .ensures) _ _ (at-fits2 .fits2 .ensures) _ (at-told2 .told2 .ensures) _ _ (at-left2 .left2 .given .1) in
+    (omega arith, l .1, omega (arith, done-node _ _ _ (sym (at-told2 .told2 .ensures) ∙ at-left2 .left2 .given .1)), l .3, going-long (l .5) (l .4) f, going-on (l .5) f)
 
 loop-less-5 : tie.Need-loop-less-5 Inv-loop μ-loop
 loop-less-5 c = omega arith
 
 loop-again-5 : tie.Need-loop-again-5 Inv-loop μ-loop
 loop-again-5 c =
-    let l = c .before .before .before .before .before .before .before .before .before .before .loop .inv in
-    let f = leaf-matched (turn (c .before .before .before .before .before .before .before)) (c .before .before .before .before .before .before .if1 .left) (levels (c .before .before .before .before .before .before .before)) (is-constructor (c .before .before .before .before)) (agrees (c .before .before)) (sym (c .before .operands2 .ensures) ∙ c .if5 .left) in
+    let at-before = c .before in
+    let at-before′ = at-before .before .before in
+    let at-before′′ = at-before′ .before .before .before in
+    let at-loop = at-before′′ .before .before .before .before in
+    let l = at-loop .loop .inv in
+    let f = leaf-matched (turn (at-before′′ .before)) (at-before′′ .if1 .left) (levels (at-before′′ .before)) (is-constructor (at-before′ .before)) (agrees (at-before .before)) (sym (at-before .operands2 .ensures) ∙ c .if5 .left) in
     (omega arith, l .1, omega (arith, l .2), l .3, going-long (l .5) (l .4) f, going-on (l .5) f)
 
 done-requires-2 : tie.Need-done-requires-2 Inv-loop μ-loop

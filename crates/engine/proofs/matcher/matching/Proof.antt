@@ -83,13 +83,34 @@ enum-known-u : tie.Need-enum-known-u
 enum-known-u c = search needs
 
 returns-3 : tie.Need-returns-3
-returns-3 c = root-bound-stops (c .before .before .before .before .before .before .before .before .before .before .before .before .before .pre .0) _ (c .before .before .before .before .before .before .before .before .before .before .before .if1 .left) (c .before .before .before .before .before .before .before .before .before .before .if2 .left) (is-variable (c .before .before .before .before .before .before .before)) (c .before .before .before .before .before .before .before .entry .ensures) (sym (c .before .before .before .before .before .bit .ensures) ∙ c .before .before .before .before .if4 .taken) _ (c .before .before .same .ensures _ (held (c .before .before .before .before .before .before .before .before .before .before .before .before .before .args .st .now)) (markOf (c .before .before .before .before .before .before .before .before .before .before .before .before .before .args .st .now))) _ (c .before .told .ensures) (c .match .keys2)
+returns-3 c =
+    let at-told = c .before in
+    let at-same = at-told .before in
+    let at-if4 = at-same .before .before in
+    let at-bit = at-if4 .before in
+    let at-before = at-bit .before in
+    let at-entry = at-before .before in
+    let at-if2 = at-entry .before .before .before in
+    let at-if1 = at-if2 .before in
+    let start = at-if1 .before .before in
+    root-bound-stops (start .pre .0) _ (at-if1 .if1 .left) (at-if2 .if2 .left) (is-variable (at-before .before)) (at-entry .entry .ensures) (sym (at-bit .bit .ensures) ∙ at-if4 .if4 .taken) _ (at-same .same .ensures _ (held (start .args .st .now)) (markOf (start .args .st .now))) _ (at-told .told .ensures) (c .match .keys2)
 
 done-requires : tie.Need-done-requires
 done-requires c κs = search needs
 
 returns-4 : tie.Need-returns-4
-returns-4 c = root-bound (c .before .before .before .before .before .before .before .before .before .before .before .before .before .before .before .before .pre .0) _ (c .before .before .before .before .before .before .before .before .before .before .before .before .before .before .if1 .left) (c .before .before .before .before .before .before .before .before .before .before .before .before .before .if2 .left) (is-variable (c .before .before .before .before .before .before .before .before .before .before)) (c .before .before .before .before .before .before .before .before .before .before .entry .ensures) (sym (c .before .before .before .before .before .before .before .before .bit .ensures) ∙ c .before .before .before .before .before .before .before .if4 .taken) _ (c .before .before .before .before .before .same .ensures _ (held (c .before .before .before .before .before .before .before .before .before .before .before .before .before .before .before .before .args .st .now)) (markOf (c .before .before .before .before .before .before .before .before .before .before .before .before .before .before .before .before .args .st .now))) _ (c .before .before .before .before .told .ensures) _ _ _ (c .before .before .u .given .1) (c .done .ensures)
+returns-4 c =
+    let at-u = c .before .before in
+    let at-told = at-u .before .before in
+    let at-same = at-told .before in
+    let at-if4 = at-same .before .before in
+    let at-bit = at-if4 .before in
+    let at-before = at-bit .before in
+    let at-entry = at-before .before in
+    let at-if2 = at-entry .before .before .before in
+    let at-if1 = at-if2 .before in
+    let start = at-if1 .before .before in
+    root-bound (start .pre .0) _ (at-if1 .if1 .left) (at-if2 .if2 .left) (is-variable (at-before .before)) (at-entry .entry .ensures) (sym (at-bit .bit .ensures) ∙ at-if4 .if4 .taken) _ (at-same .same .ensures _ (held (start .args .st .now)) (markOf (start .args .st .now))) _ (at-told .told .ensures) _ _ _ (at-u .u .given .1) (c .done .ensures)
 
 bind-requires : tie.Need-bind-requires
 bind-requires c κs = let v = small (c .before .before .before .before) in omega arith
@@ -98,7 +119,16 @@ sub-result : tie.Need-sub-result
 sub-result c = search needs
 
 returns-5 : tie.Need-returns-5
-returns-5 c = root-free (c .before .before .before .before .before .before .before .before .before .before .before .before .pre .0) _ (c .before .before .before .before .before .before .before .before .before .before .if1 .left) (c .before .before .before .before .before .before .before .before .before .if2 .left) (is-variable (c .before .before .before .before .before .before)) (c .before .before .before .before .before .before .entry .ensures) (λ e. c .before .before .before .if4 .left (c .before .before .before .before .bit .ensures ∙ e)) (c .before .bind .ensures)
+returns-5 c =
+    let at-bind = c .before in
+    let at-if4 = at-bind .before .before in
+    let at-bit = at-if4 .before in
+    let at-before = at-bit .before in
+    let at-entry = at-before .before in
+    let at-if2 = at-entry .before .before .before in
+    let at-if1 = at-if2 .before in
+    let start = at-if1 .before .before in
+    root-free (start .pre .0) _ (at-if1 .if1 .left) (at-if2 .if2 .left) (is-variable (at-before .before)) (at-entry .entry .ensures) (λ e. at-if4 .if4 .left (at-bit .bit .ensures ∙ e)) (at-bind .bind .ensures)
 
 agree-requires : tie.Need-agree-requires
 agree-requires c κs = search needs
@@ -110,7 +140,13 @@ failure-requires : tie.Need-failure-requires
 failure-requires c κs = search needs
 
 returns-6 : tie.Need-returns-6
-returns-6 c = root-other (c .before .before .before .before .before .before .before .before .pre .0) _ (c .before .before .before .before .before .before .if1 .left) (c .before .before .before .before .before .if2 .left) (is-constructor (c .before .before .before)) (c .failure .ensures) (sym (c .before .before .agree .ensures) ∙ not-true _ (c .before .if5 .taken))
+returns-6 c =
+    let at-if5 = c .before in
+    let at-agree = at-if5 .before in
+    let at-if2 = at-agree .before .before .before in
+    let at-if1 = at-if2 .before in
+    let start = at-if1 .before .before in
+    root-other (start .pre .0) _ (at-if1 .if1 .left) (at-if2 .if2 .left) (is-constructor (at-agree .before)) (c .failure .ensures) (sym (at-agree .agree .ensures) ∙ not-true _ (at-if5 .if5 .taken))
 
 operands-requires : tie.Need-operands-requires
 operands-requires c κs = search needs
@@ -119,7 +155,13 @@ sub-result-2 : tie.Need-sub-result-2
 sub-result-2 c = search needs
 
 returns-7 : tie.Need-returns-7
-returns-7 c = root-leaf (c .before .before .before .before .before .before .before .before .before .pre .0) _ (c .before .before .before .before .before .before .before .if1 .left) (c .before .before .before .before .before .before .if2 .left) (is-constructor (c .before .before .before .before)) (agrees (c .before .before)) (sym (c .before .operands .ensures) ∙ c .if6 .taken)
+returns-7 c =
+    let at-before = c .before in
+    let at-before′ = at-before .before .before in
+    let at-if2 = at-before′ .before .before .before in
+    let at-if1 = at-if2 .before in
+    let start = at-if1 .before .before in
+    root-leaf (start .pre .0) _ (at-if1 .if1 .left) (at-if2 .if2 .left) (is-constructor (at-before′ .before)) (agrees (at-before .before)) (sym (at-before .operands .ensures) ∙ c .if6 .taken)
 
 sub-stopped : tie.Need-sub-stopped
 sub-stopped c = search needs
@@ -128,7 +170,15 @@ stopped-requires : tie.Need-stopped-requires
 stopped-requires c κs = search needs
 
 returns-8 : tie.Need-returns-8
-returns-8 c = root-stopped (c .before .before .before .before .before .before .before .before .before .before .before .pre .0) _ (c .before .before .before .before .before .before .before .before .before .if1 .left) (c .before .before .before .before .before .before .before .before .if2 .left) (is-constructor (c .before .before .before .before .before .before)) (agrees (c .before .before .before .before)) (λ z. c .before .before .if6 .left (c .before .before .before .operands .ensures ∙ z)) (c .before .if7 .taken) (c .stopped .ensures)
+returns-8 c =
+    let at-if7 = c .before in
+    let at-if6 = at-if7 .before in
+    let at-before = at-if6 .before in
+    let at-before′ = at-before .before .before in
+    let at-if2 = at-before′ .before .before .before in
+    let at-if1 = at-if2 .before in
+    let start = at-if1 .before .before in
+    root-stopped (start .pre .0) _ (at-if1 .if1 .left) (at-if2 .if2 .left) (is-constructor (at-before′ .before)) (agrees (at-before .before)) (λ z. at-if6 .if6 .left (at-before .operands .ensures ∙ z)) (at-if7 .if7 .taken) (c .stopped .ensures)
 
 sub-filled : tie.Need-sub-filled
 sub-filled c = search needs
@@ -137,7 +187,14 @@ sub-filled-2 : tie.Need-sub-filled-2
 sub-filled-2 c = search needs
 
 filled-requires : tie.Need-filled-requires
-filled-requires c κs = (c .before .before .before .before .before .before .before .before .before .before .before .pre .0 .entries, c .before .before .before .before .before .before .before .before .before .before .before .pre .0 .inside, is-constructor (c .before .before .before .before .before .before), root-handed (c .before .before .before .before .before .before .before .before .before .before .before .pre .0) _ (c .before .before .before .before .before .before .before .before .before .if1 .left) (c .before .before .before .before .before .before .before .before .if2 .left) (is-constructor (c .before .before .before .before .before .before)) (agrees (c .before .before .before .before)), omega (arith, c .before .if7 .left), c .before .before .before .before .before .before .before .before .before .before .before .pre .0 .long)
+filled-requires c κs =
+    let at-if7 = c .before in
+    let at-before = at-if7 .before .before in
+    let at-before′ = at-before .before .before in
+    let at-if2 = at-before′ .before .before .before in
+    let at-if1 = at-if2 .before in
+    let start = at-if1 .before .before in
+    (start .pre .0 .entries, start .pre .0 .inside, is-constructor (at-before′ .before), root-handed (start .pre .0) _ (at-if1 .if1 .left) (at-if2 .if2 .left) (is-constructor (at-before′ .before)) (agrees (at-before .before)), omega (arith, at-if7 .if7 .left), start .pre .0 .long)
 
 told-requires-2 : tie.Need-told-requires-2
 told-requires-2 c κs = search needs
@@ -146,13 +203,30 @@ enum-known-u-2 : tie.Need-enum-known-u-2
 enum-known-u-2 c = search needs
 
 returns-9 : tie.Need-returns-9
-returns-9 c = root-stops (c .before .before .before .before .before .before .before .before .before .before .before .before .before .before .pre .0) _ (c .before .before .before .before .before .before .before .before .before .before .before .before .if1 .left) (c .before .before .before .before .before .before .before .before .before .before .before .if2 .left) (is-constructor (c .before .before .before .before .before .before .before .before .before)) (agrees (c .before .before .before .before .before .before .before)) _ _ (c .before .before .filled .ensures) _ (c .before .told2 .ensures) (c .match2 .keys2)
+returns-9 c =
+    let at-told2 = c .before in
+    let at-filled = at-told2 .before in
+    let at-before = at-filled .before .before .before .before in
+    let at-before′ = at-before .before .before in
+    let at-if2 = at-before′ .before .before .before in
+    let at-if1 = at-if2 .before in
+    let start = at-if1 .before .before in
+    root-stops (start .pre .0) _ (at-if1 .if1 .left) (at-if2 .if2 .left) (is-constructor (at-before′ .before)) (agrees (at-before .before)) _ _ (at-filled .filled .ensures) _ (at-told2 .told2 .ensures) (c .match2 .keys2)
 
 done-requires-2 : tie.Need-done-requires-2
 done-requires-2 c κs = search needs
 
 returns-10 : tie.Need-returns-10
-returns-10 c = root-fits (c .before .before .before .before .before .before .before .before .before .before .before .before .before .before .before .before .before .pre .0) _ (c .before .before .before .before .before .before .before .before .before .before .before .before .before .before .before .if1 .left) (c .before .before .before .before .before .before .before .before .before .before .before .before .before .before .if2 .left) (is-constructor (c .before .before .before .before .before .before .before .before .before .before .before .before)) (agrees (c .before .before .before .before .before .before .before .before .before .before)) _ _ (c .before .before .before .before .before .filled .ensures) _ (c .before .before .before .before .told2 .ensures) _ _ _ (c .before .before .u2 .given .1) (c .done2 .ensures)
+returns-10 c =
+    let at-u2 = c .before .before in
+    let at-told2 = at-u2 .before .before in
+    let at-filled = at-told2 .before in
+    let at-before = at-filled .before .before .before .before in
+    let at-before′ = at-before .before .before in
+    let at-if2 = at-before′ .before .before .before in
+    let at-if1 = at-if2 .before in
+    let start = at-if1 .before .before in
+    root-fits (start .pre .0) _ (at-if1 .if1 .left) (at-if2 .if2 .left) (is-constructor (at-before′ .before)) (agrees (at-before .before)) _ _ (at-filled .filled .ensures) _ (at-told2 .told2 .ensures) _ _ _ (at-u2 .u2 .given .1) (c .done2 .ensures)
 
 pub matching-spec : {M : Type 1} → statement M
 matching-spec =

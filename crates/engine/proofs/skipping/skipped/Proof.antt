@@ -32,7 +32,14 @@ returns-4 : tie.Need-returns-4
 returns-4 c = skips-none _
 
 returns-5 : tie.Need-returns-5
-returns-5 c = skips-hint (c .before .before .before .before .before .before .before .before .pre .0) (c .before .before .before .before .before .before .before .before .pre .1) (c .before .before .before .before .before .before .before .before .pre .3) (c .before .before .before .before .before .before .entry .ensures) (c .before .before .before .before .entry2 .ensures) (sym (c .before .before .before .agree .ensures) ∙ c .before .before .if2 .left) (omega (arith, c .if4 .left)) (omega (arith, c .before .if3 .left))
+returns-5 c =
+    let at-if3 = c .before in
+    let at-if2 = at-if3 .before in
+    let at-agree = at-if2 .before in
+    let at-entry2 = at-agree .before in
+    let at-entry = at-entry2 .before .before in
+    let start = at-entry .before .before in
+    skips-hint (start .pre .0) (start .pre .1) (start .pre .3) (at-entry .entry .ensures) (at-entry2 .entry2 .ensures) (sym (at-agree .agree .ensures) ∙ at-if2 .if2 .left) (omega (arith, c .if4 .left)) (omega (arith, at-if3 .if3 .left))
 
 pub skipped-spec : {M : Type 1} → statement M
 skipped-spec =

@@ -27,10 +27,14 @@ pass-requires c κs =
 
 loop-less : tie.Need-loop-less Inv-loop μ-loop
 loop-less c =
-    let l = c .before .before .before .before .before .loop in
-    let p = c .before .before .pass in
-    rw (c .before .before .before .before .loop-test .taken)
-    (omega (arith, turn-less (c .before .before .before .before .before .before .before .before .args .table .now) (l .masks) (c .before .before .before .before .before .before .before .before .pre .0) (l .inv .1 .0) (p .result) (p .last .1 .0) (p .ensures .0) (p .ensures .1)))
+    let at-pass = c .before .before in
+    let at-loop-test = at-pass .before .before in
+    let at-loop = at-loop-test .before in
+    let start = at-loop .before .before .before in
+    let l = at-loop .loop in
+    let p = at-pass .pass in
+    rw (at-loop-test .loop-test .taken)
+    (omega (arith, turn-less (start .args .table .now) (l .masks) (start .pre .0) (l .inv .1 .0) (p .result) (p .last .1 .0) (p .ensures .0) (p .ensures .1)))
 
 loop-again : tie.Need-loop-again Inv-loop μ-loop
 loop-again c =

@@ -22,26 +22,42 @@ same-length : tie.Need-same-length
 same-length c = search needs
 
 returns : tie.Need-returns
-returns c = rw (answered-alone (c .before .before .before .before .before .before .before .before .before .args .a) (c .before .before .before .before .before .before .before .before .before .args .p) (c .before .before .before .before .before .before .before .before .before .args .s) (c .before .before .before .before .before .before .before .before .before .args .m) (c .before .before .before .before .before .before .before .before .before .args .u) (c .before .before .before .before .before .before .before .before .before .args .store .now) (c .before .before .before .before .before .before .before .before .before .args .bindings .now) (sym (c .before .shows .ensures) ∙ not-true _ (c .if1 .taken))) (c .before .before .before .before .put-line .ensures)
+returns c =
+    let at-shows = c .before in
+    let at-put-line = at-shows .before .before .before in
+    let start = at-put-line .before .before .before .before .before in
+    rw (answered-alone (start .args .a) (start .args .p) (start .args .s) (start .args .m) (start .args .u) (start .args .store .now) (start .args .bindings .now) (sym (at-shows .shows .ensures) ∙ not-true _ (c .if1 .taken))) (at-put-line .put-line .ensures)
 
 put-nodes-requires : tie.Need-put-nodes-requires
-put-nodes-requires c κs = omega (arith, c .before .before .before .before .before .before .before .before .before .before .pre .0, c .before .before .before .before .before .before .before .before .before .before .pre .1, c .before .before .before .before .before .put-line .ensures .place, c .before .before .before .before .before .put-line .kept .0, length-answerLine (c .before .before .before .before .before .before .before .before .before .before .args .a) (c .before .before .before .before .before .before .before .before .before .before .args .p) (c .before .before .before .before .before .before .before .before .before .before .args .s) (c .before .before .before .before .before .before .before .before .before .before .args .m) (c .before .before .before .before .before .before .before .before .before .before .args .u))
+put-nodes-requires c κs =
+    let at-put-line = c .before .before .before .before .before in
+    let start = at-put-line .before .before .before .before .before in
+    omega (arith, start .pre .0, start .pre .1, at-put-line .put-line .ensures .place, at-put-line .put-line .kept .0, length-answerLine (start .args .a) (start .args .p) (start .args .s) (start .args .m) (start .args .u))
 
 put-bindings-requires : tie.Need-put-bindings-requires
-put-bindings-requires c κs = (
-  omega (arith, c .before .before .before .before .before .before .before .before .before .before .before .before .before .before .pre .0, c .before .before .before .before .before .before .before .before .before .before .before .before .before .before .pre .1, c .before .before .before .before .before .before .before .before .before .put-line .ensures .place, c .before .before .before .before .before .before .before .before .before .put-line .kept .0, length-answerLine (c .before .before .before .before .before .before .before .before .before .before .before .before .before .before .args .a) (c .before .before .before .before .before .before .before .before .before .before .before .before .before .before .args .p) (c .before .before .before .before .before .before .before .before .before .before .before .before .before .before .args .s) (c .before .before .before .before .before .before .before .before .before .before .before .before .before .before .args .m) (c .before .before .before .before .before .before .before .before .before .before .before .before .before .before .args .u), c .before .before .before .put-nodes .ensures .place, c .before .before .before .put-nodes .kept .0, length-nodes (c .before .before .before .before .before .before .before .before .before .before .before .before .before .before .args .store .now) (c .before .before .before .before .before .before .before .before .before .before .before .before .before .before .args .m)),
-  c .before .before .before .before .before .before .before .before .before .before .before .before .before .before .pre .2,
-)
+put-bindings-requires c κs =
+    let at-put-nodes = c .before .before .before in
+    let at-put-line = at-put-nodes .before .before .before .before .before .before in
+    let start = at-put-line .before .before .before .before .before in (
+      omega (arith, start .pre .0, start .pre .1, at-put-line .put-line .ensures .place, at-put-line .put-line .kept .0, length-answerLine (start .args .a) (start .args .p) (start .args .s) (start .args .m) (start .args .u), at-put-nodes .put-nodes .ensures .place, at-put-nodes .put-nodes .kept .0, length-nodes (start .args .store .now) (start .args .m)),
+      start .pre .2,
+    )
 
 same-length-2 : tie.Need-same-length-2
 same-length-2 c = search needs
 
 returns-2 : tie.Need-returns-2
 returns-2 c =
-    rw (answered-shown (c .before .before .before .before .before .before .before .before .before .before .before .before .before .before .before .before .before .args .a) (c .before .before .before .before .before .before .before .before .before .before .before .before .before .before .before .before .before .args .p) (c .before .before .before .before .before .before .before .before .before .before .before .before .before .before .before .before .before .args .s) (c .before .before .before .before .before .before .before .before .before .before .before .before .before .before .before .before .before .args .m) (c .before .before .before .before .before .before .before .before .before .before .before .before .before .before .before .before .before .args .u) (c .before .before .before .before .before .before .before .before .before .before .before .before .before .before .before .before .before .args .store .now) (c .before .before .before .before .before .before .before .before .before .before .before .before .before .before .before .before .before .args .bindings .now) (sym (c .before .before .before .before .before .before .before .before .before .shows .ensures) ∙ not-false _ (c .before .before .before .before .before .before .before .before .if1 .left)))
-    (put-more (omega (arith, c .before .before .before .before .before .before .before .before .before .before .before .before .before .before .before .before .before .pre .0, c .before .before .before .before .before .before .before .before .before .before .before .before .before .before .before .before .before .pre .1, length-answerLine (c .before .before .before .before .before .before .before .before .before .before .before .before .before .before .before .before .before .args .a) (c .before .before .before .before .before .before .before .before .before .before .before .before .before .before .before .before .before .args .p) (c .before .before .before .before .before .before .before .before .before .before .before .before .before .before .before .before .before .args .s) (c .before .before .before .before .before .before .before .before .before .before .before .before .before .before .before .before .before .args .m) (c .before .before .before .before .before .before .before .before .before .before .before .before .before .before .before .before .before .args .u), length-nodes (c .before .before .before .before .before .before .before .before .before .before .before .before .before .before .before .before .before .args .store .now) (c .before .before .before .before .before .before .before .before .before .before .before .before .before .before .before .before .before .args .m), length-append (answerLine (c .before .before .before .before .before .before .before .before .before .before .before .before .before .before .before .before .before .args .a ∷ c .before .before .before .before .before .before .before .before .before .before .before .before .before .before .before .before .before .args .p ∷ c .before .before .before .before .before .before .before .before .before .before .before .before .before .before .before .before .before .args .s ∷ c .before .before .before .before .before .before .before .before .before .before .before .before .before .before .before .before .before .args .m ∷ c .before .before .before .before .before .before .before .before .before .before .before .before .before .before .before .before .before .args .u ∷ [])) (written (nodeLines (c .before .before .before .before .before .before .before .before .before .before .before .before .before .before .before .before .before .args .store .now) (c .before .before .before .before .before .before .before .before .before .before .before .before .before .before .before .before .before .args .m)))))
-    (put-more (omega (arith, c .before .before .before .before .before .before .before .before .before .before .before .before .before .before .before .before .before .pre .0, length-answerLine (c .before .before .before .before .before .before .before .before .before .before .before .before .before .before .before .before .before .args .a) (c .before .before .before .before .before .before .before .before .before .before .before .before .before .before .before .before .before .args .p) (c .before .before .before .before .before .before .before .before .before .before .before .before .before .before .before .before .before .args .s) (c .before .before .before .before .before .before .before .before .before .before .before .before .before .before .before .before .before .args .m) (c .before .before .before .before .before .before .before .before .before .before .before .before .before .before .before .before .before .args .u))) (c .before .before .before .before .before .before .before .before .before .before .before .before .put-line .ensures) (c .before .before .before .before .before .before .put-nodes .ensures))
-    (c .before .before .put-bindings .ensures))
+    let at-put-bindings = c .before .before in
+    let at-put-nodes = at-put-bindings .before .before .before .before in
+    let at-if1 = at-put-nodes .before .before in
+    let at-shows = at-if1 .before in
+    let at-put-line = at-shows .before .before .before in
+    let start = at-put-line .before .before .before .before .before in
+    rw (answered-shown (start .args .a) (start .args .p) (start .args .s) (start .args .m) (start .args .u) (start .args .store .now) (start .args .bindings .now) (sym (at-shows .shows .ensures) ∙ not-false _ (at-if1 .if1 .left)))
+    (put-more (omega (arith, start .pre .0, start .pre .1, length-answerLine (start .args .a) (start .args .p) (start .args .s) (start .args .m) (start .args .u), length-nodes (start .args .store .now) (start .args .m), length-append (answerLine (start .args .a ∷ start .args .p ∷ start .args .s ∷ start .args .m ∷ start .args .u ∷ [])) (written (nodeLines (start .args .store .now) (start .args .m)))))
+    (put-more (omega (arith, start .pre .0, length-answerLine (start .args .a) (start .args .p) (start .args .s) (start .args .m) (start .args .u))) (at-put-line .put-line .ensures) (at-put-nodes .put-nodes .ensures))
+    (at-put-bindings .put-bindings .ensures))
 
 pub answer-spec : {M : Type 1} → statement M
 answer-spec =

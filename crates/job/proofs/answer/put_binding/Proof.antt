@@ -28,7 +28,12 @@ same-length : tie.Need-same-length
 same-length c = search needs
 
 returns-2 : tie.Need-returns-2
-returns-2 c = rw (written-bound (c .before .before .before .before .before .before .before .before .before .before .before .before .args .bindings .now) (c .before .before .before .before .before .before .before .before .before .before .before .before .args .v) (c .before .before .before .before .before .before .before .before .if1 .left)) (put-more (omega (arith, c .before .before .before .before .before .before .before .before .before .before .before .before .pre .0)) (c .before .before .before .before .before .before .put-byte .ensures) (c .before .before .put-rest .ensures))
+returns-2 c =
+    let at-put-rest = c .before .before in
+    let at-put-byte = at-put-rest .before .before .before .before in
+    let at-if1 = at-put-byte .before .before in
+    let start = at-if1 .before .before .before .before in
+    rw (written-bound (start .args .bindings .now) (start .args .v) (at-if1 .if1 .left)) (put-more (omega (arith, start .pre .0)) (at-put-byte .put-byte .ensures) (at-put-rest .put-rest .ensures))
 
 pub put-binding-spec : {M : Type 1} → statement M
 put-binding-spec =

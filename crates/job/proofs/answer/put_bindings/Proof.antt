@@ -22,7 +22,11 @@ loop-holds : tie.Need-loop-holds Inv-loop μ-loop
 loop-holds c = (omega arith, refl, bindings-none (c .before .before .args .buf .now) (c .before .before .args .bindings .now) (c .before .before .args .start))
 
 put-binding-requires : tie.Need-put-binding-requires Inv-loop μ-loop
-put-binding-requires c κs = (omega (arith, c .before .before .before .before .before .pre .0, c .before .before .loop .inv .1, c .before .before .loop .inv .2 .place, length-bindings (c .before .before .before .before .before .args .bindings .now) (c .before .before .loop .v), c .before .loop-test .taken), omega (arith, c .before .before .before .before .before .pre .1, c .before .loop-test .taken))
+put-binding-requires c κs =
+    let at-loop-test = c .before in
+    let at-loop = at-loop-test .before in
+    let start = at-loop .before .before .before in
+    (omega (arith, start .pre .0, at-loop .loop .inv .1, at-loop .loop .inv .2 .place, length-bindings (start .args .bindings .now) (at-loop .loop .v), at-loop-test .loop-test .taken), omega (arith, start .pre .1, at-loop-test .loop-test .taken))
 
 add-v : tie.Need-add-v Inv-loop μ-loop
 add-v c = search needs
@@ -31,7 +35,12 @@ loop-less : tie.Need-loop-less Inv-loop μ-loop
 loop-less c = search needs
 
 loop-again : tie.Need-loop-again Inv-loop μ-loop
-loop-again c = (omega arith, c .before .before .put-binding .kept .0 ∙ c .before .before .before .before .before .loop .inv .1, bindings-more (c .before .before .before .before .before .before .before .before .args .bindings .now) (c .before .before .before .before .before .loop .v) (omega (arith, c .before .before .before .before .before .before .before .before .pre .0, c .before .before .before .before .loop-test .taken)) (c .before .before .before .before .before .loop .inv .2) (c .before .before .put-binding .ensures))
+loop-again c =
+    let at-put-binding = c .before .before in
+    let at-loop-test = at-put-binding .before .before in
+    let at-loop = at-loop-test .before in
+    let start = at-loop .before .before .before in
+    (omega arith, at-put-binding .put-binding .kept .0 ∙ at-loop .loop .inv .1, bindings-more (start .args .bindings .now) (at-loop .loop .v) (omega (arith, start .pre .0, at-loop-test .loop-test .taken)) (at-loop .loop .inv .2) (at-put-binding .put-binding .ensures))
 
 same-length : tie.Need-same-length Inv-loop μ-loop
 same-length c = search needs

@@ -22,7 +22,14 @@ same-length : tie.Need-same-length
 same-length c = search needs
 
 returns : tie.Need-returns
-returns c = node-put (c .before .before .before .before .before .before .before .before .before .before .before .before .before .args .store .now) (c .before .before .before .before .before .before .before .before .before .before .before .before .before .args .k) 7 (c .before .before .before .before .before .before .before .before .before .node-shown .result) (omega (arith, c .before .before .before .before .before .before .before .before .before .before .before .before .before .pre)) (c .before .before .before .before .before .before .before .before .before .node-shown .ensures) (omega (arith, c .before .before .before .before .before .before .before .before .before .before .word .ensures, c .before .before .before .before .if1 .taken)) (c .before .before .before .before .before .before .before .put-byte .ensures) (c .before .before .put-rest .ensures)
+returns c =
+    let at-put-rest = c .before .before in
+    let at-if1 = at-put-rest .before .before in
+    let at-put-byte = at-if1 .before .before .before in
+    let at-node-shown = at-put-byte .before .before in
+    let at-word = at-node-shown .before in
+    let start = at-word .before .before .before in
+    node-put (start .args .store .now) (start .args .k) 7 (at-node-shown .node-shown .result) (omega (arith, start .pre)) (at-node-shown .node-shown .ensures) (omega (arith, at-word .word .ensures, at-if1 .if1 .taken)) (at-put-byte .put-byte .ensures) (at-put-rest .put-rest .ensures)
 
 cast-put-rest : tie.Need-cast-put-rest
 cast-put-rest c = search needs
@@ -37,7 +44,14 @@ same-length-2 : tie.Need-same-length-2
 same-length-2 c = search needs
 
 returns-2 : tie.Need-returns-2
-returns-2 c = node-put (c .before .before .before .before .before .before .before .before .before .before .before .before .before .args .store .now) (c .before .before .before .before .before .before .before .before .before .before .before .before .before .args .k) (c .before .before .before .before .before .before .before .before .before .before .word .result + 1) (c .before .before .before .before .before .before .before .before .before .node-shown .result) (omega (arith, c .before .before .before .before .before .before .before .before .before .before .before .before .before .pre)) (c .before .before .before .before .before .before .before .before .before .node-shown .ensures) (omega (arith, c .before .before .before .before .before .before .before .before .before .before .word .ensures, c .before .before .before .before .if1 .left)) (c .before .before .before .before .before .before .before .put-byte .ensures) (c .before .before .put-rest2 .ensures)
+returns-2 c =
+    let at-put-rest2 = c .before .before in
+    let at-if1 = at-put-rest2 .before .before in
+    let at-put-byte = at-if1 .before .before .before in
+    let at-node-shown = at-put-byte .before .before in
+    let at-word = at-node-shown .before in
+    let start = at-word .before .before .before in
+    node-put (start .args .store .now) (start .args .k) (at-word .word .result + 1) (at-node-shown .node-shown .result) (omega (arith, start .pre)) (at-node-shown .node-shown .ensures) (omega (arith, at-word .word .ensures, at-if1 .if1 .left)) (at-put-byte .put-byte .ensures) (at-put-rest2 .put-rest2 .ensures)
 
 pub put-node-spec : {M : Type 1} → statement M
 put-node-spec =

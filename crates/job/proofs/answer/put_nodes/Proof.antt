@@ -31,7 +31,12 @@ loop-less : tie.Need-loop-less Inv-loop μ-loop
 loop-less c = search needs
 
 loop-again : tie.Need-loop-again Inv-loop μ-loop
-loop-again c = (omega arith, c .before .before .put-node .kept .0 ∙ c .before .before .before .before .before .loop .inv .1, nodes-more (c .before .before .before .before .before .before .before .before .args .store .now) (c .before .before .before .before .before .loop .k) (omega (arith, c .before .before .before .before .before .before .before .before .pre, c .before .before .before .before .loop-test .taken)) (c .before .before .before .before .before .loop .inv .2) (c .before .before .put-node .ensures))
+loop-again c =
+    let at-put-node = c .before .before in
+    let at-loop-test = at-put-node .before .before in
+    let at-loop = at-loop-test .before in
+    let start = at-loop .before .before .before in
+    (omega arith, at-put-node .put-node .kept .0 ∙ at-loop .loop .inv .1, nodes-more (start .args .store .now) (at-loop .loop .k) (omega (arith, start .pre, at-loop-test .loop-test .taken)) (at-loop .loop .inv .2) (at-put-node .put-node .ensures))
 
 same-length : tie.Need-same-length Inv-loop μ-loop
 same-length c = search needs

@@ -23,10 +23,22 @@ fits-requires : tie.Need-fits-requires
 fits-requires c κs = search needs
 
 returns : tie.Need-returns
-returns c = bad-line (c .before .before .before .before .before .before .before .before .args .line .now) (c .before .before .before .before .before .before .next-at .result) (c .before .before .before .before .before .before .next-at .ensures) (c .before .before .name .result) (c .before .before .before .before .before .before .before .before .args .next) (c .before .before .before .before .before .numbers .result) (c .before .before .name .ensures) (c .before .before .before .before .before .numbers .ensures) (sym (c .before .fits2 .ensures) ∙ not-true _ (c .if1 .taken))
+returns c =
+    let at-fits2 = c .before in
+    let at-name = at-fits2 .before in
+    let at-numbers = at-name .before .before .before in
+    let at-next-at = at-numbers .before in
+    let start = at-next-at .before .before in
+    bad-line (start .args .line .now) (at-next-at .next-at .result) (at-next-at .next-at .ensures) (at-name .name .result) (start .args .next) (at-numbers .numbers .result) (at-name .name .ensures) (at-numbers .numbers .ensures) (sym (at-fits2 .fits2 .ensures) ∙ not-true _ (c .if1 .taken))
 
 returns-2 : tie.Need-returns-2
-returns-2 c = good-line (c .before .before .before .before .before .before .before .before .args .line .now) (c .before .before .before .before .before .before .next-at .result) (c .before .before .before .before .before .before .next-at .ensures) (c .before .before .name .result) (c .before .before .before .before .before .before .before .before .args .next) (c .before .before .before .before .before .numbers .result) (c .before .before .name .ensures) (c .before .before .before .before .before .numbers .ensures) (sym (c .before .fits2 .ensures) ∙ not-false _ (c .if1 .left))
+returns-2 c =
+    let at-fits2 = c .before in
+    let at-name = at-fits2 .before in
+    let at-numbers = at-name .before .before .before in
+    let at-next-at = at-numbers .before in
+    let start = at-next-at .before .before in
+    good-line (start .args .line .now) (at-next-at .next-at .result) (at-next-at .next-at .ensures) (at-name .name .result) (start .args .next) (at-numbers .numbers .result) (at-name .name .ensures) (at-numbers .numbers .ensures) (sym (at-fits2 .fits2 .ensures) ∙ not-false _ (c .if1 .left))
 
 pub line-of-spec : {M : Type 1} → statement M
 line-of-spec =

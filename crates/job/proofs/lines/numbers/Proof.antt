@@ -57,9 +57,15 @@ enum-told c = search needs
 
 returns-2 : tie.Need-returns-2 Inv-loop μ-loop
 returns-2 c =
+    let at-number = c .before .before in
+    let at-next-at = at-number .before .before in
+    let at-if1 = at-next-at .before in
+    let at-loop-test = at-if1 .before in
+    let at-loop = at-loop-test .before in
+    let start = at-loop .before .before in
     sym (ap numbersHeld
-    (sym (c .before .before .before .before .before .before .before .loop .inv .4)
-    ∙ numbers-bad (c .before .before .before .before .before .before .before .before .before .args .line .now) (c .before .before .before .before .before .before .before .loop .i) (c .before .before .before .before .before .before .loop-test .taken) (c .before .before .before .before .before .before .before .loop .inv .2 (c .before .before .before .before .before .before .loop-test .taken)) _ (c .before .before .before .before .before .before .before .loop .count) (c .before .before .before .before .next-at .result) (c .before .before .before .before .next-at .ensures) (c .before .before .before .before .before .if1 .left) (sym (ap valueOf (c .enum-told .given .1)) ∙ c .before .before .number .ensures)))
+    (sym (at-loop .loop .inv .4)
+    ∙ numbers-bad (start .args .line .now) (at-loop .loop .i) (at-loop-test .loop-test .taken) (at-loop .loop .inv .2 (at-loop-test .loop-test .taken)) _ (at-loop .loop .count) (at-next-at .next-at .result) (at-next-at .next-at .ensures) (at-if1 .if1 .left) (sym (ap valueOf (c .enum-told .given .1)) ∙ at-number .number .ensures)))
 
 cast-at : tie.Need-cast-at Inv-loop μ-loop
 cast-at c = search needs
@@ -74,18 +80,30 @@ add-count : tie.Need-add-count Inv-loop μ-loop
 add-count c = search needs
 
 loop-less : tie.Need-loop-less Inv-loop μ-loop
-loop-less c = let h : _ = field-end (c .before .before .before .before .before .before .before .before .before .before .args .line .now) (c .before .before .before .before .before .before .before .before .loop .i) (c .before .before .before .before .before .before .before .loop-test .taken) (c .before .before .before .before .before .before .before .before .loop .inv .2 (c .before .before .before .before .before .before .before .loop-test .taken)) (c .before .before .before .before .before .next-at .result) (c .before .before .before .before .before .next-at .ensures) in omega arith
+loop-less c =
+    let at-next-at = c .before .before .before .before .before in
+    let at-loop-test = at-next-at .before .before in
+    let at-loop = at-loop-test .before in
+    let start = at-loop .before .before in
+    let h : _ = field-end (start .args .line .now) (at-loop .loop .i) (at-loop-test .loop-test .taken) (at-loop .loop .inv .2 (at-loop-test .loop-test .taken)) (at-next-at .next-at .result) (at-next-at .next-at .ensures) in omega arith
 
 loop-again : tie.Need-loop-again Inv-loop μ-loop
 loop-again c =
-    let h : _ = field-end (c .before .before .before .before .before .before .before .before .before .before .args .line .now) (c .before .before .before .before .before .before .before .before .loop .i) (c .before .before .before .before .before .before .before .loop-test .taken) (c .before .before .before .before .before .before .before .before .loop .inv .2 (c .before .before .before .before .before .before .before .loop-test .taken)) (c .before .before .before .before .before .next-at .result) (c .before .before .before .before .before .next-at .ensures) in (
+    let at-field = c .before in
+    let at-number = at-field .before .before in
+    let at-next-at = at-number .before .before in
+    let at-if1 = at-next-at .before in
+    let at-loop-test = at-if1 .before in
+    let at-loop = at-loop-test .before in
+    let start = at-loop .before .before in
+    let h : _ = field-end (start .args .line .now) (at-loop .loop .i) (at-loop-test .loop-test .taken) (at-loop .loop .inv .2 (at-loop-test .loop-test .taken)) (at-next-at .next-at .result) (at-next-at .next-at .ensures) in (
       omega arith,
       h .1,
       h .2,
-      filled-more (c .before .before .before .before .before .before .before .before .loop .at) (c .before .before .before .before .before .before .before .before .loop .count) (c .before .before .before .before .before .before .before .before .loop .inv .3) (c .before .field .given .0 .0) (c .before .before .before .before .before .before .if1 .left),
-      rw (filled-taken (c .before .before .before .before .before .before .before .before .loop .at) (c .before .before .before .before .before .before .before .before .loop .count) (c .before .before .before .before .before .before .before .before .loop .inv .3) (c .before .field .given .0 .0) (c .before .before .before .before .before .before .if1 .left))
-          (numbers-on (c .before .before .before .before .before .before .before .before .before .before .args .line .now) (c .before .before .before .before .before .before .before .before .loop .i) (c .before .before .before .before .before .before .before .loop-test .taken) (c .before .before .before .before .before .before .before .before .loop .inv .2 (c .before .before .before .before .before .before .before .loop-test .taken)) (take (c .before .before .before .before .before .before .before .before .loop .count) (c .before .before .before .before .before .before .before .before .loop .at)) (c .before .before .before .before .before .before .before .before .loop .count) (c .before .before .before .before .before .next-at .result) (c .before .before .before .before .before .next-at .ensures) (c .before .before .before .before .before .before .if1 .left) (c .before .field .given .0 .0) (sym (ap valueOf (c .before .field .given .1)) ∙ c .before .before .before .number .ensures)
-          ∙ c .before .before .before .before .before .before .before .before .loop .inv .4),
+      filled-more (at-loop .loop .at) (at-loop .loop .count) (at-loop .loop .inv .3) (at-field .field .given .0 .0) (at-if1 .if1 .left),
+      rw (filled-taken (at-loop .loop .at) (at-loop .loop .count) (at-loop .loop .inv .3) (at-field .field .given .0 .0) (at-if1 .if1 .left))
+          (numbers-on (start .args .line .now) (at-loop .loop .i) (at-loop-test .loop-test .taken) (at-loop .loop .inv .2 (at-loop-test .loop-test .taken)) (take (at-loop .loop .count) (at-loop .loop .at)) (at-loop .loop .count) (at-next-at .next-at .result) (at-next-at .next-at .ensures) (at-if1 .if1 .left) (at-field .field .given .0 .0) (sym (ap valueOf (at-field .field .given .1)) ∙ at-number .number .ensures)
+          ∙ at-loop .loop .inv .4),
     )
 
 returns-3 : tie.Need-returns-3 Inv-loop μ-loop

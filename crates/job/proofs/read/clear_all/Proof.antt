@@ -24,11 +24,15 @@ same-length-3 : tie.Need-same-length-3
 same-length-3 c = search needs
 
 returns : tie.Need-returns
-returns c = (
-  c .before .before .before .before .before .before .before .before .before .before .clear-from .ensures ∙ cleared-zeros (c .before .before .before .before .before .before .before .before .before .before .before .before .before .before .before .args .table .now) 4096 (c .before .before .before .before .before .before .before .before .before .before .before .before .before .before .before .pre .0),
-  c .before .before .before .before .before .before .clear-from2 .ensures ∙ cleared-zeros (c .before .before .before .before .before .before .before .before .before .before .before .before .before .before .before .args .store .now) 8192 (c .before .before .before .before .before .before .before .before .before .before .before .before .before .before .before .pre .1),
-  c .before .before .clear-from3 .ensures ∙ cleared-zeros (c .before .before .before .before .before .before .before .before .before .before .before .before .before .before .before .args .bindings .now) 32 (c .before .before .before .before .before .before .before .before .before .before .before .before .before .before .before .pre .2),
-)
+returns c =
+    let at-clear-from3 = c .before .before in
+    let at-clear-from2 = at-clear-from3 .before .before .before .before in
+    let at-clear-from = at-clear-from2 .before .before .before .before in
+    let start = at-clear-from .before .before .before .before .before in (
+      at-clear-from .clear-from .ensures ∙ cleared-zeros (start .args .table .now) 4096 (start .pre .0),
+      at-clear-from2 .clear-from2 .ensures ∙ cleared-zeros (start .args .store .now) 8192 (start .pre .1),
+      at-clear-from3 .clear-from3 .ensures ∙ cleared-zeros (start .args .bindings .now) 32 (start .pre .2),
+    )
 
 pub clear-all-spec : {M : Type 1} → statement M
 clear-all-spec =

@@ -19,7 +19,12 @@ same-length c = search needs
 
 returns : tie.Need-returns
 unfolding tableWith
-returns c = rw (eq-eqb _ _ (c .before .before .before .before .before .if1 .taken)) (c .before .before .put-row .ensures ∙ ap (putRow (c .before .before .before .before .before .before .before .args .table .now) (c .before .before .before .before .before .before .before .args .e)) (c .before .before .before .before .entry-row .ensures))
+returns c =
+    let at-put-row = c .before .before in
+    let at-entry-row = at-put-row .before .before in
+    let at-if1 = at-entry-row .before in
+    let start = at-if1 .before .before in
+    rw (eq-eqb _ _ (at-if1 .if1 .taken)) (at-put-row .put-row .ensures ∙ ap (putRow (start .args .table .now) (start .args .e)) (at-entry-row .entry-row .ensures))
 
 returns-2 : tie.Need-returns-2
 unfolding tableWith

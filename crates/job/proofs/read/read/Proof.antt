@@ -18,7 +18,10 @@ same-length-3 : tie.Need-same-length-3
 same-length-3 c = search needs
 
 returns : tie.Need-returns
-returns c = right-bad _ 0 _ _ _ (meant-long (c .before .before .before .before .before .before .before .before .before .before .before .before .before .before .before .args .text .now) (c .if1 .taken)) (c .before .before .before .before .before .before .before .clear-all .ensures .0) (c .before .before .before .before .before .before .before .clear-all .ensures .1) (c .before .before .before .before .before .before .before .clear-all .ensures .2)
+returns c =
+    let at-clear-all = c .before .before .before .before .before .before .before in
+    let start = at-clear-all .before .before .before .before .before .before .before .before in
+    right-bad _ 0 _ _ _ (meant-long (start .args .text .now) (c .if1 .taken)) (at-clear-all .clear-all .ensures .0) (at-clear-all .clear-all .ensures .1) (at-clear-all .clear-all .ensures .2)
 
 read-lines-requires : tie.Need-read-lines-requires
 read-lines-requires c κs = search needs
@@ -43,10 +46,16 @@ same-length-6 c = search needs
 
 returns-2 : tie.Need-returns-2
 returns-2 c =
-    right-bad _ (c .before .before .before .before .before .before .before .before .before .before .before .o .given .0 .0) _ _ _
-    (sym (meant-read (c .before .before .before .before .before .before .before .before .before .before .before .before .before .before .before .before .before .before .before .before .before .before .before .before .before .before .before .before .before .before .before .before .before .before .before .before .before .before .args .text .now) (c .before .before .before .before .before .before .before .before .before .before .before .before .before .before .before .before .before .before .before .before .before .before .before .before .before .before .before .before .before .before .clear-all .last .0) (c .before .before .before .before .before .before .before .before .before .before .before .before .before .before .before .before .before .before .before .before .before .before .before .before .before .before .before .before .before .before .clear-all .last .1 .0) (c .before .before .before .before .before .before .before .before .before .before .before .before .before .before .before .before .before .before .before .before .before .before .before .before .before .before .before .before .before .before .clear-all .last .1 .1 .0) (c .before .before .before .before .before .before .before .before .before .before .before .before .before .before .before .before .before .before .before .before .before .before .before .if1 .left) (c .before .before .before .before .before .before .before .before .before .before .before .before .before .before .before .before .before .before .before .before .before .before .before .before .before .before .before .before .before .before .clear-all .ensures .0) (c .before .before .before .before .before .before .before .before .before .before .before .before .before .before .before .before .before .before .before .before .before .before .before .before .before .before .before .before .before .before .clear-all .ensures .1) (c .before .before .before .before .before .before .before .before .before .before .before .before .before .before .before .before .before .before .before .before .before .before .before .before .before .before .before .before .before .before .clear-all .ensures .2))
-    ∙ holds-bad _ (c .before .before .before .before .before .before .before .before .before .before .before .before .before .before .before .before .before .before .before .read-lines .result) (c .before .before .before .before .before .before .before .before .before .before .before .o .given .0 .0) (c .before .before .before .before .before .before .before .before .before .before .before .before .before .before .before .before .before .before .before .read-lines .last .1 .0) (c .before .before .before .before .before .before .before .before .before .before .before .before .before .before .before .before .before .before .before .read-lines .last .1 .1 .0) (c .before .before .before .before .before .before .before .before .before .before .before .before .before .before .before .before .before .before .before .read-lines .last .1 .1 .1 .0) (c .before .before .before .before .before .before .before .before .before .before .before .before .before .before .before .before .before .before .before .read-lines .ensures) (c .before .before .before .before .before .before .before .before .before .before .before .o .given .1))
-    (c .before .before .before .before .before .before .clear-all2 .ensures .0) (c .before .before .before .before .before .before .clear-all2 .ensures .1) (c .before .before .before .before .before .before .clear-all2 .ensures .2)
+    let at-clear-all2 = c .before .before .before .before .before .before in
+    let at-o = at-clear-all2 .before .before .before .before .before in
+    let at-read-lines = at-o .before .before .before .before .before .before .before .before in
+    let at-if1 = at-read-lines .before .before .before .before in
+    let at-clear-all = at-if1 .before .before .before .before .before .before .before in
+    let start = at-clear-all .before .before .before .before .before .before .before .before in
+    right-bad _ (at-o .o .given .0 .0) _ _ _
+    (sym (meant-read (start .args .text .now) (at-clear-all .clear-all .last .0) (at-clear-all .clear-all .last .1 .0) (at-clear-all .clear-all .last .1 .1 .0) (at-if1 .if1 .left) (at-clear-all .clear-all .ensures .0) (at-clear-all .clear-all .ensures .1) (at-clear-all .clear-all .ensures .2))
+    ∙ holds-bad _ (at-read-lines .read-lines .result) (at-o .o .given .0 .0) (at-read-lines .read-lines .last .1 .0) (at-read-lines .read-lines .last .1 .1 .0) (at-read-lines .read-lines .last .1 .1 .1 .0) (at-read-lines .read-lines .ensures) (at-o .o .given .1))
+    (at-clear-all2 .clear-all2 .ensures .0) (at-clear-all2 .clear-all2 .ensures .1) (at-clear-all2 .clear-all2 .ensures .2)
 
 same-length-7 : tie.Need-same-length-7
 same-length-7 c = search needs
@@ -59,7 +68,12 @@ same-length-9 c = search needs
 
 returns-3 : tie.Need-returns-3
 returns-3 c =
-    holds-read (meant-read (c .before .before .before .before .before .before .before .before .before .before .before .before .before .before .before .before .before .before .before .before .before .before .before .before .before .before .before .before .args .text .now) (c .before .before .before .before .before .before .before .before .before .before .before .before .before .before .before .before .before .before .before .before .clear-all .last .0) (c .before .before .before .before .before .before .before .before .before .before .before .before .before .before .before .before .before .before .before .before .clear-all .last .1 .0) (c .before .before .before .before .before .before .before .before .before .before .before .before .before .before .before .before .before .before .before .before .clear-all .last .1 .1 .0) (c .before .before .before .before .before .before .before .before .before .before .before .before .before .if1 .left) (c .before .before .before .before .before .before .before .before .before .before .before .before .before .before .before .before .before .before .before .before .clear-all .ensures .0) (c .before .before .before .before .before .before .before .before .before .before .before .before .before .before .before .before .before .before .before .before .clear-all .ensures .1) (c .before .before .before .before .before .before .before .before .before .before .before .before .before .before .before .before .before .before .before .before .clear-all .ensures .2)) (c .before .before .before .before .before .before .before .before .before .read-lines .result) (c .before .o2 .given .0 .0) (c .before .before .before .before .before .before .before .before .before .read-lines .last .1 .0) (c .before .before .before .before .before .before .before .before .before .read-lines .last .1 .1 .0) (c .before .before .before .before .before .before .before .before .before .read-lines .last .1 .1 .1 .0) (c .before .before .before .before .before .before .before .before .before .read-lines .ensures) (c .before .o2 .given .1)
+    let at-o2 = c .before in
+    let at-read-lines = at-o2 .before .before .before .before .before .before .before .before in
+    let at-if1 = at-read-lines .before .before .before .before in
+    let at-clear-all = at-if1 .before .before .before .before .before .before .before in
+    let start = at-clear-all .before .before .before .before .before .before .before .before in
+    holds-read (meant-read (start .args .text .now) (at-clear-all .clear-all .last .0) (at-clear-all .clear-all .last .1 .0) (at-clear-all .clear-all .last .1 .1 .0) (at-if1 .if1 .left) (at-clear-all .clear-all .ensures .0) (at-clear-all .clear-all .ensures .1) (at-clear-all .clear-all .ensures .2)) (at-read-lines .read-lines .result) (at-o2 .o2 .given .0 .0) (at-read-lines .read-lines .last .1 .0) (at-read-lines .read-lines .last .1 .1 .0) (at-read-lines .read-lines .last .1 .1 .1 .0) (at-read-lines .read-lines .ensures) (at-o2 .o2 .given .1)
 
 pub read-spec : {M : Type 1} → statement M
 read-spec =

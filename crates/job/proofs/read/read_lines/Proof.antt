@@ -43,7 +43,12 @@ same-length-3 : tie.Need-same-length-3 Inv-loop μ-loop
 same-length-3 c = search needs
 
 returns : tie.Need-returns Inv-loop μ-loop
-returns c = stopped _ (c .before .before .before .loop .n) (c .before .before .before .loop .table) (c .before .before .before .loop .store) (c .before .before .before .loop .bindings) (sym (c .before .before .before .loop .inv .7) ∙ reads-bad (c .before .before .before .before .before .before .before .before .args .text .now) (c .before .before .before .loop .at) (c .before .line-from .result) (c .before .line-from .ensures) (c .before .before .loop-test .taken) (record { heading = c .before .before .before .loop .h; table = c .before .before .before .loop .table; store = c .before .before .before .loop .store; bindings = c .before .before .before .loop .bindings }) (c .before .before .before .loop .n) (c .if1 .taken))
+returns c =
+    let at-line-from = c .before in
+    let at-loop-test = at-line-from .before in
+    let at-loop = at-loop-test .before in
+    let start = at-loop .before .before .before .before .before in
+    stopped _ (at-loop .loop .n) (at-loop .loop .table) (at-loop .loop .store) (at-loop .loop .bindings) (sym (at-loop .loop .inv .7) ∙ reads-bad (start .args .text .now) (at-loop .loop .at) (at-line-from .line-from .result) (at-line-from .line-from .ensures) (at-loop-test .loop-test .taken) (record { heading = at-loop .loop .h; table = at-loop .loop .table; store = at-loop .loop .store; bindings = at-loop .loop .bindings }) (at-loop .loop .n) (c .if1 .taken))
 
 array-read-admits : tie.Need-array-read-admits Inv-loop μ-loop
 array-read-admits c = search needs
@@ -61,41 +66,91 @@ same-length-6 : tie.Need-same-length-6 Inv-loop μ-loop
 same-length-6 c = search needs
 
 returns-2 : tie.Need-returns-2 Inv-loop μ-loop
-returns-2 c = stopped _ (c .before .before .before .before .before .before .loop .n) (c .before .before .before .before .before .before .loop .table) (c .before .before .before .before .before .before .loop .store) (c .before .before .before .before .before .before .loop .bindings) (sym (c .before .before .before .before .before .before .loop .inv .7) ∙ reads-refused (c .before .before .before .before .before .before .before .before .before .before .before .args .text .now) (c .before .before .before .before .before .before .loop .at) (c .before .before .before .before .line-from .result) (c .before .before .before .before .line-from .ensures) (c .before .before .before .before .before .loop-test .taken) (record { heading = c .before .before .before .before .before .before .loop .h; table = c .before .before .before .before .before .before .loop .table; store = c .before .before .before .before .before .before .loop .store; bindings = c .before .before .before .before .before .before .loop .bindings }) (c .before .before .before .before .before .before .loop .n) (c .before .before .before .if1 .left) (sym (c .before .admits .ensures) ∙ not-true _ (c .if2 .taken)))
+returns-2 c =
+    let at-admits = c .before in
+    let at-if1 = at-admits .before .before in
+    let at-line-from = at-if1 .before in
+    let at-loop-test = at-line-from .before in
+    let at-loop = at-loop-test .before in
+    let start = at-loop .before .before .before .before .before in
+    stopped _ (at-loop .loop .n) (at-loop .loop .table) (at-loop .loop .store) (at-loop .loop .bindings) (sym (at-loop .loop .inv .7) ∙ reads-refused (start .args .text .now) (at-loop .loop .at) (at-line-from .line-from .result) (at-line-from .line-from .ensures) (at-loop-test .loop-test .taken) (record { heading = at-loop .loop .h; table = at-loop .loop .table; store = at-loop .loop .store; bindings = at-loop .loop .bindings }) (at-loop .loop .n) (at-if1 .if1 .left) (sym (at-admits .admits .ensures) ∙ not-true _ (c .if2 .taken)))
 
 put-entry-requires : tie.Need-put-entry-requires Inv-loop μ-loop
-put-entry-requires c κs = (c .before .before .before .before .before .before .before .loop .inv .2, λ e. let f : _ = entry-fit (c .before .before .before .before .before .line-from .result .name) (c .before .before .before .before .before .line-from .result .count) (c .before .before .before .before .before .line-from .result .at) ((sound (c .before .before .before .before .before .before .before .before .before .before .before .before .args .text .now) (c .before .before .before .before .before .before .before .loop .at) (c .before .before .before .before .before .line-from .result) (c .before .before .before .before .before .line-from .ensures) (c .before .before .before .before .if1 .left)) .fit) e in (entry-room (c .before .before .before .before .before .before .before .loop .h) (c .before .before .before .before .before .line-from .result .name) (getD (c .before .before .before .before .before .line-from .result .at) 0 0) (sym (c .before .before .admits .ensures) ∙ not-false _ (c .before .if2 .left)) e, f .0, f .1, f .2))
+put-entry-requires c κs =
+    let at-if2 = c .before in
+    let at-admits = at-if2 .before in
+    let at-if1 = at-admits .before .before in
+    let at-line-from = at-if1 .before in
+    let at-loop = at-line-from .before .before in
+    let start = at-loop .before .before .before .before .before in
+    (at-loop .loop .inv .2, λ e. let f : _ = entry-fit (at-line-from .line-from .result .name) (at-line-from .line-from .result .count) (at-line-from .line-from .result .at) ((sound (start .args .text .now) (at-loop .loop .at) (at-line-from .line-from .result) (at-line-from .line-from .ensures) (at-if1 .if1 .left)) .fit) e in (entry-room (at-loop .loop .h) (at-line-from .line-from .result .name) (getD (at-line-from .line-from .result .at) 0 0) (sym (at-admits .admits .ensures) ∙ not-false _ (at-if2 .if2 .left)) e, f .0, f .1, f .2))
 
 put-node-requires : tie.Need-put-node-requires Inv-loop μ-loop
-put-node-requires c κs = (c .before .before .before .before .before .before .before .before .before .before .before .loop .inv .3, λ e. (node-room (c .before .before .before .before .before .before .before .before .before .before .before .loop .h) (c .before .before .before .before .before .before .before .before .before .line-from .result .name) (getD (c .before .before .before .before .before .before .before .before .before .line-from .result .at) 0 0) (sym (c .before .before .before .before .before .before .admits .ensures) ∙ not-false _ (c .before .before .before .before .before .if2 .left)) e, node-fit (c .before .before .before .before .before .before .before .before .before .line-from .result .name) (c .before .before .before .before .before .before .before .before .before .line-from .result .count) (c .before .before .before .before .before .before .before .before .before .line-from .result .at) ((sound (c .before .before .before .before .before .before .before .before .before .before .before .before .before .before .before .before .args .text .now) (c .before .before .before .before .before .before .before .before .before .before .before .loop .at) (c .before .before .before .before .before .before .before .before .before .line-from .result) (c .before .before .before .before .before .before .before .before .before .line-from .ensures) (c .before .before .before .before .before .before .before .before .if1 .left)) .fit) e))
+put-node-requires c κs =
+    let at-if2 = c .before .before .before .before .before in
+    let at-admits = at-if2 .before in
+    let at-if1 = at-admits .before .before in
+    let at-line-from = at-if1 .before in
+    let at-loop = at-line-from .before .before in
+    let start = at-loop .before .before .before .before .before in
+    (at-loop .loop .inv .3, λ e. (node-room (at-loop .loop .h) (at-line-from .line-from .result .name) (getD (at-line-from .line-from .result .at) 0 0) (sym (at-admits .admits .ensures) ∙ not-false _ (at-if2 .if2 .left)) e, node-fit (at-line-from .line-from .result .name) (at-line-from .line-from .result .count) (at-line-from .line-from .result .at) ((sound (start .args .text .now) (at-loop .loop .at) (at-line-from .line-from .result) (at-line-from .line-from .ensures) (at-if1 .if1 .left)) .fit) e))
 
 put-binding-requires : tie.Need-put-binding-requires Inv-loop μ-loop
-put-binding-requires c κs = (c .before .before .before .before .before .before .before .before .before .before .before .before .before .before .before .loop .inv .4, λ e. binding-fit (c .before .before .before .before .before .before .before .before .before .before .before .before .before .line-from .result .name) (c .before .before .before .before .before .before .before .before .before .before .before .before .before .line-from .result .count) (c .before .before .before .before .before .before .before .before .before .before .before .before .before .line-from .result .at) ((sound (c .before .before .before .before .before .before .before .before .before .before .before .before .before .before .before .before .before .before .before .before .args .text .now) (c .before .before .before .before .before .before .before .before .before .before .before .before .before .before .before .loop .at) (c .before .before .before .before .before .before .before .before .before .before .before .before .before .line-from .result) (c .before .before .before .before .before .before .before .before .before .before .before .before .before .line-from .ensures) (c .before .before .before .before .before .before .before .before .before .before .before .before .if1 .left)) .fit) e)
+put-binding-requires c κs =
+    let at-if1 = c .before .before .before .before .before .before .before .before .before .before .before .before in
+    let at-line-from = at-if1 .before in
+    let at-loop = at-line-from .before .before in
+    let start = at-loop .before .before .before .before .before in
+    (at-loop .loop .inv .4, λ e. binding-fit (at-line-from .line-from .result .name) (at-line-from .line-from .result .count) (at-line-from .line-from .result .at) ((sound (start .args .text .now) (at-loop .loop .at) (at-line-from .line-from .result) (at-line-from .line-from .ensures) (at-if1 .if1 .left)) .fit) e)
 
 advanced-requires : tie.Need-advanced-requires Inv-loop μ-loop
-advanced-requires c κs = (c .before .before .before .before .before .before .before .before .before .before .before .before .before .before .before .before .before .before .loop .inv .5, c .before .before .before .before .before .before .before .before .before .before .before .before .before .before .before .before .before .before .loop .inv .6, λ e. binding-fit (c .before .before .before .before .before .before .before .before .before .before .before .before .before .before .before .before .line-from .result .name) (c .before .before .before .before .before .before .before .before .before .before .before .before .before .before .before .before .line-from .result .count) (c .before .before .before .before .before .before .before .before .before .before .before .before .before .before .before .before .line-from .result .at) ((sound (c .before .before .before .before .before .before .before .before .before .before .before .before .before .before .before .before .before .before .before .before .before .before .before .args .text .now) (c .before .before .before .before .before .before .before .before .before .before .before .before .before .before .before .before .before .before .loop .at) (c .before .before .before .before .before .before .before .before .before .before .before .before .before .before .before .before .line-from .result) (c .before .before .before .before .before .before .before .before .before .before .before .before .before .before .before .before .line-from .ensures) (c .before .before .before .before .before .before .before .before .before .before .before .before .before .before .before .if1 .left)) .fit) e .0, c .before .before .before .before .before .before .before .before .before .before .before .before .before .before .before .if1 .left)
+advanced-requires c κs =
+    let at-if1 = c .before .before .before .before .before .before .before .before .before .before .before .before .before .before .before in
+    let at-line-from = at-if1 .before in
+    let at-loop = at-line-from .before .before in
+    let start = at-loop .before .before .before .before .before in
+    (at-loop .loop .inv .5, at-loop .loop .inv .6, λ e. binding-fit (at-line-from .line-from .result .name) (at-line-from .line-from .result .count) (at-line-from .line-from .result .at) ((sound (start .args .text .now) (at-loop .loop .at) (at-line-from .line-from .result) (at-line-from .line-from .ensures) (at-if1 .if1 .left)) .fit) e .0, at-if1 .if1 .left)
 
 add-n : tie.Need-add-n Inv-loop μ-loop
-add-n c = omega (arith, c .before .before .before .before .before .before .before .before .before .before .before .before .before .before .before .before .before .before .before .loop .inv .1, c .before .before .before .before .before .before .before .before .before .before .before .before .before .before .before .before .before .before .loop-test .taken, c .before .before .before .before .before .before .before .before .before .before .before .before .before .before .before .before .before .before .before .before .before .before .before .before .pre .0)
+add-n c =
+    let at-loop-test = c .before .before .before .before .before .before .before .before .before .before .before .before .before .before .before .before .before .before in
+    let at-loop = at-loop-test .before in
+    let start = at-loop .before .before .before .before .before in
+    omega (arith, at-loop .loop .inv .1, at-loop-test .loop-test .taken, start .pre .0)
 
 loop-less : tie.Need-loop-less Inv-loop μ-loop
-loop-less c = let h : _ = (sound (c .before .before .before .before .before .before .before .before .before .before .before .before .before .before .before .before .before .before .before .before .before .before .before .before .args .text .now) (c .before .before .before .before .before .before .before .before .before .before .before .before .before .before .before .before .before .before .before .loop .at) (c .before .before .before .before .before .before .before .before .before .before .before .before .before .before .before .before .before .line-from .result) (c .before .before .before .before .before .before .before .before .before .before .before .before .before .before .before .before .before .line-from .ensures) (c .before .before .before .before .before .before .before .before .before .before .before .before .before .before .before .before .if1 .left)) in omega arith
+loop-less c =
+    let at-if1 = c .before .before .before .before .before .before .before .before .before .before .before .before .before .before .before .before in
+    let at-line-from = at-if1 .before in
+    let at-loop = at-line-from .before .before in
+    let start = at-loop .before .before .before .before .before in
+    let h : _ = (sound (start .args .text .now) (at-loop .loop .at) (at-line-from .line-from .result) (at-line-from .line-from .ensures) (at-if1 .if1 .left)) in omega arith
 
 loop-again : tie.Need-loop-again Inv-loop μ-loop
 loop-again c =
-    let h : _ = (sound (c .before .before .before .before .before .before .before .before .before .before .before .before .before .before .before .before .before .before .before .before .before .before .before .before .args .text .now) (c .before .before .before .before .before .before .before .before .before .before .before .before .before .before .before .before .before .before .before .loop .at) (c .before .before .before .before .before .before .before .before .before .before .before .before .before .before .before .before .before .line-from .result) (c .before .before .before .before .before .before .before .before .before .before .before .before .before .before .before .before .before .line-from .ensures) (c .before .before .before .before .before .before .before .before .before .before .before .before .before .before .before .before .if1 .left)) in
-    let k : _ = rows-kept (c .before .before .before .before .before .before .before .before .before .before .before .before .before .before .before .before .before .before .before .loop .h) (c .before .before .before .before .before .before .before .before .before .before .before .before .before .before .before .before .before .line-from .result .name) (getD (c .before .before .before .before .before .before .before .before .before .before .before .before .before .before .before .before .before .line-from .result .at) 0 0) (sym (c .before .before .before .before .before .before .before .before .before .before .before .before .before .before .admits .ensures) ∙ not-false _ (c .before .before .before .before .before .before .before .before .before .before .before .before .before .if2 .left)) (c .before .before .before .before .before .before .before .before .before .before .before .before .before .before .before .before .before .line-from .result .at) (c .before .before .before .before .before .before .before .before .before .before .before .before .before .before .before .before .before .before .before .loop .inv .5) (c .before .before .before .before .before .before .before .before .before .before .before .before .before .before .before .before .before .before .before .loop .inv .6) in (
+    let at-put-binding = c .before .before .before in
+    let at-put-node = at-put-binding .before .before .before .before in
+    let at-put-entry = at-put-node .before .before .before .before in
+    let at-if2 = at-put-entry .before .before in
+    let at-admits = at-if2 .before in
+    let at-if1 = at-admits .before .before in
+    let at-line-from = at-if1 .before in
+    let at-loop-test = at-line-from .before in
+    let at-loop = at-loop-test .before in
+    let start = at-loop .before .before .before .before .before in
+    let h : _ = (sound (start .args .text .now) (at-loop .loop .at) (at-line-from .line-from .result) (at-line-from .line-from .ensures) (at-if1 .if1 .left)) in
+    let k : _ = rows-kept (at-loop .loop .h) (at-line-from .line-from .result .name) (getD (at-line-from .line-from .result .at) 0 0) (sym (at-admits .admits .ensures) ∙ not-false _ (at-if2 .if2 .left)) (at-line-from .line-from .result .at) (at-loop .loop .inv .5) (at-loop .loop .inv .6) in (
       h .within,
-      omega (arith, c .before .before .before .before .before .before .before .before .before .before .before .before .before .before .before .before .before .before .before .loop .inv .1, h .on),
-      c .before .before .before .before .before .before .before .before .before .before .before .put-entry .kept .0 ∙ c .before .before .before .before .before .before .before .before .before .before .before .before .before .before .before .before .before .before .before .loop .inv .2,
-      c .before .before .before .before .before .before .before .put-node .kept .0 ∙ c .before .before .before .before .before .before .before .before .before .before .before .before .before .before .before .before .before .before .before .loop .inv .3,
-      c .before .before .before .put-binding .kept .0 ∙ c .before .before .before .before .before .before .before .before .before .before .before .before .before .before .before .before .before .before .before .loop .inv .4,
+      omega (arith, at-loop .loop .inv .1, h .on),
+      at-put-entry .put-entry .kept .0 ∙ at-loop .loop .inv .2,
+      at-put-node .put-node .kept .0 ∙ at-loop .loop .inv .3,
+      at-put-binding .put-binding .kept .0 ∙ at-loop .loop .inv .4,
       rw (c .advanced .ensures) (k .0),
       rw (c .advanced .ensures) (k .1),
-      ap (λ (g : Reading). readLines g (c .before .before .before .before .before .before .before .before .before .before .before .before .before .before .before .before .before .before .before .loop .n + 1) (parts 10 (drop (c .before .before .before .before .before .before .before .before .before .before .before .before .before .before .before .before .before .line-from .result .next) (c .before .before .before .before .before .before .before .before .before .before .before .before .before .before .before .before .before .before .before .before .before .before .before .before .args .text .now))))
-          (with-made (record { heading = c .before .before .before .before .before .before .before .before .before .before .before .before .before .before .before .before .before .before .before .loop .h; table = c .before .before .before .before .before .before .before .before .before .before .before .before .before .before .before .before .before .before .before .loop .table; store = c .before .before .before .before .before .before .before .before .before .before .before .before .before .before .before .before .before .before .before .loop .store; bindings = c .before .before .before .before .before .before .before .before .before .before .before .before .before .before .before .before .before .before .before .loop .bindings }) (c .before .before .before .before .before .before .before .before .before .before .before .before .before .before .before .before .before .line-from .result .name) (c .before .before .before .before .before .before .before .before .before .before .before .before .before .before .before .before .before .line-from .result .count) (c .before .before .before .before .before .before .before .before .before .before .before .before .before .before .before .before .before .line-from .result .at) (c .advanced .result) _ _ _ (c .advanced .ensures) (c .before .before .before .before .before .before .before .before .before .before .before .put-entry .ensures) (c .before .before .before .before .before .before .before .put-node .ensures) (c .before .before .before .put-binding .ensures))
-          ∙ sym (reads-on (c .before .before .before .before .before .before .before .before .before .before .before .before .before .before .before .before .before .before .before .before .before .before .before .before .args .text .now) (c .before .before .before .before .before .before .before .before .before .before .before .before .before .before .before .before .before .before .before .loop .at) (c .before .before .before .before .before .before .before .before .before .before .before .before .before .before .before .before .before .line-from .result) (c .before .before .before .before .before .before .before .before .before .before .before .before .before .before .before .before .before .line-from .ensures) (c .before .before .before .before .before .before .before .before .before .before .before .before .before .before .before .before .before .before .loop-test .taken) (record { heading = c .before .before .before .before .before .before .before .before .before .before .before .before .before .before .before .before .before .before .before .loop .h; table = c .before .before .before .before .before .before .before .before .before .before .before .before .before .before .before .before .before .before .before .loop .table; store = c .before .before .before .before .before .before .before .before .before .before .before .before .before .before .before .before .before .before .before .loop .store; bindings = c .before .before .before .before .before .before .before .before .before .before .before .before .before .before .before .before .before .before .before .loop .bindings }) (c .before .before .before .before .before .before .before .before .before .before .before .before .before .before .before .before .before .before .before .loop .n) (c .before .before .before .before .before .before .before .before .before .before .before .before .before .before .before .before .if1 .left) (sym (c .before .before .before .before .before .before .before .before .before .before .before .before .before .before .admits .ensures) ∙ not-false _ (c .before .before .before .before .before .before .before .before .before .before .before .before .before .if2 .left)))
-          ∙ c .before .before .before .before .before .before .before .before .before .before .before .before .before .before .before .before .before .before .before .loop .inv .7,
+      ap (λ (g : Reading). readLines g (at-loop .loop .n + 1) (parts 10 (drop (at-line-from .line-from .result .next) (start .args .text .now))))
+          (with-made (record { heading = at-loop .loop .h; table = at-loop .loop .table; store = at-loop .loop .store; bindings = at-loop .loop .bindings }) (at-line-from .line-from .result .name) (at-line-from .line-from .result .count) (at-line-from .line-from .result .at) (c .advanced .result) _ _ _ (c .advanced .ensures) (at-put-entry .put-entry .ensures) (at-put-node .put-node .ensures) (at-put-binding .put-binding .ensures))
+          ∙ sym (reads-on (start .args .text .now) (at-loop .loop .at) (at-line-from .line-from .result) (at-line-from .line-from .ensures) (at-loop-test .loop-test .taken) (record { heading = at-loop .loop .h; table = at-loop .loop .table; store = at-loop .loop .store; bindings = at-loop .loop .bindings }) (at-loop .loop .n) (at-if1 .if1 .left) (sym (at-admits .admits .ensures) ∙ not-false _ (at-if2 .if2 .left)))
+          ∙ at-loop .loop .inv .7,
     )
 
 same-length-7 : tie.Need-same-length-7 Inv-loop μ-loop
@@ -108,7 +163,11 @@ same-length-9 : tie.Need-same-length-9 Inv-loop μ-loop
 same-length-9 c = search needs
 
 returns-3 : tie.Need-returns-3 Inv-loop μ-loop
-returns-3 c = stopped _ (c .before .before .before .loop .n) (c .before .before .before .loop .table) (c .before .before .before .loop .store) (c .before .before .before .loop .bindings) (sym (c .before .before .before .loop .inv .7) ∙ reads-none (c .before .before .before .before .before .before .before .before .args .text .now) (c .before .before .before .loop .at) (record { heading = c .before .before .before .loop .h; table = c .before .before .before .loop .table; store = c .before .before .before .loop .store; bindings = c .before .before .before .loop .bindings }) (c .before .before .before .loop .n) (c .before .before .loop-test .left) (c .if3 .taken))
+returns-3 c =
+    let at-loop-test = c .before .before in
+    let at-loop = at-loop-test .before in
+    let start = at-loop .before .before .before .before .before in
+    stopped _ (at-loop .loop .n) (at-loop .loop .table) (at-loop .loop .store) (at-loop .loop .bindings) (sym (at-loop .loop .inv .7) ∙ reads-none (start .args .text .now) (at-loop .loop .at) (record { heading = at-loop .loop .h; table = at-loop .loop .table; store = at-loop .loop .store; bindings = at-loop .loop .bindings }) (at-loop .loop .n) (at-loop-test .loop-test .left) (c .if3 .taken))
 
 same-length-10 : tie.Need-same-length-10 Inv-loop μ-loop
 same-length-10 c = search needs
@@ -120,7 +179,11 @@ same-length-12 : tie.Need-same-length-12 Inv-loop μ-loop
 same-length-12 c = search needs
 
 returns-4 : tie.Need-returns-4 Inv-loop μ-loop
-returns-4 c = finished _ (record { heading = c .before .before .before .loop .h; table = c .before .before .before .loop .table; store = c .before .before .before .loop .store; bindings = c .before .before .before .loop .bindings }) (sym (c .before .before .before .loop .inv .7) ∙ reads-all (c .before .before .before .before .before .before .before .before .args .text .now) (c .before .before .before .loop .at) (record { heading = c .before .before .before .loop .h; table = c .before .before .before .loop .table; store = c .before .before .before .loop .store; bindings = c .before .before .before .loop .bindings }) (c .before .before .before .loop .n) (c .before .before .loop-test .left) (c .if3 .left))
+returns-4 c =
+    let at-loop-test = c .before .before in
+    let at-loop = at-loop-test .before in
+    let start = at-loop .before .before .before .before .before in
+    finished _ (record { heading = at-loop .loop .h; table = at-loop .loop .table; store = at-loop .loop .store; bindings = at-loop .loop .bindings }) (sym (at-loop .loop .inv .7) ∙ reads-all (start .args .text .now) (at-loop .loop .at) (record { heading = at-loop .loop .h; table = at-loop .loop .table; store = at-loop .loop .store; bindings = at-loop .loop .bindings }) (at-loop .loop .n) (at-loop-test .loop-test .left) (c .if3 .left))
 
 pub read-lines-spec : {M : Type 1} → statement M
 read-lines-spec =

@@ -37,7 +37,13 @@ add-value : tie.Need-add-value Inv-loop μ-loop
 add-value c = search needs
 
 returns-3 : tie.Need-returns-3 Inv-loop μ-loop
-returns-3 c = sym (valued-over (c .before .before .before .before .before .before .args .field .now) (c .before .before .before .before .before .loop .i) (c .before .before .before .before .before .loop .value) (c .before .before .before .before .loop-test .taken) (c .before .before .if1 .left) (c .before .if2 .left) (c .if3 .taken)) ∙ c .before .before .before .before .before .loop .inv .2
+returns-3 c =
+    let at-if2 = c .before in
+    let at-if1 = at-if2 .before in
+    let at-loop-test = at-if1 .before .before in
+    let at-loop = at-loop-test .before in
+    let start = at-loop .before in
+    sym (valued-over (start .args .field .now) (at-loop .loop .i) (at-loop .loop .value) (at-loop-test .loop-test .taken) (at-if1 .if1 .left) (at-if2 .if2 .left) (c .if3 .taken)) ∙ at-loop .loop .inv .2
 
 add-i : tie.Need-add-i Inv-loop μ-loop
 add-i c = search needs
@@ -46,7 +52,13 @@ loop-less : tie.Need-loop-less Inv-loop μ-loop
 loop-less c = search needs
 
 loop-again : tie.Need-loop-again Inv-loop μ-loop
-loop-again c = (omega arith, c .if3 .left, sym (valued-on (c .before .before .before .before .before .before .args .field .now) (c .before .before .before .before .before .loop .i) (c .before .before .before .before .before .loop .value) (c .before .before .before .before .loop-test .taken) (c .before .before .if1 .left) (c .before .if2 .left) (c .if3 .left)) ∙ c .before .before .before .before .before .loop .inv .2)
+loop-again c =
+    let at-if2 = c .before in
+    let at-if1 = at-if2 .before in
+    let at-loop-test = at-if1 .before .before in
+    let at-loop = at-loop-test .before in
+    let start = at-loop .before in
+    (omega arith, c .if3 .left, sym (valued-on (start .args .field .now) (at-loop .loop .i) (at-loop .loop .value) (at-loop-test .loop-test .taken) (at-if1 .if1 .left) (at-if2 .if2 .left) (c .if3 .left)) ∙ at-loop .loop .inv .2)
 
 cast-t11 : tie.Need-cast-t11 Inv-loop μ-loop
 cast-t11 c = search needs

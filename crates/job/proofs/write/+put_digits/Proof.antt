@@ -93,7 +93,11 @@ put-digits-put-byte-requires-2 : (t : ℕ) → put-digits-lts.Need-put-byte-requ
   put-digits-below t,
   put-digits.Post,
 ) (put-digits-at t) put-digits.Post
-put-digits-put-byte-requires-2 t c κs = omega (arith, c .before .before .before .before .before .before .before .pre .1, c .before .before .before .put-digits .ensures .place, c .before .before .before .put-digits .kept .0, tenth-short (c .before .before .before .before .before .before .before .args .n) (c .before .before .before .before .before .if1 .left) (omega arith))
+put-digits-put-byte-requires-2 t c κs =
+    let at-put-digits = c .before .before .before in
+    let at-if1 = at-put-digits .before .before in
+    let start = at-if1 .before .before in
+    omega (arith, start .pre .1, at-put-digits .put-digits .ensures .place, at-put-digits .put-digits .kept .0, tenth-short (start .args .n) (at-if1 .if1 .left) (omega arith))
 
 put-digits-same-length-2 : (t : ℕ) → put-digits-lts.Need-same-length-2 (
   put-byte-reads.Asked,
@@ -110,8 +114,12 @@ put-digits-returns-2 : (t : ℕ) → put-digits-lts.Need-returns-2 (
   put-digits.Post,
 ) (put-digits-at t) put-digits.Post
 put-digits-returns-2 t c =
-    rw (decimal-more (c .before .before .before .before .before .before .before .before .before .before .args .n) (c .before .before .before .before .before .before .before .before .if1 .left) (omega arith))
-    (put-more (omega (arith, c .before .before .before .before .before .before .before .before .before .before .pre .1, tenth-short (c .before .before .before .before .before .before .before .before .before .before .args .n) (c .before .before .before .before .before .before .before .before .if1 .left) (omega arith))) (c .before .before .before .before .before .before .put-digits .ensures) (c .before .before .put-byte2 .ensures))
+    let at-put-byte2 = c .before .before in
+    let at-put-digits = at-put-byte2 .before .before .before .before in
+    let at-if1 = at-put-digits .before .before in
+    let start = at-if1 .before .before in
+    rw (decimal-more (start .args .n) (at-if1 .if1 .left) (omega arith))
+    (put-more (omega (arith, start .pre .1, tenth-short (start .args .n) (at-if1 .if1 .left) (omega arith))) (at-put-digits .put-digits .ensures) (at-put-byte2 .put-byte2 .ensures))
 
 pub +put-digits-spec : {M : Type 1} → statement M
 +put-digits-spec = close μ-put-digits λ t. put-digits-lts.spec (

@@ -39,12 +39,15 @@ loop-less : tie.Need-loop-less Inv-loop μ-loop
 loop-less c = search needs
 
 loop-again : tie.Need-loop-again Inv-loop μ-loop
-loop-again c = (
-  omega arith,
-  c .before .before .before .before .before .loop .inv .1,
-  c .before .before .put-field .kept .0 ∙ c .before .before .before .before .before .loop .inv .2,
-  fields-more (c .before .before .before .before .before .before .before .args .t4) (c .before .before .before .before .before .loop .i) (omega (arith, c .before .before .before .before .before .before .before .pre .0, c .before .before .before .before .before .loop .inv .1)) (omega (arith, c .before .before .before .before .before .before .before .pre .1, length-fields (c .before .before .before .before .before .before .before .args .t4) (c .before .before .before .before .before .loop .i))) (c .before .before .before .before .before .loop .inv .3) (c .before .before .put-field .ensures),
-)
+loop-again c =
+    let at-put-field = c .before .before in
+    let at-loop = at-put-field .before .before .before in
+    let start = at-loop .before .before in (
+      omega arith,
+      at-loop .loop .inv .1,
+      at-put-field .put-field .kept .0 ∙ at-loop .loop .inv .2,
+      fields-more (start .args .t4) (at-loop .loop .i) (omega (arith, start .pre .0, at-loop .loop .inv .1)) (omega (arith, start .pre .1, length-fields (start .args .t4) (at-loop .loop .i))) (at-loop .loop .inv .3) (at-put-field .put-field .ensures),
+    )
 
 same-length : tie.Need-same-length Inv-loop μ-loop
 same-length c = search needs

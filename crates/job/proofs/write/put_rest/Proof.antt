@@ -9,13 +9,20 @@ put-fields-requires : tie.Need-put-fields-requires
 put-fields-requires c κs = search needs
 
 put-byte-requires : tie.Need-put-byte-requires
-put-byte-requires c κs = omega (arith, c .before .before .before .before .before .before .pre .1, c .before .before .before .put-fields .ensures .place, c .before .before .before .put-fields .kept .0, length-fields (c .before .before .before .before .before .before .args .numbers) (c .before .before .before .before .before .before .args .n))
+put-byte-requires c κs =
+    let at-put-fields = c .before .before .before in
+    let start = at-put-fields .before .before .before in
+    omega (arith, start .pre .1, at-put-fields .put-fields .ensures .place, at-put-fields .put-fields .kept .0, length-fields (start .args .numbers) (start .args .n))
 
 same-length : tie.Need-same-length
 same-length c = search needs
 
 returns : tie.Need-returns
-returns c = put-more (omega (arith, c .before .before .before .before .before .before .before .before .before .pre .1, length-fields (c .before .before .before .before .before .before .before .before .before .args .numbers) (c .before .before .before .before .before .before .before .before .before .args .n))) (c .before .before .before .before .before .before .put-fields .ensures) (c .before .before .put-byte .ensures)
+returns c =
+    let at-put-byte = c .before .before in
+    let at-put-fields = at-put-byte .before .before .before .before in
+    let start = at-put-fields .before .before .before in
+    put-more (omega (arith, start .pre .1, length-fields (start .args .numbers) (start .args .n))) (at-put-fields .put-fields .ensures) (at-put-byte .put-byte .ensures)
 
 pub put-rest-spec : {M : Type 1} → statement M
 put-rest-spec = tie.close (tie.spec put-fields-requires put-byte-requires same-length returns)

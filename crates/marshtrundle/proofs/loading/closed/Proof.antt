@@ -68,30 +68,33 @@ loop-less : tie.Need-loop-less Inv-loop μ-loop
 loop-less c = search needs
 
 loop-again : tie.Need-loop-again Inv-loop μ-loop
-loop-again c = (
-  omega arith,
-  ⊎-elim
-      (λ w.
-      rw (w .1)
-      (written-more _ _ _ _
-      (c .before .before .before .loop .inv .1)
-      (omega arith)
-      (word-some
-      (c .before .before .before .before .before .args .t2)
-      (c .before .before .before .loop .v)
-      (omega arith)
-      (sym (c .before .bit .ensures) ∙ w .0 .taken))))
-      (λ w.
-      rw (w .1)
-      (written-more _ _ _ _
-      (c .before .before .before .loop .inv .1)
-      (omega arith)
-      (word-none
-      (c .before .before .before .before .before .args .t2)
-      (c .before .before .before .loop .v)
-      (λ e. w .0 .left (c .before .bit .ensures ∙ e)))))
-      (c .if1 .came),
-)
+loop-again c =
+    let at-bit = c .before in
+    let at-loop = at-bit .before .before in
+    let start = at-loop .before .before in (
+      omega arith,
+      ⊎-elim
+          (λ w.
+          rw (w .1)
+          (written-more _ _ _ _
+          (at-loop .loop .inv .1)
+          (omega arith)
+          (word-some
+          (start .args .t2)
+          (at-loop .loop .v)
+          (omega arith)
+          (sym (at-bit .bit .ensures) ∙ w .0 .taken))))
+          (λ w.
+          rw (w .1)
+          (written-more _ _ _ _
+          (at-loop .loop .inv .1)
+          (omega arith)
+          (word-none
+          (start .args .t2)
+          (at-loop .loop .v)
+          (λ e. w .0 .left (at-bit .bit .ensures ∙ e)))))
+          (c .if1 .came),
+    )
 
 same-length : tie.Need-same-length Inv-loop μ-loop
 same-length c = search needs

@@ -35,7 +35,13 @@ check-store-requires c κs = search needs
 -- src/refusals.rt:72:9
 returns-3 : tie.Need-returns-3
 unfolding refused
-returns-3 c = rw (← c .before .before .before .before .before .before .before .sizes-fit .ensures, not-false (c .before .before .before .before .before .before .before .sizes-fit .result) (c .before .before .before .before .before .before .if1 .left), ← c .before .before .before .before .before .check-table .ensures, eq-eqb _ _ (c .before .before .before .if2 .left), ← c .before .before .check-store .ensures, ne-eqb _ _ (c .if3 .taken))
+returns-3 c =
+    let at-check-store = c .before .before in
+    let at-if2 = at-check-store .before in
+    let at-check-table = at-if2 .before .before in
+    let at-if1 = at-check-table .before in
+    let at-sizes-fit = at-if1 .before in
+    rw (← at-sizes-fit .sizes-fit .ensures, not-false (at-sizes-fit .sizes-fit .result) (at-if1 .if1 .left), ← at-check-table .check-table .ensures, eq-eqb _ _ (at-if2 .if2 .left), ← at-check-store .check-store .ensures, ne-eqb _ _ (c .if3 .taken))
 
 -- src/refusals.rt:74:9
 start-fits-requires : tie.Need-start-fits-requires
@@ -44,12 +50,28 @@ start-fits-requires c κs = search needs
 -- src/refusals.rt:75:9
 returns-4 : tie.Need-returns-4
 unfolding refused
-returns-4 c = rw (← c .before .before .before .before .before .before .before .before .before .sizes-fit .ensures, not-false (c .before .before .before .before .before .before .before .before .before .sizes-fit .result) (c .before .before .before .before .before .before .before .before .if1 .left), ← c .before .before .before .before .before .before .before .check-table .ensures, eq-eqb _ _ (c .before .before .before .before .before .if2 .left), ← c .before .before .before .before .check-store .ensures, eq-eqb _ _ (c .before .before .if3 .left), ← c .before .start-fits .ensures, not-true (c .before .start-fits .result) (c .if4 .taken))
+returns-4 c =
+    let at-start-fits = c .before in
+    let at-if3 = at-start-fits .before in
+    let at-check-store = at-if3 .before .before in
+    let at-if2 = at-check-store .before in
+    let at-check-table = at-if2 .before .before in
+    let at-if1 = at-check-table .before in
+    let at-sizes-fit = at-if1 .before in
+    rw (← at-sizes-fit .sizes-fit .ensures, not-false (at-sizes-fit .sizes-fit .result) (at-if1 .if1 .left), ← at-check-table .check-table .ensures, eq-eqb _ _ (at-if2 .if2 .left), ← at-check-store .check-store .ensures, eq-eqb _ _ (at-if3 .if3 .left), ← at-start-fits .start-fits .ensures, not-true (at-start-fits .start-fits .result) (c .if4 .taken))
 
 -- src/refusals.rt:57:1
 returns-5 : tie.Need-returns-5
 unfolding refused
-returns-5 c = rw (← c .before .before .before .before .before .before .before .before .before .sizes-fit .ensures, not-false (c .before .before .before .before .before .before .before .before .before .sizes-fit .result) (c .before .before .before .before .before .before .before .before .if1 .left), ← c .before .before .before .before .before .before .before .check-table .ensures, eq-eqb _ _ (c .before .before .before .before .before .if2 .left), ← c .before .before .before .before .check-store .ensures, eq-eqb _ _ (c .before .before .if3 .left), ← c .before .start-fits .ensures, not-false (c .before .start-fits .result) (c .if4 .left))
+returns-5 c =
+    let at-start-fits = c .before in
+    let at-if3 = at-start-fits .before in
+    let at-check-store = at-if3 .before .before in
+    let at-if2 = at-check-store .before in
+    let at-check-table = at-if2 .before .before in
+    let at-if1 = at-check-table .before in
+    let at-sizes-fit = at-if1 .before in
+    rw (← at-sizes-fit .sizes-fit .ensures, not-false (at-sizes-fit .sizes-fit .result) (at-if1 .if1 .left), ← at-check-table .check-table .ensures, eq-eqb _ _ (at-if2 .if2 .left), ← at-check-store .check-store .ensures, eq-eqb _ _ (at-if3 .if3 .left), ← at-start-fits .start-fits .ensures, not-false (at-start-fits .start-fits .result) (c .if4 .left))
 
 pub refusal-spec : {M : Type 1} → statement M
 refusal-spec =

@@ -29,22 +29,30 @@ returns-2 c =
 returns-3 : tie.Need-returns-3
 unfolding sizesFit
 returns-3 c =
+    let at-if2 = c .before in
+    let at-store-length-fits = at-if2 .before in
+    let at-if1 = at-store-length-fits .before in
+    let at-table-length-fits = at-if1 .before in
     rw (
-      ← c .before .before .before .before .table-length-fits .ensures,
-      not-false (c .before .before .before .before .table-length-fits .result) (c .before .before .before .if1 .left),
-      ← c .before .before .store-length-fits .ensures,
-      not-false (c .before .before .store-length-fits .result) (c .before .if2 .left),
+      ← at-table-length-fits .table-length-fits .ensures,
+      not-false (at-table-length-fits .table-length-fits .result) (at-if1 .if1 .left),
+      ← at-store-length-fits .store-length-fits .ensures,
+      not-false (at-store-length-fits .store-length-fits .result) (at-if2 .if2 .left),
       ne-eqb _ _ (c .if3 .taken),
     )
 
 returns-4 : tie.Need-returns-4
 unfolding sizesFit
 returns-4 c =
+    let at-if2 = c .before in
+    let at-store-length-fits = at-if2 .before in
+    let at-if1 = at-store-length-fits .before in
+    let at-table-length-fits = at-if1 .before in
     rw (
-      ← c .before .before .before .before .table-length-fits .ensures,
-      not-false (c .before .before .before .before .table-length-fits .result) (c .before .before .before .if1 .left),
-      ← c .before .before .store-length-fits .ensures,
-      not-false (c .before .before .store-length-fits .result) (c .before .if2 .left),
+      ← at-table-length-fits .table-length-fits .ensures,
+      not-false (at-table-length-fits .table-length-fits .result) (at-if1 .if1 .left),
+      ← at-store-length-fits .store-length-fits .ensures,
+      not-false (at-store-length-fits .store-length-fits .result) (at-if2 .if2 .left),
       eq-eqb _ _ (c .if3 .left),
     )
 

@@ -47,11 +47,16 @@ done-requires c κs = search needs
 
 apply-requires : tie.Need-apply-requires
 apply-requires c κs =
-    let a = c .before .before .before .before .before .before .before .before .before .before .before .before .before .before .before .args in
+    let at-opened = c .before .before .before .before in
+    let at-loaded = at-opened .before .before in
+    let at-if1 = at-loaded .before in
+    let at-refusal = at-if1 .before .before in
+    let start = at-refusal .before .before .before .before .before .before in
+    let a = start .args in
     let i = input (a .table .now) (a .store .now) (a .bindings .now) (a .mark) (a .start) (a .subject) (a .units) in
-    let h = accepted-answer (a .table .now) (a .store .now) (a .bindings .now) (a .mark) (a .start) (a .subject) (a .units) (eq-eqb _ 0 (ap (λ (c : Checked). c .answer) (sym (c .before .before .before .before .before .before .before .before .before .refusal .ensures)) ∙ c .before .before .before .before .before .before .before .if1 .left)) in
-    let l = c .before .before .before .before .before .before .loaded .ensures in
-    ready i h _ _ _ (table-loaded l) (entries-loaded (h .table) l) (hints-loaded (h .table) l) (c .before .before .before .before .opened .ensures) (c .before .before .before .before .before .before .before .before .before .before .before .before .before .before .before .fits .units .fits) (c .done .ensures)
+    let h = accepted-answer (a .table .now) (a .store .now) (a .bindings .now) (a .mark) (a .start) (a .subject) (a .units) (eq-eqb _ 0 (ap (λ (c : Checked). c .answer) (sym (at-refusal .refusal .ensures)) ∙ at-if1 .if1 .left)) in
+    let l = at-loaded .loaded .ensures in
+    ready i h _ _ _ (table-loaded l) (entries-loaded (h .table) l) (hints-loaded (h .table) l) (at-opened .opened .ensures) (start .fits .units .fits) (c .done .ensures)
 
 told-requires : tie.Need-told-requires
 told-requires c κs = search needs
@@ -64,47 +69,86 @@ array-read-m c = search needs
 
 closed-requires : tie.Need-closed-requires
 closed-requires c κs =
-    let a = c .before .before .before .before .before .before .before .before .before .before .before .before .before .before .before .before .before .before .before .before .before .before .before .args in
+    let at-a = c .before .before in
+    let at-told = at-a .before .before in
+    let at-apply = at-told .before .before .before in
+    let at-done = at-apply .before in
+    let at-opened = at-done .before .before .before .before in
+    let at-loaded = at-opened .before .before in
+    let at-if1 = at-loaded .before in
+    let at-refusal = at-if1 .before .before in
+    let start = at-refusal .before .before .before .before .before .before in
+    let a = start .args in
     let i = input (a .table .now) (a .store .now) (a .bindings .now) (a .mark) (a .start) (a .subject) (a .units) in
-    let h = accepted-answer (a .table .now) (a .store .now) (a .bindings .now) (a .mark) (a .start) (a .subject) (a .units) (eq-eqb _ 0 (ap (λ (c : Checked). c .answer) (sym (c .before .before .before .before .before .before .before .before .before .before .before .before .before .before .before .before .before .refusal .ensures)) ∙ c .before .before .before .before .before .before .before .before .before .before .before .before .before .before .before .if1 .left)) in
-    let l = c .before .before .before .before .before .before .before .before .before .before .before .before .before .before .loaded .ensures in
-    (h .bindings, done-bound i h _ _ _ (table-loaded l) (entries-loaded (h .table) l) (hints-loaded (h .table) l) (c .before .before .before .before .before .before .before .before .before .before .before .before .opened .ensures) (c .before .before .before .before .before .before .before .before .before .before .before .before .before .before .before .before .before .before .before .before .before .before .before .fits .units .fits) (c .before .before .before .before .before .before .before .before .done .ensures) _ _ _ (c .before .before .before .before .before .before .before .apply .ensures) _ (c .before .before .before .before .told .ensures) _ _ (c .before .before .a .given .1))
+    let h = accepted-answer (a .table .now) (a .store .now) (a .bindings .now) (a .mark) (a .start) (a .subject) (a .units) (eq-eqb _ 0 (ap (λ (c : Checked). c .answer) (sym (at-refusal .refusal .ensures)) ∙ at-if1 .if1 .left)) in
+    let l = at-loaded .loaded .ensures in
+    (h .bindings, done-bound i h _ _ _ (table-loaded l) (entries-loaded (h .table) l) (hints-loaded (h .table) l) (at-opened .opened .ensures) (start .fits .units .fits) (at-done .done .ensures) _ _ _ (at-apply .apply .ensures) _ (at-told .told .ensures) _ _ (at-a .a .given .1))
 
 cast-clear-from : tie.Need-cast-clear-from
 cast-clear-from c =
-    let a = c .before .before .before .before .before .before .before .before .before .before .before .before .before .before .before .before .before .before .before .before .before .before .before .before .before .before .before .args in
+    let at-a = c .before .before .before .before .before .before in
+    let at-told = at-a .before .before in
+    let at-apply = at-told .before .before .before in
+    let at-done = at-apply .before in
+    let at-opened = at-done .before .before .before .before in
+    let at-loaded = at-opened .before .before in
+    let at-if1 = at-loaded .before in
+    let at-refusal = at-if1 .before .before in
+    let start = at-refusal .before .before .before .before .before .before in
+    let a = start .args in
     let i = input (a .table .now) (a .store .now) (a .bindings .now) (a .mark) (a .start) (a .subject) (a .units) in
-    let h = accepted-answer (a .table .now) (a .store .now) (a .bindings .now) (a .mark) (a .start) (a .subject) (a .units) (eq-eqb _ 0 (ap (λ (c : Checked). c .answer) (sym (c .before .before .before .before .before .before .before .before .before .before .before .before .before .before .before .before .before .before .before .before .before .refusal .ensures)) ∙ c .before .before .before .before .before .before .before .before .before .before .before .before .before .before .before .before .before .before .before .if1 .left)) in
-    let l = c .before .before .before .before .before .before .before .before .before .before .before .before .before .before .before .before .before .before .loaded .ensures in
-    omega (arith, done-mark i h _ _ _ (table-loaded l) (entries-loaded (h .table) l) (hints-loaded (h .table) l) (c .before .before .before .before .before .before .before .before .before .before .before .before .before .before .before .before .opened .ensures) (c .before .before .before .before .before .before .before .before .before .before .before .before .before .before .before .before .before .before .before .before .before .before .before .before .before .before .before .fits .units .fits) (c .before .before .before .before .before .before .before .before .before .before .before .before .done .ensures) _ _ _ (c .before .before .before .before .before .before .before .before .before .before .before .apply .ensures) _ (c .before .before .before .before .before .before .before .before .told .ensures) _ _ (c .before .before .before .before .before .before .a .given .1))
+    let h = accepted-answer (a .table .now) (a .store .now) (a .bindings .now) (a .mark) (a .start) (a .subject) (a .units) (eq-eqb _ 0 (ap (λ (c : Checked). c .answer) (sym (at-refusal .refusal .ensures)) ∙ at-if1 .if1 .left)) in
+    let l = at-loaded .loaded .ensures in
+    omega (arith, done-mark i h _ _ _ (table-loaded l) (entries-loaded (h .table) l) (hints-loaded (h .table) l) (at-opened .opened .ensures) (start .fits .units .fits) (at-done .done .ensures) _ _ _ (at-apply .apply .ensures) _ (at-told .told .ensures) _ _ (at-a .a .given .1))
 
 mul-clear-from : tie.Need-mul-clear-from
 mul-clear-from c =
-    let a = c .before .before .before .before .before .before .before .before .before .before .before .before .before .before .before .before .before .before .before .before .before .before .before .before .before .before .before .args in
+    let at-a = c .before .before .before .before .before .before in
+    let at-told = at-a .before .before in
+    let at-apply = at-told .before .before .before in
+    let at-done = at-apply .before in
+    let at-opened = at-done .before .before .before .before in
+    let at-loaded = at-opened .before .before in
+    let at-if1 = at-loaded .before in
+    let at-refusal = at-if1 .before .before in
+    let start = at-refusal .before .before .before .before .before .before in
+    let a = start .args in
     let i = input (a .table .now) (a .store .now) (a .bindings .now) (a .mark) (a .start) (a .subject) (a .units) in
-    let h = accepted-answer (a .table .now) (a .store .now) (a .bindings .now) (a .mark) (a .start) (a .subject) (a .units) (eq-eqb _ 0 (ap (λ (c : Checked). c .answer) (sym (c .before .before .before .before .before .before .before .before .before .before .before .before .before .before .before .before .before .before .before .before .before .refusal .ensures)) ∙ c .before .before .before .before .before .before .before .before .before .before .before .before .before .before .before .before .before .before .before .if1 .left)) in
-    let l = c .before .before .before .before .before .before .before .before .before .before .before .before .before .before .before .before .before .before .loaded .ensures in
-    omega (arith, done-mark i h _ _ _ (table-loaded l) (entries-loaded (h .table) l) (hints-loaded (h .table) l) (c .before .before .before .before .before .before .before .before .before .before .before .before .before .before .before .before .opened .ensures) (c .before .before .before .before .before .before .before .before .before .before .before .before .before .before .before .before .before .before .before .before .before .before .before .before .before .before .before .fits .units .fits) (c .before .before .before .before .before .before .before .before .before .before .before .before .done .ensures) _ _ _ (c .before .before .before .before .before .before .before .before .before .before .before .apply .ensures) _ (c .before .before .before .before .before .before .before .before .told .ensures) _ _ (c .before .before .before .before .before .before .a .given .1))
+    let h = accepted-answer (a .table .now) (a .store .now) (a .bindings .now) (a .mark) (a .start) (a .subject) (a .units) (eq-eqb _ 0 (ap (λ (c : Checked). c .answer) (sym (at-refusal .refusal .ensures)) ∙ at-if1 .if1 .left)) in
+    let l = at-loaded .loaded .ensures in
+    omega (arith, done-mark i h _ _ _ (table-loaded l) (entries-loaded (h .table) l) (hints-loaded (h .table) l) (at-opened .opened .ensures) (start .fits .units .fits) (at-done .done .ensures) _ _ _ (at-apply .apply .ensures) _ (at-told .told .ensures) _ _ (at-a .a .given .1))
 
 clear-from-requires : tie.Need-clear-from-requires
 clear-from-requires c κs = search needs
 
 sub-t35 : tie.Need-sub-t35
 sub-t35 c =
-    let a = c .before .before .before .before .before .before .before .before .before .before .before .before .before .before .before .before .before .before .before .before .before .before .before .before .before .before .before .before .before .before .args in
+    let at-a = c .before .before .before .before .before .before .before .before .before in
+    let at-told = at-a .before .before in
+    let at-apply = at-told .before .before .before in
+    let at-done = at-apply .before in
+    let at-opened = at-done .before .before .before .before in
+    let at-loaded = at-opened .before .before in
+    let at-if1 = at-loaded .before in
+    let at-refusal = at-if1 .before .before in
+    let start = at-refusal .before .before .before .before .before .before in
+    let a = start .args in
     let i = input (a .table .now) (a .store .now) (a .bindings .now) (a .mark) (a .start) (a .subject) (a .units) in
-    let h = accepted-answer (a .table .now) (a .store .now) (a .bindings .now) (a .mark) (a .start) (a .subject) (a .units) (eq-eqb _ 0 (ap (λ (c : Checked). c .answer) (sym (c .before .before .before .before .before .before .before .before .before .before .before .before .before .before .before .before .before .before .before .before .before .before .before .before .refusal .ensures)) ∙ c .before .before .before .before .before .before .before .before .before .before .before .before .before .before .before .before .before .before .before .before .before .before .if1 .left)) in
-    let l = c .before .before .before .before .before .before .before .before .before .before .before .before .before .before .before .before .before .before .before .before .before .loaded .ensures in
-    omega (arith, done-left i h _ _ _ (table-loaded l) (entries-loaded (h .table) l) (hints-loaded (h .table) l) (c .before .before .before .before .before .before .before .before .before .before .before .before .before .before .before .before .before .before .before .opened .ensures) (c .before .before .before .before .before .before .before .before .before .before .before .before .before .before .before .before .before .before .before .before .before .before .before .before .before .before .before .before .before .before .fits .units .fits) (c .before .before .before .before .before .before .before .before .before .before .before .before .before .before .before .done .ensures) _ _ _ (c .before .before .before .before .before .before .before .before .before .before .before .before .before .before .apply .ensures) _ (c .before .before .before .before .before .before .before .before .before .before .before .told .ensures) _ _ (c .before .before .before .before .before .before .before .before .before .a .given .1))
+    let h = accepted-answer (a .table .now) (a .store .now) (a .bindings .now) (a .mark) (a .start) (a .subject) (a .units) (eq-eqb _ 0 (ap (λ (c : Checked). c .answer) (sym (at-refusal .refusal .ensures)) ∙ at-if1 .if1 .left)) in
+    let l = at-loaded .loaded .ensures in
+    omega (arith, done-left i h _ _ _ (table-loaded l) (entries-loaded (h .table) l) (hints-loaded (h .table) l) (at-opened .opened .ensures) (start .fits .units .fits) (at-done .done .ensures) _ _ _ (at-apply .apply .ensures) _ (at-told .told .ensures) _ _ (at-a .a .given .1))
 
 enum-known-a-2 : tie.Need-enum-known-a-2
 enum-known-a-2 c = search needs
 
 mul-clear-from-2 : tie.Need-mul-clear-from-2
 mul-clear-from-2 c =
-    let a = c .before .before .before .before .before .before .before .before .before .before .before .before .before .before .before .before .before .before .before .before .before .before .before .args in
+    let at-if1 = c .before .before .before .before .before .before .before .before .before .before .before .before .before .before .before in
+    let at-refusal = at-if1 .before .before in
+    let start = at-refusal .before .before .before .before .before .before in
+    let a = start .args in
     let i = input (a .table .now) (a .store .now) (a .bindings .now) (a .mark) (a .start) (a .subject) (a .units) in
-    let h = accepted-answer (a .table .now) (a .store .now) (a .bindings .now) (a .mark) (a .start) (a .subject) (a .units) (eq-eqb _ 0 (ap (λ (c : Checked). c .answer) (sym (c .before .before .before .before .before .before .before .before .before .before .before .before .before .before .before .before .before .refusal .ensures)) ∙ c .before .before .before .before .before .before .before .before .before .before .before .before .before .before .before .if1 .left)) in
+    let h = accepted-answer (a .table .now) (a .store .now) (a .bindings .now) (a .mark) (a .start) (a .subject) (a .units) (eq-eqb _ 0 (ap (λ (c : Checked). c .answer) (sym (at-refusal .refusal .ensures)) ∙ at-if1 .if1 .left)) in
     omega (arith, mark-fits i h)
 
 clear-from-requires-2 : tie.Need-clear-from-requires-2
@@ -112,20 +156,32 @@ clear-from-requires-2 c κs = search needs
 
 sub-t49 : tie.Need-sub-t49
 sub-t49 c =
-    let a = c .before .before .before .before .before .before .before .before .before .before .before .before .before .before .before .before .before .before .before .before .before .before .before .before .before .before .args in
+    let at-a2 = c .before .before .before .before .before in
+    let at-told = at-a2 .before .before in
+    let at-apply = at-told .before .before .before in
+    let at-done = at-apply .before in
+    let at-opened = at-done .before .before .before .before in
+    let at-loaded = at-opened .before .before in
+    let at-if1 = at-loaded .before in
+    let at-refusal = at-if1 .before .before in
+    let start = at-refusal .before .before .before .before .before .before in
+    let a = start .args in
     let i = input (a .table .now) (a .store .now) (a .bindings .now) (a .mark) (a .start) (a .subject) (a .units) in
-    let h = accepted-answer (a .table .now) (a .store .now) (a .bindings .now) (a .mark) (a .start) (a .subject) (a .units) (eq-eqb _ 0 (ap (λ (c : Checked). c .answer) (sym (c .before .before .before .before .before .before .before .before .before .before .before .before .before .before .before .before .before .before .before .before .refusal .ensures)) ∙ c .before .before .before .before .before .before .before .before .before .before .before .before .before .before .before .before .before .before .if1 .left)) in
-    let l = c .before .before .before .before .before .before .before .before .before .before .before .before .before .before .before .before .before .loaded .ensures in
-    omega (arith, failed-left i h _ _ _ (table-loaded l) (entries-loaded (h .table) l) (hints-loaded (h .table) l) (c .before .before .before .before .before .before .before .before .before .before .before .before .before .before .before .opened .ensures) (c .before .before .before .before .before .before .before .before .before .before .before .before .before .before .before .before .before .before .before .before .before .before .before .before .before .before .fits .units .fits) (c .before .before .before .before .before .before .before .before .before .before .before .done .ensures) _ _ _ (c .before .before .before .before .before .before .before .before .before .before .apply .ensures) _ (c .before .before .before .before .before .before .before .told .ensures) _ (c .before .before .before .before .before .a2 .given .1))
+    let h = accepted-answer (a .table .now) (a .store .now) (a .bindings .now) (a .mark) (a .start) (a .subject) (a .units) (eq-eqb _ 0 (ap (λ (c : Checked). c .answer) (sym (at-refusal .refusal .ensures)) ∙ at-if1 .if1 .left)) in
+    let l = at-loaded .loaded .ensures in
+    omega (arith, failed-left i h _ _ _ (table-loaded l) (entries-loaded (h .table) l) (hints-loaded (h .table) l) (at-opened .opened .ensures) (start .fits .units .fits) (at-done .done .ensures) _ _ _ (at-apply .apply .ensures) _ (at-told .told .ensures) _ (at-a2 .a2 .given .1))
 
 enum-known-a-3 : tie.Need-enum-known-a-3
 enum-known-a-3 c = search needs
 
 mul-clear-from-3 : tie.Need-mul-clear-from-3
 mul-clear-from-3 c =
-    let a = c .before .before .before .before .before .before .before .before .before .before .before .before .before .before .before .before .before .before .before .before .before .before .before .args in
+    let at-if1 = c .before .before .before .before .before .before .before .before .before .before .before .before .before .before .before in
+    let at-refusal = at-if1 .before .before in
+    let start = at-refusal .before .before .before .before .before .before in
+    let a = start .args in
     let i = input (a .table .now) (a .store .now) (a .bindings .now) (a .mark) (a .start) (a .subject) (a .units) in
-    let h = accepted-answer (a .table .now) (a .store .now) (a .bindings .now) (a .mark) (a .start) (a .subject) (a .units) (eq-eqb _ 0 (ap (λ (c : Checked). c .answer) (sym (c .before .before .before .before .before .before .before .before .before .before .before .before .before .before .before .before .before .refusal .ensures)) ∙ c .before .before .before .before .before .before .before .before .before .before .before .before .before .before .before .if1 .left)) in
+    let h = accepted-answer (a .table .now) (a .store .now) (a .bindings .now) (a .mark) (a .start) (a .subject) (a .units) (eq-eqb _ 0 (ap (λ (c : Checked). c .answer) (sym (at-refusal .refusal .ensures)) ∙ at-if1 .if1 .left)) in
     omega (arith, mark-fits i h)
 
 clear-from-requires-3 : tie.Need-clear-from-requires-3
@@ -139,11 +195,20 @@ cast-t57 c = search needs
 
 sub-t58 : tie.Need-sub-t58
 sub-t58 c =
-    let a = c .before .before .before .before .before .before .before .before .before .before .before .before .before .before .before .before .before .before .before .before .before .before .before .before .before .before .before .args in
+    let at-a3 = c .before .before .before .before .before .before in
+    let at-told = at-a3 .before .before in
+    let at-apply = at-told .before .before .before in
+    let at-done = at-apply .before in
+    let at-opened = at-done .before .before .before .before in
+    let at-loaded = at-opened .before .before in
+    let at-if1 = at-loaded .before in
+    let at-refusal = at-if1 .before .before in
+    let start = at-refusal .before .before .before .before .before .before in
+    let a = start .args in
     let i = input (a .table .now) (a .store .now) (a .bindings .now) (a .mark) (a .start) (a .subject) (a .units) in
-    let h = accepted-answer (a .table .now) (a .store .now) (a .bindings .now) (a .mark) (a .start) (a .subject) (a .units) (eq-eqb _ 0 (ap (λ (c : Checked). c .answer) (sym (c .before .before .before .before .before .before .before .before .before .before .before .before .before .before .before .before .before .before .before .before .before .refusal .ensures)) ∙ c .before .before .before .before .before .before .before .before .before .before .before .before .before .before .before .before .before .before .before .if1 .left)) in
-    let l = c .before .before .before .before .before .before .before .before .before .before .before .before .before .before .before .before .before .before .loaded .ensures in
-    omega (arith, cut-left i h _ _ _ (table-loaded l) (entries-loaded (h .table) l) (hints-loaded (h .table) l) (c .before .before .before .before .before .before .before .before .before .before .before .before .before .before .before .before .opened .ensures) (c .before .before .before .before .before .before .before .before .before .before .before .before .before .before .before .before .before .before .before .before .before .before .before .before .before .before .before .fits .units .fits) (c .before .before .before .before .before .before .before .before .before .before .before .before .done .ensures) _ _ _ (c .before .before .before .before .before .before .before .before .before .before .before .apply .ensures) _ (c .before .before .before .before .before .before .before .before .told .ensures) _ (c .before .before .before .before .before .before .a3 .given .1))
+    let h = accepted-answer (a .table .now) (a .store .now) (a .bindings .now) (a .mark) (a .start) (a .subject) (a .units) (eq-eqb _ 0 (ap (λ (c : Checked). c .answer) (sym (at-refusal .refusal .ensures)) ∙ at-if1 .if1 .left)) in
+    let l = at-loaded .loaded .ensures in
+    omega (arith, cut-left i h _ _ _ (table-loaded l) (entries-loaded (h .table) l) (hints-loaded (h .table) l) (at-opened .opened .ensures) (start .fits .units .fits) (at-done .done .ensures) _ _ _ (at-apply .apply .ensures) _ (at-told .told .ensures) _ (at-a3 .a3 .given .1))
 
 same-length-3 : tie.Need-same-length-3
 same-length-3 c = search needs
@@ -153,12 +218,23 @@ same-length-4 c = search needs
 
 returns-2 : tie.Need-returns-2
 returns-2 c =
-    let a = c .before .before .before .before .before .before .before .before .before .before .before .before .before .before .before .before .before .before .before .before .before .before .before .before .before .before .before .before .before .before .args in
+    let at-clear-from = c .before .before in
+    let at-closed = at-clear-from .before .before .before .before in
+    let at-a = at-closed .before .before .before in
+    let at-told = at-a .before .before in
+    let at-apply = at-told .before .before .before in
+    let at-done = at-apply .before in
+    let at-opened = at-done .before .before .before .before in
+    let at-loaded = at-opened .before .before in
+    let at-if1 = at-loaded .before in
+    let at-refusal = at-if1 .before .before in
+    let start = at-refusal .before .before .before .before .before .before in
+    let a = start .args in
     let i = input (a .table .now) (a .store .now) (a .bindings .now) (a .mark) (a .start) (a .subject) (a .units) in
-    let h = accepted-answer (a .table .now) (a .store .now) (a .bindings .now) (a .mark) (a .start) (a .subject) (a .units) (eq-eqb _ 0 (ap (λ (c : Checked). c .answer) (sym (c .before .before .before .before .before .before .before .before .before .before .before .before .before .before .before .before .before .before .before .before .before .before .before .before .refusal .ensures)) ∙ c .before .before .before .before .before .before .before .before .before .before .before .before .before .before .before .before .before .before .before .before .before .before .if1 .left)) in
-    let l = c .before .before .before .before .before .before .before .before .before .before .before .before .before .before .before .before .before .before .before .before .before .loaded .ensures in
-    let r = done-returns i h _ _ _ (table-loaded l) (entries-loaded (h .table) l) (hints-loaded (h .table) l) (c .before .before .before .before .before .before .before .before .before .before .before .before .before .before .before .before .before .before .before .opened .ensures) (c .before .before .before .before .before .before .before .before .before .before .before .before .before .before .before .before .before .before .before .before .before .before .before .before .before .before .before .before .before .before .fits .units .fits) (c .before .before .before .before .before .before .before .before .before .before .before .before .before .before .before .done .ensures) _ _ _ (c .before .before .before .before .before .before .before .before .before .before .before .before .before .before .apply .ensures) _ (c .before .before .before .before .before .before .before .before .before .before .before .told .ensures) _ _ (c .before .before .before .before .before .before .before .before .before .a .given .1) in
-    back-is i _ _ _ _ (sym r ∙ run-ran i _ (c .before .before .before .before .before .before .before .before .before .before .before .before .before .before .before .before .before .before .before .before .before .before .before .before .refusal .ensures) (c .before .before .before .before .before .before .before .before .before .before .before .before .before .before .before .before .before .before .before .before .before .before .if1 .left)) refl refl refl refl refl (c .before .before .clear-from .ensures) (c .before .before .before .before .before .before .closed .ensures)
+    let h = accepted-answer (a .table .now) (a .store .now) (a .bindings .now) (a .mark) (a .start) (a .subject) (a .units) (eq-eqb _ 0 (ap (λ (c : Checked). c .answer) (sym (at-refusal .refusal .ensures)) ∙ at-if1 .if1 .left)) in
+    let l = at-loaded .loaded .ensures in
+    let r = done-returns i h _ _ _ (table-loaded l) (entries-loaded (h .table) l) (hints-loaded (h .table) l) (at-opened .opened .ensures) (start .fits .units .fits) (at-done .done .ensures) _ _ _ (at-apply .apply .ensures) _ (at-told .told .ensures) _ _ (at-a .a .given .1) in
+    back-is i _ _ _ _ (sym r ∙ run-ran i _ (at-refusal .refusal .ensures) (at-if1 .if1 .left)) refl refl refl refl refl (at-clear-from .clear-from .ensures) (at-closed .closed .ensures)
 
 same-length-5 : tie.Need-same-length-5
 same-length-5 c = search needs
@@ -168,12 +244,22 @@ same-length-6 c = search needs
 
 returns-3 : tie.Need-returns-3
 returns-3 c =
-    let a = c .before .before .before .before .before .before .before .before .before .before .before .before .before .before .before .before .before .before .before .before .before .before .before .before .before .before .args in
+    let at-clear-from2 = c .before .before in
+    let at-a2 = at-clear-from2 .before .before .before in
+    let at-told = at-a2 .before .before in
+    let at-apply = at-told .before .before .before in
+    let at-done = at-apply .before in
+    let at-opened = at-done .before .before .before .before in
+    let at-loaded = at-opened .before .before in
+    let at-if1 = at-loaded .before in
+    let at-refusal = at-if1 .before .before in
+    let start = at-refusal .before .before .before .before .before .before in
+    let a = start .args in
     let i = input (a .table .now) (a .store .now) (a .bindings .now) (a .mark) (a .start) (a .subject) (a .units) in
-    let h = accepted-answer (a .table .now) (a .store .now) (a .bindings .now) (a .mark) (a .start) (a .subject) (a .units) (eq-eqb _ 0 (ap (λ (c : Checked). c .answer) (sym (c .before .before .before .before .before .before .before .before .before .before .before .before .before .before .before .before .before .before .before .before .refusal .ensures)) ∙ c .before .before .before .before .before .before .before .before .before .before .before .before .before .before .before .before .before .before .if1 .left)) in
-    let l = c .before .before .before .before .before .before .before .before .before .before .before .before .before .before .before .before .before .loaded .ensures in
-    let r = failed-returns i h _ _ _ (table-loaded l) (entries-loaded (h .table) l) (hints-loaded (h .table) l) (c .before .before .before .before .before .before .before .before .before .before .before .before .before .before .before .opened .ensures) (c .before .before .before .before .before .before .before .before .before .before .before .before .before .before .before .before .before .before .before .before .before .before .before .before .before .before .fits .units .fits) (c .before .before .before .before .before .before .before .before .before .before .before .done .ensures) _ _ _ (c .before .before .before .before .before .before .before .before .before .before .apply .ensures) _ (c .before .before .before .before .before .before .before .told .ensures) _ (c .before .before .before .before .before .a2 .given .1) in
-    back-is i _ _ _ _ (sym r ∙ run-ran i _ (c .before .before .before .before .before .before .before .before .before .before .before .before .before .before .before .before .before .before .before .before .refusal .ensures) (c .before .before .before .before .before .before .before .before .before .before .before .before .before .before .before .before .before .before .if1 .left)) refl refl refl refl refl (c .before .before .clear-from2 .ensures) refl
+    let h = accepted-answer (a .table .now) (a .store .now) (a .bindings .now) (a .mark) (a .start) (a .subject) (a .units) (eq-eqb _ 0 (ap (λ (c : Checked). c .answer) (sym (at-refusal .refusal .ensures)) ∙ at-if1 .if1 .left)) in
+    let l = at-loaded .loaded .ensures in
+    let r = failed-returns i h _ _ _ (table-loaded l) (entries-loaded (h .table) l) (hints-loaded (h .table) l) (at-opened .opened .ensures) (start .fits .units .fits) (at-done .done .ensures) _ _ _ (at-apply .apply .ensures) _ (at-told .told .ensures) _ (at-a2 .a2 .given .1) in
+    back-is i _ _ _ _ (sym r ∙ run-ran i _ (at-refusal .refusal .ensures) (at-if1 .if1 .left)) refl refl refl refl refl (at-clear-from2 .clear-from2 .ensures) refl
 
 same-length-7 : tie.Need-same-length-7
 same-length-7 c = search needs
@@ -183,12 +269,22 @@ same-length-8 c = search needs
 
 returns-4 : tie.Need-returns-4
 returns-4 c =
-    let a = c .before .before .before .before .before .before .before .before .before .before .before .before .before .before .before .before .before .before .before .before .before .before .before .before .before .before .before .args in
+    let at-clear-from3 = c .before .before .before in
+    let at-a3 = at-clear-from3 .before .before .before in
+    let at-told = at-a3 .before .before in
+    let at-apply = at-told .before .before .before in
+    let at-done = at-apply .before in
+    let at-opened = at-done .before .before .before .before in
+    let at-loaded = at-opened .before .before in
+    let at-if1 = at-loaded .before in
+    let at-refusal = at-if1 .before .before in
+    let start = at-refusal .before .before .before .before .before .before in
+    let a = start .args in
     let i = input (a .table .now) (a .store .now) (a .bindings .now) (a .mark) (a .start) (a .subject) (a .units) in
-    let h = accepted-answer (a .table .now) (a .store .now) (a .bindings .now) (a .mark) (a .start) (a .subject) (a .units) (eq-eqb _ 0 (ap (λ (c : Checked). c .answer) (sym (c .before .before .before .before .before .before .before .before .before .before .before .before .before .before .before .before .before .before .before .before .before .refusal .ensures)) ∙ c .before .before .before .before .before .before .before .before .before .before .before .before .before .before .before .before .before .before .before .if1 .left)) in
-    let l = c .before .before .before .before .before .before .before .before .before .before .before .before .before .before .before .before .before .before .loaded .ensures in
-    let r = cut-returns i h _ _ _ (table-loaded l) (entries-loaded (h .table) l) (hints-loaded (h .table) l) (c .before .before .before .before .before .before .before .before .before .before .before .before .before .before .before .before .opened .ensures) (c .before .before .before .before .before .before .before .before .before .before .before .before .before .before .before .before .before .before .before .before .before .before .before .before .before .before .before .fits .units .fits) (c .before .before .before .before .before .before .before .before .before .before .before .before .done .ensures) _ _ _ (c .before .before .before .before .before .before .before .before .before .before .before .apply .ensures) _ (c .before .before .before .before .before .before .before .before .told .ensures) _ (c .before .before .before .before .before .before .a3 .given .1) in
-    back-is i _ _ _ _ (sym r ∙ run-ran i _ (c .before .before .before .before .before .before .before .before .before .before .before .before .before .before .before .before .before .before .before .before .before .refusal .ensures) (c .before .before .before .before .before .before .before .before .before .before .before .before .before .before .before .before .before .before .before .if1 .left)) (c .cut-answer .ensures) refl refl refl refl (c .before .before .before .clear-from3 .ensures) refl
+    let h = accepted-answer (a .table .now) (a .store .now) (a .bindings .now) (a .mark) (a .start) (a .subject) (a .units) (eq-eqb _ 0 (ap (λ (c : Checked). c .answer) (sym (at-refusal .refusal .ensures)) ∙ at-if1 .if1 .left)) in
+    let l = at-loaded .loaded .ensures in
+    let r = cut-returns i h _ _ _ (table-loaded l) (entries-loaded (h .table) l) (hints-loaded (h .table) l) (at-opened .opened .ensures) (start .fits .units .fits) (at-done .done .ensures) _ _ _ (at-apply .apply .ensures) _ (at-told .told .ensures) _ (at-a3 .a3 .given .1) in
+    back-is i _ _ _ _ (sym r ∙ run-ran i _ (at-refusal .refusal .ensures) (at-if1 .if1 .left)) (c .cut-answer .ensures) refl refl refl refl (at-clear-from3 .clear-from3 .ensures) refl
 
 pub run-spec : {M : Type 1} → statement M
 run-spec =

@@ -50,7 +50,14 @@ pub apply-same-length-2 : (t : ℕ) → apply-lts.Need-same-length-2 (apply-call
 apply-same-length-2 t c = search needs
 
 pub apply-returns-4 : (t : ℕ) → apply-lts.Need-returns-4 (apply-calls t) (apply-at t) apply.Post
-apply-returns-4 t c = all-itself (first-turn _ (c .before .before .before .before .before .before .before .before .pre .1) (c .before .before .before .before .before .before .before .before .fits .given .fits)) (c .before .before .before .before .if2 .left) (c .before .before .before .if3 .left) (sym (c .before .before .before .before .before .before .kind .ensures) ∙ c .before .before .before .before .before .if1 .left) (sym (c .before .count .ensures) ∙ c .if4 .taken)
+apply-returns-4 t c =
+    let at-count = c .before in
+    let at-if3 = at-count .before .before in
+    let at-if2 = at-if3 .before in
+    let at-if1 = at-if2 .before in
+    let at-kind = at-if1 .before in
+    let start = at-kind .before .before in
+    all-itself (first-turn _ (start .pre .1) (start .fits .given .fits)) (at-if2 .if2 .left) (at-if3 .if3 .left) (sym (at-kind .kind .ensures) ∙ at-if1 .if1 .left) (sym (at-count .count .ensures) ∙ c .if4 .taken)
 
 pub apply-sub-walk : (t : ℕ) → apply-lts.Need-sub-walk (apply-calls t) (apply-at t) apply.Post
 apply-sub-walk t c = omega (arith, pos _ (c .before .before .before .before .before .before .if2 .left))
@@ -59,10 +66,23 @@ pub apply-sub-walk-2 : (t : ℕ) → apply-lts.Need-sub-walk-2 (apply-calls t) (
 apply-sub-walk-2 t c = omega (arith, pos _ (c .before .before .before .before .before .if3 .left))
 
 pub apply-walk-requires : (t : ℕ) → apply-lts.Need-walk-requires (apply-calls t) (apply-at t) apply.Post
-apply-walk-requires t c κs = (omega (arith, pos _ (c .before .before .before .before .before .if3 .left)), (ready-same (first-turn _ (c .before .before .before .before .before .before .before .before .before .before .pre .1) (c .before .before .before .before .before .before .before .before .before .before .fits .given .fits)) (c .before .before .before .before .before .before .if2 .left) (c .before .before .before .before .before .if3 .left), λ z. absurd (two-kinds (c .before .before .before .before .before .before .before .before .kind .ensures) (c .before .before .before .before .before .before .before .if1 .left) z (omega arith))))
+apply-walk-requires t c κs =
+    let at-if3 = c .before .before .before .before .before in
+    let at-if2 = at-if3 .before in
+    let at-if1 = at-if2 .before in
+    let at-kind = at-if1 .before in
+    let start = at-kind .before .before in
+    (omega (arith, pos _ (at-if3 .if3 .left)), (ready-same (first-turn _ (start .pre .1) (start .fits .given .fits)) (at-if2 .if2 .left) (at-if3 .if3 .left), λ z. absurd (two-kinds (at-kind .kind .ensures) (at-if1 .if1 .left) z (omega arith))))
 
 pub apply-same-length-3 : (t : ℕ) → apply-lts.Need-same-length-3 (apply-calls t) (apply-at t) apply.Post
 apply-same-length-3 t c = c .before .before .walk .kept .1 .0
 
 pub apply-returns-5 : (t : ℕ) → apply-lts.Need-returns-5 (apply-calls t) (apply-at t) apply.Post
-apply-returns-5 t c = whole (first-turn _ (c .before .before .before .before .before .before .before .before .before .before .before .before .before .pre .1) (c .before .before .before .before .before .before .before .before .before .before .before .before .before .fits .given .fits)) (c .before .before .before .before .before .before .before .before .before .if2 .left) (c .before .before .before .before .before .before .before .before .if3 .left) (renamed (c .before .before .walk .ensures) (sym (ruled-all _ _ _ _ _ _ _ _ (sym (c .before .before .before .before .before .before .before .before .before .before .before .kind .ensures) ∙ c .before .before .before .before .before .before .before .before .before .before .if1 .left))))
+apply-returns-5 t c =
+    let at-walk = c .before .before in
+    let at-if3 = at-walk .before .before .before .before .before .before in
+    let at-if2 = at-if3 .before in
+    let at-if1 = at-if2 .before in
+    let at-kind = at-if1 .before in
+    let start = at-kind .before .before in
+    whole (first-turn _ (start .pre .1) (start .fits .given .fits)) (at-if2 .if2 .left) (at-if3 .if3 .left) (renamed (at-walk .walk .ensures) (sym (ruled-all _ _ _ _ _ _ _ _ (sym (at-kind .kind .ensures) ∙ at-if1 .if1 .left))))

@@ -24,7 +24,12 @@ pub aside-same-length : (t : ℕ) → aside-lts.Need-same-length (aside-calls t)
 aside-same-length t c = search needs
 
 pub aside-returns : (t : ℕ) → aside-lts.Need-returns (aside-calls t) (aside-at t) aside.Post
-aside-returns t c = gives-where-stops _ (c .before .before .before .before .before .before .before .before .before .pre .1 .0) (c .before .before .before .before .before .entry .ensures) (c .before .before .before .before .apply .ensures) (c .before .told .ensures) (c .before .before .before .before .before .before .before .before .before .pre .1 .1) (c .match .keys2)
+aside-returns t c =
+    let at-told = c .before in
+    let at-apply = at-told .before .before .before in
+    let at-entry = at-apply .before in
+    let start = at-entry .before .before .before .before in
+    gives-where-stops _ (start .pre .1 .0) (at-entry .entry .ensures) (at-apply .apply .ensures) (at-told .told .ensures) (start .pre .1 .1) (c .match .keys2)
 
 pub aside-cast-done : (t : ℕ) → aside-lts.Need-cast-done (aside-calls t) (aside-at t) aside.Post
 aside-cast-done t c = search needs
@@ -36,4 +41,10 @@ pub aside-same-length-2 : (t : ℕ) → aside-lts.Need-same-length-2 (aside-call
 aside-same-length-2 t c = search needs
 
 pub aside-returns-2 : (t : ℕ) → aside-lts.Need-returns-2 (aside-calls t) (aside-at t) aside.Post
-aside-returns-2 t c = gives-where _ (c .before .before .before .before .before .before .before .before .before .before .before .before .pre .1 .0) (c .before .before .before .before .before .before .before .before .entry .ensures) (c .before .before .before .before .before .before .before .apply .ensures) (c .before .before .before .before .told .ensures) (c .before .before .before .before .before .before .before .before .before .before .before .before .pre .1 .1) (c .before .before .u .given .1) (c .done .ensures)
+aside-returns-2 t c =
+    let at-u = c .before .before in
+    let at-told = at-u .before .before in
+    let at-apply = at-told .before .before .before in
+    let at-entry = at-apply .before in
+    let start = at-entry .before .before .before .before in
+    gives-where _ (start .pre .1 .0) (at-entry .entry .ensures) (at-apply .apply .ensures) (at-told .told .ensures) (start .pre .1 .1) (at-u .u .given .1) (c .done .ensures)

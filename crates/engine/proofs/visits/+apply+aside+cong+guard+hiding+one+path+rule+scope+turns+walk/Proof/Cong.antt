@@ -32,4 +32,9 @@ pub cong-same-length-2 : (t : ℕ) → cong-lts.Need-same-length-2 (cong-calls t
 cong-same-length-2 t c = search needs
 
 pub cong-returns-2 : (t : ℕ) → cong-lts.Need-returns-2 (cong-calls t) (cong-at t) cong.Post
-cong-returns-2 t c = gives-cong _ (c .before .before .before .before .before .before .before .before .before .pre .1 .0) (c .before .before .before .before .before .before .before .before .before .pre .1 .1) (c .before .before .before .before .before .before .agree .ensures) (c .before .before .before .before .before .if1 .left) (c .before .before .walk .ensures)
+cong-returns-2 t c =
+    let at-walk = c .before .before in
+    let at-if1 = at-walk .before .before .before in
+    let at-agree = at-if1 .before in
+    let start = at-agree .before .before .before in
+    gives-cong _ (start .pre .1 .0) (start .pre .1 .1) (at-agree .agree .ensures) (at-if1 .if1 .left) (at-walk .walk .ensures)

@@ -33,7 +33,12 @@ pub guard-same-length : (t : ℕ) → guard-lts.Need-same-length (guard-calls t)
 guard-same-length t c = search needs
 
 pub guard-returns : (t : ℕ) → guard-lts.Need-returns (guard-calls t) (guard-at t) guard.Post
-guard-returns t c = gives-guard-off _ (c .before .before .before .before .before .before .before .before .before .before .before .before .pre .1 .0) (c .before .before .before .before .before .before .entry .ensures) (c .before .before .before .before .before .apply .ensures) (c .before .before .hear .ensures) (c .before .before .before .before .before .before .before .before .before .before .before .before .pre .1 .1) (c .enum-told .given .1)
+guard-returns t c =
+    let at-hear = c .before .before in
+    let at-apply = at-hear .before .before .before in
+    let at-entry = at-apply .before in
+    let start = at-entry .before .before .before .before .before .before in
+    gives-guard-off _ (start .pre .1 .0) (at-entry .entry .ensures) (at-apply .apply .ensures) (at-hear .hear .ensures) (start .pre .1 .1) (c .enum-told .given .1)
 
 pub guard-element-write-st : (t : ℕ) → guard-lts.Need-element-write-st (guard-calls t) (guard-at t) guard.Post
 guard-element-write-st t c = search needs
@@ -54,7 +59,16 @@ pub guard-same-length-2 : (t : ℕ) → guard-lts.Need-same-length-2 (guard-call
 guard-same-length-2 t c = search needs
 
 pub guard-returns-2 : (t : ℕ) → guard-lts.Need-returns-2 (guard-calls t) (guard-at t) guard.Post
-guard-returns-2 t c = gives-test _ (c .before .before .before .before .before .before .before .before .before .before .before .before .before .before .before .before .before .pre .1 .0) (c .before .before .before .before .before .before .before .before .before .before .before .entry .ensures) (c .before .before .before .before .before .before .before .before .before .before .apply .ensures) (c .before .before .before .before .before .before .before .hear .ensures) (c .before .before .before .before .before .before .before .before .before .before .before .before .before .before .before .before .before .pre .1 .1) (c .before .before .before .before .before .yes .given .1) (c .before .before .before .kind .ensures) (c .before .before .if1 .taken) (c .before .if2 .taken) (c .done .ensures)
+guard-returns-2 t c =
+    let at-if2 = c .before in
+    let at-if1 = at-if2 .before in
+    let at-kind = at-if1 .before in
+    let at-yes = at-kind .before .before in
+    let at-hear = at-yes .before .before in
+    let at-apply = at-hear .before .before .before in
+    let at-entry = at-apply .before in
+    let start = at-entry .before .before .before .before .before .before in
+    gives-test _ (start .pre .1 .0) (at-entry .entry .ensures) (at-apply .apply .ensures) (at-hear .hear .ensures) (start .pre .1 .1) (at-yes .yes .given .1) (at-kind .kind .ensures) (at-if1 .if1 .taken) (at-if2 .if2 .taken) (c .done .ensures)
 
 pub guard-failure-requires : (t : ℕ) → guard-lts.Need-failure-requires (guard-calls t) (guard-at t) guard.Post
 guard-failure-requires t c κs = search needs
@@ -63,7 +77,16 @@ pub guard-same-length-3 : (t : ℕ) → guard-lts.Need-same-length-3 (guard-call
 guard-same-length-3 t c = search needs
 
 pub guard-returns-3 : (t : ℕ) → guard-lts.Need-returns-3 (guard-calls t) (guard-at t) guard.Post
-guard-returns-3 t c = gives-test-failed _ (c .before .before .before .before .before .before .before .before .before .before .before .before .before .before .before .before .before .pre .1 .0) (c .before .before .before .before .before .before .before .before .before .before .before .entry .ensures) (c .before .before .before .before .before .before .before .before .before .before .apply .ensures) (c .before .before .before .before .before .before .before .hear .ensures) (c .before .before .before .before .before .before .before .before .before .before .before .before .before .before .before .before .before .pre .1 .1) (c .before .before .before .before .before .yes .given .1) (c .before .before .before .kind .ensures) (c .before .before .if1 .taken) (c .before .if2 .left) (c .failure .ensures)
+guard-returns-3 t c =
+    let at-if2 = c .before in
+    let at-if1 = at-if2 .before in
+    let at-kind = at-if1 .before in
+    let at-yes = at-kind .before .before in
+    let at-hear = at-yes .before .before in
+    let at-apply = at-hear .before .before .before in
+    let at-entry = at-apply .before in
+    let start = at-entry .before .before .before .before .before .before in
+    gives-test-failed _ (start .pre .1 .0) (at-entry .entry .ensures) (at-apply .apply .ensures) (at-hear .hear .ensures) (start .pre .1 .1) (at-yes .yes .given .1) (at-kind .kind .ensures) (at-if1 .if1 .taken) (at-if2 .if2 .left) (c .failure .ensures)
 
 pub guard-failure-requires-2 : (t : ℕ) → guard-lts.Need-failure-requires-2 (guard-calls t) (guard-at t) guard.Post
 guard-failure-requires-2 t c κs = search needs
@@ -72,7 +95,16 @@ pub guard-same-length-4 : (t : ℕ) → guard-lts.Need-same-length-4 (guard-call
 guard-same-length-4 t c = search needs
 
 pub guard-returns-4 : (t : ℕ) → guard-lts.Need-returns-4 (guard-calls t) (guard-at t) guard.Post
-guard-returns-4 t c = gives-not-failed _ (c .before .before .before .before .before .before .before .before .before .before .before .before .before .before .before .before .before .pre .1 .0) (c .before .before .before .before .before .before .before .before .before .before .before .entry .ensures) (c .before .before .before .before .before .before .before .before .before .before .apply .ensures) (c .before .before .before .before .before .before .before .hear .ensures) (c .before .before .before .before .before .before .before .before .before .before .before .before .before .before .before .before .before .pre .1 .1) (c .before .before .before .before .before .yes .given .1) (c .before .before .before .kind .ensures) (c .before .before .if1 .left) (c .before .if3 .taken) (c .failure2 .ensures)
+guard-returns-4 t c =
+    let at-if3 = c .before in
+    let at-if1 = at-if3 .before in
+    let at-kind = at-if1 .before in
+    let at-yes = at-kind .before .before in
+    let at-hear = at-yes .before .before in
+    let at-apply = at-hear .before .before .before in
+    let at-entry = at-apply .before in
+    let start = at-entry .before .before .before .before .before .before in
+    gives-not-failed _ (start .pre .1 .0) (at-entry .entry .ensures) (at-apply .apply .ensures) (at-hear .hear .ensures) (start .pre .1 .1) (at-yes .yes .given .1) (at-kind .kind .ensures) (at-if1 .if1 .left) (at-if3 .if3 .taken) (c .failure2 .ensures)
 
 pub guard-cast-done-2 : (t : ℕ) → guard-lts.Need-cast-done-2 (guard-calls t) (guard-at t) guard.Post
 guard-cast-done-2 t c = search needs
@@ -84,4 +116,13 @@ pub guard-same-length-5 : (t : ℕ) → guard-lts.Need-same-length-5 (guard-call
 guard-same-length-5 t c = search needs
 
 pub guard-returns-5 : (t : ℕ) → guard-lts.Need-returns-5 (guard-calls t) (guard-at t) guard.Post
-guard-returns-5 t c = gives-not _ (c .before .before .before .before .before .before .before .before .before .before .before .before .before .before .before .before .before .pre .1 .0) (c .before .before .before .before .before .before .before .before .before .before .before .entry .ensures) (c .before .before .before .before .before .before .before .before .before .before .apply .ensures) (c .before .before .before .before .before .before .before .hear .ensures) (c .before .before .before .before .before .before .before .before .before .before .before .before .before .before .before .before .before .pre .1 .1) (c .before .before .before .before .before .yes .given .1) (c .before .before .before .kind .ensures) (c .before .before .if1 .left) (c .before .if3 .left) (c .done2 .ensures)
+guard-returns-5 t c =
+    let at-if3 = c .before in
+    let at-if1 = at-if3 .before in
+    let at-kind = at-if1 .before in
+    let at-yes = at-kind .before .before in
+    let at-hear = at-yes .before .before in
+    let at-apply = at-hear .before .before .before in
+    let at-entry = at-apply .before in
+    let start = at-entry .before .before .before .before .before .before in
+    gives-not _ (start .pre .1 .0) (at-entry .entry .ensures) (at-apply .apply .ensures) (at-hear .hear .ensures) (start .pre .1 .1) (at-yes .yes .given .1) (at-kind .kind .ensures) (at-if1 .if1 .left) (at-if3 .if3 .left) (c .done2 .ensures)

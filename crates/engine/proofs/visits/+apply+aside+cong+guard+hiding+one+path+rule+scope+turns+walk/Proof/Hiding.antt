@@ -26,7 +26,11 @@ pub hiding-entry-requires-2 : (t : ℕ) → hiding-lts.Need-entry-requires-2 (hi
 hiding-entry-requires-2 t c κs = ((c .before .before .before .before .before .before .before .before .pre .1 .0) .inside, omega arith)
 
 pub hiding-apply-requires : (t : ℕ) → hiding-lts.Need-apply-requires (hiding-calls t) (hiding-at t) hiding.Post
-hiding-apply-requires t c κs = (omega arith, ready-hiding (c .before .before .before .before .before .before .before .before .before .args .deep) (c .before .before .before .before .before .before .before .before .before .pre .1 .0) (c .before .before .before .before .before .before .before .entry .ensures) (omega (arith, c .before .before .before .before .before .before .before .entry .ok)) (c .entry2 .ensures) (c .before .before .before .hide .ensures))
+hiding-apply-requires t c κs =
+    let at-hide = c .before .before .before in
+    let at-entry = at-hide .before .before .before .before in
+    let start = at-entry .before .before in
+    (omega arith, ready-hiding (start .args .deep) (start .pre .1 .0) (at-entry .entry .ensures) (omega (arith, at-entry .entry .ok)) (c .entry2 .ensures) (at-hide .hide .ensures))
 
 pub hiding-put-back-requires : (t : ℕ) → hiding-lts.Need-put-back-requires (hiding-calls t) (hiding-at t) hiding.Post
 hiding-put-back-requires t c κs = search needs
@@ -44,4 +48,11 @@ pub hiding-same-length : (t : ℕ) → hiding-lts.Need-same-length (hiding-calls
 hiding-same-length t c = search needs
 
 pub hiding-returns : (t : ℕ) → hiding-lts.Need-returns (hiding-calls t) (hiding-at t) hiding.Post
-hiding-returns t c = gives-hiding _ (c .before .before .before .before .before .before .before .before .before .before .before .before .before .before .before .before .pre .1 .0) (c .before .before .before .before .before .before .before .before .before .before .before .before .before .before .entry .ensures) (omega (arith, c .before .before .before .before .before .before .before .before .before .before .before .before .before .before .entry .ok)) (c .before .before .before .before .before .before .before .entry2 .ensures) (c .before .before .before .before .before .before .before .before .before .before .hide .ensures) (c .before .before .before .before .before .before .apply .ensures) (c .before .before .before .before .before .before .before .before .before .before .before .before .before .before .before .before .pre .1 .1) (c .before .before .put-back .ensures) (c .hide2 .ensures)
+hiding-returns t c =
+    let at-put-back = c .before .before in
+    let at-apply = at-put-back .before .before .before .before in
+    let at-entry2 = at-apply .before in
+    let at-hide = at-entry2 .before .before .before in
+    let at-entry = at-hide .before .before .before .before in
+    let start = at-entry .before .before in
+    gives-hiding _ (start .pre .1 .0) (at-entry .entry .ensures) (omega (arith, at-entry .entry .ok)) (at-entry2 .entry2 .ensures) (at-hide .hide .ensures) (at-apply .apply .ensures) (start .pre .1 .1) (at-put-back .put-back .ensures) (c .hide2 .ensures)

@@ -45,7 +45,13 @@ pub one-done-requires : (t : ℕ) → one-lts.Need-done-requires (one-calls t) (
 one-done-requires t c κs = search needs
 
 pub one-apply-requires : (t : ℕ) → one-lts.Need-apply-requires (one-calls t) (one-at t) one.Post one-Inv-loop one-μ-loop
-one-apply-requires t c κs = (omega arith, ready-one (c .before .before .before .before .before .before .before .before .before .before .before .before .before .args .deep) (c .before .before .before .before .before .before .before .before .before .before .before .before .before .pre .1 .0) (c .before .before .before .before .before .before .loop .inv) (c .before .before .before .before .before .loop-test .taken) (c .before .word .ensures) (c .done .ensures) (c .before .before .before .before .before .before .before .entry .ensures))
+one-apply-requires t c κs =
+    let at-word = c .before in
+    let at-loop-test = at-word .before .before .before .before in
+    let at-loop = at-loop-test .before in
+    let at-entry = at-loop .before in
+    let start = at-entry .before .before .before .before .before .before in
+    (omega arith, ready-one (start .args .deep) (start .pre .1 .0) (at-loop .loop .inv) (at-loop-test .loop-test .taken) (at-word .word .ensures) (c .done .ensures) (at-entry .entry .ensures))
 
 pub one-hear-requires : (t : ℕ) → one-lts.Need-hear-requires (one-calls t) (one-at t) one.Post one-Inv-loop one-μ-loop
 one-hear-requires t c κs = search needs
@@ -60,7 +66,15 @@ pub one-same-length : (t : ℕ) → one-lts.Need-same-length (one-calls t) (one-
 one-same-length t c = search needs
 
 pub one-returns : (t : ℕ) → one-lts.Need-returns (one-calls t) (one-at t) one.Post one-Inv-loop one-μ-loop
-one-returns t c = gives-one-off _ (c .before .before .before .before .before .before .before .before .before .before .before .before .before .before .before .before .before .before .before .pre .1 .0) (c .before .before .before .before .before .before .before .before .before .before .before .before .loop .inv) (c .before .before .before .before .before .before .before .before .before .before .before .loop-test .taken) (c .before .before .before .before .before .before .before .word .ensures) (c .before .before .before .before .before .before .done .ensures) (c .before .before .before .before .before .apply .ensures) (c .before .before .hear .ensures) (c .enum-told .given .1)
+one-returns t c =
+    let at-hear = c .before .before in
+    let at-apply = at-hear .before .before .before in
+    let at-done = at-apply .before in
+    let at-word = at-done .before in
+    let at-loop-test = at-word .before .before .before .before in
+    let at-loop = at-loop-test .before in
+    let start = at-loop .before .before .before .before .before .before .before in
+    gives-one-off _ (start .pre .1 .0) (at-loop .loop .inv) (at-loop-test .loop-test .taken) (at-word .word .ensures) (at-done .done .ensures) (at-apply .apply .ensures) (at-hear .hear .ensures) (c .enum-told .given .1)
 
 pub one-row-requires : (t : ℕ) → one-lts.Need-row-requires (one-calls t) (one-at t) one.Post one-Inv-loop one-μ-loop
 one-row-requires t c κs = search needs
@@ -78,13 +92,35 @@ pub one-array-write-made : (t : ℕ) → one-lts.Need-array-write-made (one-call
 one-array-write-made t c = search needs
 
 pub one-node-requires : (t : ℕ) → one-lts.Need-node-requires (one-calls t) (one-at t) one.Post one-Inv-loop one-μ-loop
-one-node-requires t c κs = (roomy-one (c .before .before .before .before .before .before .before .before .before .before .before .before .before .before .before .before .before .before .before .before .before .before .before .before .before .args .deep) (c .before .before .before .before .before .before .before .before .before .before .before .before .before .before .before .before .before .before .before .before .before .before .before .before .before .pre .1 .0) (c .before .before .before .before .before .before .before .before .before .before .before .before .before .before .before .before .before .before .loop .inv) (c .before .before .before .before .before .before .before .before .before .before .before .before .before .before .before .before .before .loop-test .taken) (c .before .before .before .before .before .before .before .before .before .before .before .before .before .word .ensures) (c .before .before .before .before .before .before .before .before .before .before .before .before .done .ensures) (c .before .before .before .before .before .before .before .before .before .before .before .apply .ensures) (c .before .before .before .before .before .before .before .before .hear .ensures) (c .before .before .before .before .before .before .yes .given .1) (c .before .before .before .before .if1 .taken), c .before .before .before .before .before .before .before .before .before .before .before .apply .ensures .frame .long ∙ c .before .before .before .before .before .before .before .before .before .before .before .before .before .before .before .before .before .before .loop .inv .wide ∙ c .before .before .before .before .before .before .before .before .before .before .before .before .before .before .before .before .before .before .before .before .before .before .before .before .before .pre .1 .0 .long)
+one-node-requires t c κs =
+    let at-if1 = c .before .before .before .before in
+    let at-yes = at-if1 .before .before in
+    let at-hear = at-yes .before .before in
+    let at-apply = at-hear .before .before .before in
+    let at-done = at-apply .before in
+    let at-word = at-done .before in
+    let at-loop-test = at-word .before .before .before .before in
+    let at-loop = at-loop-test .before in
+    let start = at-loop .before .before .before .before .before .before .before in
+    (roomy-one (start .args .deep) (start .pre .1 .0) (at-loop .loop .inv) (at-loop-test .loop-test .taken) (at-word .word .ensures) (at-done .done .ensures) (at-apply .apply .ensures) (at-hear .hear .ensures) (at-yes .yes .given .1) (at-if1 .if1 .taken), at-apply .apply .ensures .frame .long ∙ at-loop .loop .inv .wide ∙ start .pre .1 .0 .long)
 
 pub one-same-length-2 : (t : ℕ) → one-lts.Need-same-length-2 (one-calls t) (one-at t) one.Post one-Inv-loop one-μ-loop
 one-same-length-2 t c = search needs
 
 pub one-returns-2 : (t : ℕ) → one-lts.Need-returns-2 (one-calls t) (one-at t) one.Post one-Inv-loop one-μ-loop
-one-returns-2 t c = gives-one _ (c .before .before .before .before .before .before .before .before .before .before .before .before .before .before .before .before .before .before .before .before .before .before .before .before .before .before .before .before .pre .1 .0) (c .before .before .before .before .before .before .before .before .before .before .before .before .before .before .before .before .before .before .before .before .before .loop .inv) (c .before .before .before .before .before .before .before .before .before .before .before .before .before .before .before .before .before .before .before .before .loop-test .taken) (c .before .before .before .before .before .before .before .before .before .before .before .before .before .before .before .before .word .ensures) (c .before .before .before .before .before .before .before .before .before .before .before .before .before .before .before .done .ensures) (c .before .before .before .before .before .before .before .before .before .before .before .before .before .before .apply .ensures) (c .before .before .before .before .before .before .before .before .before .before .before .hear .ensures) (c .before .before .before .before .before .before .before .before .before .yes .given .1) (c .before .before .before .before .before .before .before .if1 .taken) (c .before .before .before .before .before .row .ensures) (c .before .before .node .ensures)
+one-returns-2 t c =
+    let at-node = c .before .before in
+    let at-row = at-node .before .before .before in
+    let at-if1 = at-row .before .before in
+    let at-yes = at-if1 .before .before in
+    let at-hear = at-yes .before .before in
+    let at-apply = at-hear .before .before .before in
+    let at-done = at-apply .before in
+    let at-word = at-done .before in
+    let at-loop-test = at-word .before .before .before .before in
+    let at-loop = at-loop-test .before in
+    let start = at-loop .before .before .before .before .before .before .before in
+    gives-one _ (start .pre .1 .0) (at-loop .loop .inv) (at-loop-test .loop-test .taken) (at-word .word .ensures) (at-done .done .ensures) (at-apply .apply .ensures) (at-hear .hear .ensures) (at-yes .yes .given .1) (at-if1 .if1 .taken) (at-row .row .ensures) (at-node .node .ensures)
 
 pub one-element-write-st : (t : ℕ) → one-lts.Need-element-write-st (one-calls t) (one-at t) one.Post one-Inv-loop one-μ-loop
 one-element-write-st t c = search needs
@@ -99,7 +135,16 @@ pub one-loop-less : (t : ℕ) → one-lts.Need-loop-less (one-calls t) (one-at t
 one-loop-less t c = omega (arith, c .before .before .before .before .before .before .before .before .before .before .before .before .before .loop-test .taken)
 
 pub one-loop-again : (t : ℕ) → one-lts.Need-loop-again (one-calls t) (one-at t) one.Post one-Inv-loop one-μ-loop
-one-loop-again t c = one-again _ (c .before .before .before .before .before .before .before .before .before .before .before .before .before .before .before .before .before .before .before .before .before .pre .1 .0) (c .before .before .before .before .before .before .before .before .before .before .before .before .before .before .loop .inv) (c .before .before .before .before .before .before .before .before .before .before .before .before .before .loop-test .taken) (c .before .before .before .before .before .before .before .before .before .word .ensures) (c .before .before .before .before .before .before .before .before .done .ensures) (c .before .before .before .before .before .before .before .apply .ensures) (c .before .before .before .before .hear .ensures) (c .before .before .yes .given .1) (c .if1 .left)
+one-loop-again t c =
+    let at-yes = c .before .before in
+    let at-hear = at-yes .before .before in
+    let at-apply = at-hear .before .before .before in
+    let at-done = at-apply .before in
+    let at-word = at-done .before in
+    let at-loop-test = at-word .before .before .before .before in
+    let at-loop = at-loop-test .before in
+    let start = at-loop .before .before .before .before .before .before .before in
+    one-again _ (start .pre .1 .0) (at-loop .loop .inv) (at-loop-test .loop-test .taken) (at-word .word .ensures) (at-done .done .ensures) (at-apply .apply .ensures) (at-hear .hear .ensures) (at-yes .yes .given .1) (c .if1 .left)
 
 pub one-failure-requires : (t : ℕ) → one-lts.Need-failure-requires (one-calls t) (one-at t) one.Post one-Inv-loop one-μ-loop
 one-failure-requires t c κs = search needs

@@ -33,7 +33,13 @@ pub path-same-length : (t : ℕ) → path-lts.Need-same-length (path-calls t) (p
 path-same-length t c = search needs
 
 pub path-returns-2 : (t : ℕ) → path-lts.Need-returns-2 (path-calls t) (path-at t) path.Post
-path-returns-2 t c = gives-path-past _ (c .before .before .before .before .before .before .before .pre .1 .0) (c .before .before .before .before .before .before .before .pre .1 .1) (c .before .before .before .before .before .entry .ensures) (c .before .before .count .ensures) (c .before .before .before .before .if1 .left) (c .before .if2 .taken) (c .failure2 .ensures)
+path-returns-2 t c =
+    let at-if2 = c .before in
+    let at-count = at-if2 .before in
+    let at-if1 = at-count .before .before in
+    let at-entry = at-if1 .before in
+    let start = at-entry .before .before in
+    gives-path-past _ (start .pre .1 .0) (start .pre .1 .1) (at-entry .entry .ensures) (at-count .count .ensures) (at-if1 .if1 .left) (at-if2 .if2 .taken) (c .failure2 .ensures)
 
 pub path-entry-requires-2 : (t : ℕ) → path-lts.Need-entry-requires-2 (path-calls t) (path-at t) path.Post
 path-entry-requires-2 t c κs = ((c .before .before .before .before .before .before .before .before .pre .1 .0) .inside, omega arith)
@@ -48,7 +54,15 @@ pub path-done-requires : (t : ℕ) → path-lts.Need-done-requires (path-calls t
 path-done-requires t c κs = search needs
 
 pub path-apply-requires : (t : ℕ) → path-lts.Need-apply-requires (path-calls t) (path-at t) path.Post
-path-apply-requires t c κs = (omega arith, ready-path (c .before .before .before .before .before .before .before .before .before .before .before .before .args .deep) (c .before .before .before .before .before .before .before .before .before .before .before .before .pre .1 .0) (c .before .before .before .before .before .before .before .before .before .before .before .before .pre .1 .1) (c .before .before .before .before .before .before .before .before .before .before .entry .ensures) (c .before .before .before .before .before .before .before .count .ensures) (c .before .before .before .before .before .before .before .before .before .if1 .left) (c .before .before .before .before .before .before .if2 .left) (c .before .before .before .entry2 .ensures) (c .before .word .ensures) (c .done .ensures))
+path-apply-requires t c κs =
+    let at-word = c .before in
+    let at-entry2 = at-word .before .before in
+    let at-if2 = at-entry2 .before .before .before in
+    let at-count = at-if2 .before in
+    let at-if1 = at-count .before .before in
+    let at-entry = at-if1 .before in
+    let start = at-entry .before .before in
+    (omega arith, ready-path (start .args .deep) (start .pre .1 .0) (start .pre .1 .1) (at-entry .entry .ensures) (at-count .count .ensures) (at-if1 .if1 .left) (at-if2 .if2 .left) (at-entry2 .entry2 .ensures) (at-word .word .ensures) (c .done .ensures))
 
 pub path-told-requires : (t : ℕ) → path-lts.Need-told-requires (path-calls t) (path-at t) path.Post
 path-told-requires t c κs = search needs
@@ -60,7 +74,18 @@ pub path-same-length-2 : (t : ℕ) → path-lts.Need-same-length-2 (path-calls t
 path-same-length-2 t c = search needs
 
 pub path-returns-3 : (t : ℕ) → path-lts.Need-returns-3 (path-calls t) (path-at t) path.Post
-path-returns-3 t c = gives-path-stops _ (c .before .before .before .before .before .before .before .before .before .before .before .before .before .before .before .before .before .pre .1 .0) (c .before .before .before .before .before .before .before .before .before .before .before .before .before .before .before .before .before .pre .1 .1) (c .before .before .before .before .before .before .before .before .before .before .before .before .before .before .before .entry .ensures) (c .before .before .before .before .before .before .before .before .before .before .before .before .count .ensures) (c .before .before .before .before .before .before .before .before .before .before .before .before .before .before .if1 .left) (c .before .before .before .before .before .before .before .before .before .before .before .if2 .left) (c .before .before .before .before .before .before .before .before .entry2 .ensures) (c .before .before .before .before .before .before .word .ensures) (c .before .before .before .before .before .done .ensures) (c .before .before .before .before .apply .ensures) (c .before .told .ensures) (c .match .keys2)
+path-returns-3 t c =
+    let at-told = c .before in
+    let at-apply = at-told .before .before .before in
+    let at-done = at-apply .before in
+    let at-word = at-done .before in
+    let at-entry2 = at-word .before .before in
+    let at-if2 = at-entry2 .before .before .before in
+    let at-count = at-if2 .before in
+    let at-if1 = at-count .before .before in
+    let at-entry = at-if1 .before in
+    let start = at-entry .before .before in
+    gives-path-stops _ (start .pre .1 .0) (start .pre .1 .1) (at-entry .entry .ensures) (at-count .count .ensures) (at-if1 .if1 .left) (at-if2 .if2 .left) (at-entry2 .entry2 .ensures) (at-word .word .ensures) (at-done .done .ensures) (at-apply .apply .ensures) (at-told .told .ensures) (c .match .keys2)
 
 pub path-row-requires : (t : ℕ) → path-lts.Need-row-requires (path-calls t) (path-at t) path.Post
 path-row-requires t c κs = search needs
@@ -78,10 +103,36 @@ pub path-array-write-made : (t : ℕ) → path-lts.Need-array-write-made (path-c
 path-array-write-made t c = search needs
 
 pub path-node-requires : (t : ℕ) → path-lts.Need-node-requires (path-calls t) (path-at t) path.Post
-path-node-requires t c κs = (roomy-path (c .before .before .before .before .before .before .before .before .before .before .before .before .before .before .before .before .before .before .before .before .before .before .before .args .deep) (c .before .before .before .before .before .before .before .before .before .before .before .before .before .before .before .before .before .before .before .before .before .before .before .pre .1 .0) (c .before .before .before .before .before .before .before .before .before .before .before .before .before .before .before .before .before .before .before .before .before .before .before .pre .1 .1) (c .before .before .before .before .before .before .before .before .before .before .before .before .before .before .before .before .before .before .before .before .before .entry .ensures) (c .before .before .before .before .before .before .before .before .before .before .before .before .before .before .before .before .before .before .count .ensures) (c .before .before .before .before .before .before .before .before .before .before .before .before .before .before .before .before .before .before .before .before .if1 .left) (c .before .before .before .before .before .before .before .before .before .before .before .before .before .before .before .before .before .if2 .left) (c .before .before .before .before .before .before .before .before .before .before .before .before .before .before .entry2 .ensures) (c .before .before .before .before .before .before .before .before .before .before .before .before .word .ensures) (c .before .before .before .before .before .before .before .before .before .before .before .done .ensures) (c .before .before .before .before .before .before .before .before .before .before .apply .ensures) (c .before .before .before .before .before .before .before .told .ensures) (c .before .before .before .before .before .x .given .1), c .before .before .before .before .before .before .before .before .before .before .apply .ensures .frame .long ∙ c .before .before .before .before .before .before .before .before .before .before .before .before .before .before .before .before .before .before .before .before .before .before .before .pre .1 .0 .long)
+path-node-requires t c κs =
+    let at-x = c .before .before .before .before .before in
+    let at-told = at-x .before .before in
+    let at-apply = at-told .before .before .before in
+    let at-done = at-apply .before in
+    let at-word = at-done .before in
+    let at-entry2 = at-word .before .before in
+    let at-if2 = at-entry2 .before .before .before in
+    let at-count = at-if2 .before in
+    let at-if1 = at-count .before .before in
+    let at-entry = at-if1 .before in
+    let start = at-entry .before .before in
+    (roomy-path (start .args .deep) (start .pre .1 .0) (start .pre .1 .1) (at-entry .entry .ensures) (at-count .count .ensures) (at-if1 .if1 .left) (at-if2 .if2 .left) (at-entry2 .entry2 .ensures) (at-word .word .ensures) (at-done .done .ensures) (at-apply .apply .ensures) (at-told .told .ensures) (at-x .x .given .1), at-apply .apply .ensures .frame .long ∙ start .pre .1 .0 .long)
 
 pub path-same-length-3 : (t : ℕ) → path-lts.Need-same-length-3 (path-calls t) (path-at t) path.Post
 path-same-length-3 t c = search needs
 
 pub path-returns-4 : (t : ℕ) → path-lts.Need-returns-4 (path-calls t) (path-at t) path.Post
-path-returns-4 t c = gives-path _ (c .before .before .before .before .before .before .before .before .before .before .before .before .before .before .before .before .before .before .before .before .before .before .before .before .before .before .pre .1 .0) (c .before .before .before .before .before .before .before .before .before .before .before .before .before .before .before .before .before .before .before .before .before .before .before .before .before .before .pre .1 .1) (c .before .before .before .before .before .before .before .before .before .before .before .before .before .before .before .before .before .before .before .before .before .before .before .before .entry .ensures) (c .before .before .before .before .before .before .before .before .before .before .before .before .before .before .before .before .before .before .before .before .before .count .ensures) (c .before .before .before .before .before .before .before .before .before .before .before .before .before .before .before .before .before .before .before .before .before .before .before .if1 .left) (c .before .before .before .before .before .before .before .before .before .before .before .before .before .before .before .before .before .before .before .before .if2 .left) (c .before .before .before .before .before .before .before .before .before .before .before .before .before .before .before .before .before .entry2 .ensures) (c .before .before .before .before .before .before .before .before .before .before .before .before .before .before .before .word .ensures) (c .before .before .before .before .before .before .before .before .before .before .before .before .before .before .done .ensures) (c .before .before .before .before .before .before .before .before .before .before .before .before .before .apply .ensures) (c .before .before .before .before .before .before .before .before .before .before .told .ensures) (c .before .before .before .before .before .before .before .before .x .given .1) (c .before .before .before .before .before .row .ensures) (c .before .before .node .ensures)
+path-returns-4 t c =
+    let at-node = c .before .before in
+    let at-row = at-node .before .before .before in
+    let at-x = at-row .before .before .before in
+    let at-told = at-x .before .before in
+    let at-apply = at-told .before .before .before in
+    let at-done = at-apply .before in
+    let at-word = at-done .before in
+    let at-entry2 = at-word .before .before in
+    let at-if2 = at-entry2 .before .before .before in
+    let at-count = at-if2 .before in
+    let at-if1 = at-count .before .before in
+    let at-entry = at-if1 .before in
+    let start = at-entry .before .before in
+    gives-path _ (start .pre .1 .0) (start .pre .1 .1) (at-entry .entry .ensures) (at-count .count .ensures) (at-if1 .if1 .left) (at-if2 .if2 .left) (at-entry2 .entry2 .ensures) (at-word .word .ensures) (at-done .done .ensures) (at-apply .apply .ensures) (at-told .told .ensures) (at-x .x .given .1) (at-row .row .ensures) (at-node .node .ensures)

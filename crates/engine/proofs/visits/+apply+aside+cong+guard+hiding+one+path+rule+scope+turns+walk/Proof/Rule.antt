@@ -32,7 +32,11 @@ pub rule-entry-requires : (t : ℕ) → rule-lts.Need-entry-requires (rule-calls
 rule-entry-requires t c κs = ((c .before .before .before .before .before .pre .1 .0) .inside, omega arith)
 
 pub rule-matching-requires : (t : ℕ) → rule-lts.Need-matching-requires (rule-calls t) (rule-at t) rule.Post
-rule-matching-requires t c κs = (ready-operand (c .before .before .before .before .before .before .pre .1 .0) 0 _ _ (omega arith) (c .entry .ensures) ((c .before .before .before .before .before .before .pre .1 .0) .subject), match-pattern (c .before .before .before .before .before .before .pre .1 .0) _ (c .entry .ensures) (c .before .before .before .before .kind .ensures) (c .before .before .before .match .keys7))
+rule-matching-requires t c κs =
+    let at-match = c .before .before .before in
+    let at-kind = at-match .before in
+    let start = at-kind .before .before in
+    (ready-operand (start .pre .1 .0) 0 _ _ (omega arith) (c .entry .ensures) ((start .pre .1 .0) .subject), match-pattern (start .pre .1 .0) _ (c .entry .ensures) (at-kind .kind .ensures) (at-match .match .keys7))
 
 pub rule-entry-requires-2 : (t : ℕ) → rule-lts.Need-entry-requires-2 (rule-calls t) (rule-at t) rule.Post
 rule-entry-requires-2 t c κs = ((c .before .before .before .before .before .pre .1 .0) .inside, omega arith)
@@ -41,7 +45,11 @@ pub rule-cast-build : (t : ℕ) → rule-lts.Need-cast-build (rule-calls t) (rul
 rule-cast-build t c = search needs
 
 pub rule-build-requires : (t : ℕ) → rule-lts.Need-build-requires (rule-calls t) (rule-at t) rule.Post
-rule-build-requires t c κs = ((c .before .before .before .before .before .before .pre .1 .0) .entries, rw (c .entry2 .ensures) ((c .before .before .before .before .before .before .pre .1 .0) .entries .operand _ 0 ((c .before .before .before .before .before .before .pre .1 .0) .inside) (omega arith)), build-pattern (c .before .before .before .before .before .before .pre .1 .0) _ (c .entry2 .ensures) (c .before .before .before .before .kind .ensures) (c .before .before .before .match .keys8), (c .before .before .before .before .before .before .pre .1 .0) .steady, (c .before .before .before .before .before .before .pre .1 .0) .long)
+rule-build-requires t c κs =
+    let at-match = c .before .before .before in
+    let at-kind = at-match .before in
+    let start = at-kind .before .before in
+    ((start .pre .1 .0) .entries, rw (c .entry2 .ensures) ((start .pre .1 .0) .entries .operand _ 0 ((start .pre .1 .0) .inside) (omega arith)), build-pattern (start .pre .1 .0) _ (c .entry2 .ensures) (at-kind .kind .ensures) (at-match .match .keys8), (start .pre .1 .0) .steady, (start .pre .1 .0) .long)
 
 pub rule-scope-requires : (t : ℕ) → rule-lts.Need-scope-requires (rule-calls t) (rule-at t) rule.Post
 rule-scope-requires t c κs = (omega arith, ((c .before .before .before .before .before .pre .1 .0), sym (c .before .before .before .kind .ensures) ∙ c .before .before .match .keys9))
@@ -122,4 +130,9 @@ pub rule-returns-11 : (t : ℕ) → rule-lts.Need-returns-11 (rule-calls t) (rul
 rule-returns-11 t c = c .before .before .guard .ensures
 
 pub rule-returns-12 : (t : ℕ) → rule-lts.Need-returns-12 (rule-calls t) (rule-at t) rule.Post
-rule-returns-12 t c = gives-failure _ (c .before .before .before .before .before .pre .1 .0) (ruled-none _ (c .before .before .before .before .before .pre .1 .0) (c .before .before .before .kind .ensures) (no-rule _ _ (c .before .before .before .kind .ensures) (c .before .before .before .before .before .pre .1 .1) (⊎-elim (λ w. inl (w .taken)) (λ w. inr (w .1 .left)) (c .before .if1 .came)) (c .before .before .match .rest .0 .0 .0 .0 .0 .0 .0 .0 .0 .1) (c .before .before .match .rest .0 .0 .0 .0 .0 .0 .0 .0 .1) (c .before .before .match .rest .0 .0 .0 .0 .0 .0 .0 .1) (c .before .before .match .rest .0 .0 .0 .0 .0 .0 .1) (c .before .before .match .rest .0 .0 .0 .0 .0 .1) (c .before .before .match .rest .0 .0 .0 .0 .1) (c .before .before .match .rest .0 .0 .0 .1) (c .before .before .match .rest .0 .0 .1) (c .before .before .match .rest .0 .1) (c .before .before .match .rest .1))) (c .failure .ensures)
+rule-returns-12 t c =
+    let at-if1 = c .before in
+    let at-match = at-if1 .before in
+    let at-kind = at-match .before in
+    let start = at-kind .before .before in
+    gives-failure _ (start .pre .1 .0) (ruled-none _ (start .pre .1 .0) (at-kind .kind .ensures) (no-rule _ _ (at-kind .kind .ensures) (start .pre .1 .1) (⊎-elim (λ w. inl (w .taken)) (λ w. inr (w .1 .left)) (at-if1 .if1 .came)) (at-match .match .rest .0 .0 .0 .0 .0 .0 .0 .0 .0 .1) (at-match .match .rest .0 .0 .0 .0 .0 .0 .0 .0 .1) (at-match .match .rest .0 .0 .0 .0 .0 .0 .0 .1) (at-match .match .rest .0 .0 .0 .0 .0 .0 .1) (at-match .match .rest .0 .0 .0 .0 .0 .1) (at-match .match .rest .0 .0 .0 .0 .1) (at-match .match .rest .0 .0 .0 .1) (at-match .match .rest .0 .0 .1) (at-match .match .rest .0 .1) (at-match .match .rest .1))) (c .failure .ensures)

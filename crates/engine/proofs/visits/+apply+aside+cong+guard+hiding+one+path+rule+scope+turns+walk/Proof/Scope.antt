@@ -42,4 +42,10 @@ pub scope-same-length-2 : (t : ℕ) → scope-lts.Need-same-length-2 (scope-call
 scope-same-length-2 t c = search needs
 
 pub scope-returns-2 : (t : ℕ) → scope-lts.Need-returns-2 (scope-calls t) (scope-at t) scope.Post
-scope-returns-2 t c = gives-scope _ (c .before .before .before .before .before .before .before .before .before .before .before .before .pre .1 .0) (c .before .before .before .before .before .before .before .before .before .before .entry .ensures) (omega (arith, c .before .before .before .before .before .before .before .before .before .before .entry .ok)) (c .before .before .before .before .before .entry2 .ensures) (c .before .before .before .before .apply .ensures) (c .before .before .before .before .before .before .before .before .before .before .before .before .pre .1 .1) (c .before .before .before .before .before .before .before .before .if1 .left) (c .hide .ensures)
+scope-returns-2 t c =
+    let at-apply = c .before .before .before .before in
+    let at-entry2 = at-apply .before in
+    let at-if1 = at-entry2 .before .before .before in
+    let at-entry = at-if1 .before .before in
+    let start = at-entry .before .before in
+    gives-scope _ (start .pre .1 .0) (at-entry .entry .ensures) (omega (arith, at-entry .entry .ok)) (at-entry2 .entry2 .ensures) (at-apply .apply .ensures) (start .pre .1 .1) (at-if1 .if1 .left) (c .hide .ensures)

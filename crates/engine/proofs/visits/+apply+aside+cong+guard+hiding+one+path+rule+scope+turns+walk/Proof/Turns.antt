@@ -52,7 +52,12 @@ pub turns-entry-requires : (t : ℕ) → turns-lts.Need-entry-requires (turns-ca
 turns-entry-requires t c κs = ((c .before .before .before .before .before .before .loop .inv) .ready .inside, omega arith)
 
 pub turns-apply-requires : (t : ℕ) → turns-lts.Need-apply-requires (turns-calls t) (turns-at t) turns.Post turns-Inv-loop turns-μ-loop
-turns-apply-requires t c κs = (omega (arith, (c .before .before .before .before .before .before .before .loop .inv) .deeper, pos _ (c .before .before .before .before .before .if2 .left), c .before .before .before .before .before .before .before .before .before .pre .0), ready-next (c .before .before .before .before .before .before .before .loop .inv) (c .before .before .before .before .before .before .if1 .left) (c .before .before .before .before .before .if2 .left) 0 _ (omega arith) (c .entry .ensures))
+turns-apply-requires t c κs =
+    let at-if2 = c .before .before .before .before .before in
+    let at-if1 = at-if2 .before in
+    let at-loop = at-if1 .before in
+    let start = at-loop .before .before in
+    (omega (arith, (at-loop .loop .inv) .deeper, pos _ (at-if2 .if2 .left), start .pre .0), ready-next (at-loop .loop .inv) (at-if1 .if1 .left) (at-if2 .if2 .left) 0 _ (omega arith) (c .entry .ensures))
 
 pub turns-told-requires : (t : ℕ) → turns-lts.Need-told-requires (turns-calls t) (turns-at t) turns.Post turns-Inv-loop turns-μ-loop
 turns-told-requires t c κs = search needs
@@ -64,7 +69,16 @@ pub turns-same-length-3 : (t : ℕ) → turns-lts.Need-same-length-3 (turns-call
 turns-same-length-3 t c = c .before .before .before .before .apply .kept .1 .0 ∙ (c .before .before .before .before .before .before .before .before .before .before .before .before .loop .inv) .long
 
 pub turns-returns-3 : (t : ℕ) → turns-lts.Need-returns-3 (turns-calls t) (turns-at t) turns.Post turns-Inv-loop turns-μ-loop
-turns-returns-3 t c = seq-returns (c .before .before .before .before .before .before .before .before .before .before .before .before .loop .inv) (c .before .before .before .before .before .before .before .before .before .before .before .if1 .left) (c .before .before .before .before .before .before .before .before .before .before .if2 .left) (c .before .before .before .before .before .entry .ensures) (c .before .before .before .before .apply .ensures) (c .before .told .ensures) refl (sym (c .before .before .before .before .before .before .before .before .before .kind .ensures) ∙ c .before .before .before .before .before .before .before .before .match .keys1) (c .match2 .keys2)
+turns-returns-3 t c =
+    let at-told = c .before in
+    let at-apply = at-told .before .before .before in
+    let at-entry = at-apply .before in
+    let at-match = at-entry .before .before .before in
+    let at-kind = at-match .before in
+    let at-if2 = at-kind .before in
+    let at-if1 = at-if2 .before in
+    let at-loop = at-if1 .before in
+    seq-returns (at-loop .loop .inv) (at-if1 .if1 .left) (at-if2 .if2 .left) (at-entry .entry .ensures) (at-apply .apply .ensures) (at-told .told .ensures) refl (sym (at-kind .kind .ensures) ∙ at-match .match .keys1) (c .match2 .keys2)
 
 pub turns-entry-requires-2 : (t : ℕ) → turns-lts.Need-entry-requires-2 (turns-calls t) (turns-at t) turns.Post turns-Inv-loop turns-μ-loop
 turns-entry-requires-2 t c κs = ((c .before .before .before .before .before .before .before .before .before .before .before .before .before .loop .inv) .ready .inside, omega arith)
@@ -73,13 +87,29 @@ pub turns-loop-less : (t : ℕ) → turns-lts.Need-loop-less (turns-calls t) (tu
 turns-loop-less t c = omega (arith, pos _ (c .before .before .before .before .before .before .before .before .before .before .before .before .if2 .left))
 
 pub turns-loop-again : (t : ℕ) → turns-lts.Need-loop-again (turns-calls t) (turns-at t) turns.Post turns-Inv-loop turns-μ-loop
-turns-loop-again t c = seq-turn (c .before .before .before .before .before .before .before .before .before .before .before .before .before .before .loop .inv) (c .before .before .before .before .before .before .before .before .before .before .before .before .before .if1 .left) (c .before .before .before .before .before .before .before .before .before .before .before .before .if2 .left) (c .before .before .before .before .before .before .before .entry .ensures) (c .before .before .before .before .before .before .apply .ensures) (c .before .before .before .told .ensures) (c .entry2 .ensures) (sym (c .before .before .before .before .before .before .before .before .before .before .before .kind .ensures) ∙ c .before .before .before .before .before .before .before .before .before .before .match .keys1) (c .before .enum-told .given .1) (c .before .before .before .before .before .before .apply .kept .1 .0)
+turns-loop-again t c =
+    let at-enum-told = c .before in
+    let at-told = at-enum-told .before .before in
+    let at-apply = at-told .before .before .before in
+    let at-entry = at-apply .before in
+    let at-match = at-entry .before .before .before in
+    let at-kind = at-match .before in
+    let at-if2 = at-kind .before in
+    let at-if1 = at-if2 .before in
+    let at-loop = at-if1 .before in
+    seq-turn (at-loop .loop .inv) (at-if1 .if1 .left) (at-if2 .if2 .left) (at-entry .entry .ensures) (at-apply .apply .ensures) (at-told .told .ensures) (c .entry2 .ensures) (sym (at-kind .kind .ensures) ∙ at-match .match .keys1) (at-enum-told .enum-told .given .1) (at-apply .apply .kept .1 .0)
 
 pub turns-entry-requires-3 : (t : ℕ) → turns-lts.Need-entry-requires-3 (turns-calls t) (turns-at t) turns.Post turns-Inv-loop turns-μ-loop
 turns-entry-requires-3 t c κs = ((c .before .before .before .before .before .before .loop .inv) .ready .inside, omega arith)
 
 pub turns-skipped-requires : (t : ℕ) → turns-lts.Need-skipped-requires (turns-calls t) (turns-at t) turns.Post turns-Inv-loop turns-μ-loop
-turns-skipped-requires t c κs = ((c .before .before .before .before .before .before .before .before .loop .inv) .ready .hints, (c .before .before .before .before .before .before .before .before .loop .inv) .ready .inside, (c .before .before .before .before .before .before .before .before .loop .inv) .ready .entries .operand _ 2 ((c .before .before .before .before .before .before .before .before .loop .inv) .ready .inside) (omega arith), (of-two _ _ 5 (c .before .before .before .before .before .kind .ensures) (five-up _ (c .before .before .before .before .match .rest .1) (c .before .before .before .if3 .left)) (c .before .before .if4 .taken)))
+turns-skipped-requires t c κs =
+    let at-if4 = c .before .before in
+    let at-if3 = at-if4 .before in
+    let at-match = at-if3 .before in
+    let at-kind = at-match .before in
+    let at-loop = at-kind .before .before .before in
+    ((at-loop .loop .inv) .ready .hints, (at-loop .loop .inv) .ready .inside, (at-loop .loop .inv) .ready .entries .operand _ 2 ((at-loop .loop .inv) .ready .inside) (omega arith), (of-two _ _ 5 (at-kind .kind .ensures) (five-up _ (at-match .match .rest .1) (at-if3 .if3 .left)) (at-if4 .if4 .taken)))
 
 pub turns-cast-s : (t : ℕ) → turns-lts.Need-cast-s (turns-calls t) (turns-at t) turns.Post turns-Inv-loop turns-μ-loop
 turns-cast-s t c = search needs
@@ -94,7 +124,17 @@ pub turns-loop-less-2 : (t : ℕ) → turns-lts.Need-loop-less-2 (turns-calls t)
 turns-loop-less-2 t c = omega (arith, pos _ (c .before .before .before .before .before .before .before .before .before .if2 .left))
 
 pub turns-loop-again-2 : (t : ℕ) → turns-lts.Need-loop-again-2 (turns-calls t) (turns-at t) turns.Post turns-Inv-loop turns-μ-loop
-turns-loop-again-2 t c = skip-turn (c .before .before .before .before .before .before .before .before .before .before .before .loop .inv) (c .before .before .before .before .before .before .before .before .before .before .if1 .left) (c .before .before .before .before .before .before .before .before .before .if2 .left) refl (c .before .before .skipped .ensures) (c .before .if5 .taken) (of-two _ _ 5 (c .before .before .before .before .before .before .before .before .kind .ensures) (five-up _ (c .before .before .before .before .before .before .before .match .rest .1) (c .before .before .before .before .before .before .if3 .left)) (c .before .before .before .before .before .if4 .taken)) (c .entry4 .ensures)
+turns-loop-again-2 t c =
+    let at-if5 = c .before in
+    let at-skipped = at-if5 .before in
+    let at-if4 = at-skipped .before .before .before in
+    let at-if3 = at-if4 .before in
+    let at-match = at-if3 .before in
+    let at-kind = at-match .before in
+    let at-if2 = at-kind .before in
+    let at-if1 = at-if2 .before in
+    let at-loop = at-if1 .before in
+    skip-turn (at-loop .loop .inv) (at-if1 .if1 .left) (at-if2 .if2 .left) refl (at-skipped .skipped .ensures) (at-if5 .if5 .taken) (of-two _ _ 5 (at-kind .kind .ensures) (five-up _ (at-match .match .rest .1) (at-if3 .if3 .left)) (at-if4 .if4 .taken)) (c .entry4 .ensures)
 
 pub turns-element-copy-out-mark : (t : ℕ) → turns-lts.Need-element-copy-out-mark (turns-calls t) (turns-at t) turns.Post turns-Inv-loop turns-μ-loop
 turns-element-copy-out-mark t c = search needs
@@ -103,7 +143,13 @@ pub turns-element-copy-out-mask : (t : ℕ) → turns-lts.Need-element-copy-out-
 turns-element-copy-out-mask t c = search needs
 
 pub turns-turns-requires : (t : ℕ) → turns-lts.Need-turns-requires (turns-calls t) (turns-at t) turns.Post turns-Inv-loop turns-μ-loop
-turns-turns-requires t c κs = (omega (arith, (c .before .before .before .before .before .before .before .before .before .before .before .before .before .before .loop .inv) .deeper, pos _ (c .before .before .before .before .before .before .before .before .before .before .before .before .if2 .left), c .before .before .before .before .before .before .before .before .before .before .before .before .before .before .before .before .pre .0), ready-next (c .before .before .before .before .before .before .before .before .before .before .before .before .before .before .loop .inv) (c .before .before .before .before .before .before .before .before .before .before .before .before .before .if1 .left) (c .before .before .before .before .before .before .before .before .before .before .before .before .if2 .left) 0 _ (omega arith) (c .before .before .before .before .before .before .before .entry3 .ensures))
+turns-turns-requires t c κs =
+    let at-entry3 = c .before .before .before .before .before .before .before in
+    let at-if2 = at-entry3 .before .before .before .before .before in
+    let at-if1 = at-if2 .before in
+    let at-loop = at-if1 .before in
+    let start = at-loop .before .before in
+    (omega (arith, (at-loop .loop .inv) .deeper, pos _ (at-if2 .if2 .left), start .pre .0), ready-next (at-loop .loop .inv) (at-if1 .if1 .left) (at-if2 .if2 .left) 0 _ (omega arith) (at-entry3 .entry3 .ensures))
 
 pub turns-told-requires-2 : (t : ℕ) → turns-lts.Need-told-requires-2 (turns-calls t) (turns-at t) turns.Post turns-Inv-loop turns-μ-loop
 turns-told-requires-2 t c κs = search needs
@@ -115,7 +161,18 @@ pub turns-same-length-4 : (t : ℕ) → turns-lts.Need-same-length-4 (turns-call
 turns-same-length-4 t c = c .before .before .before .before .turns .kept .1 .0 ∙ (c .before .before .before .before .before .before .before .before .before .before .before .before .before .before .before .before .before .before .before .loop .inv) .long
 
 pub turns-returns-4 : (t : ℕ) → turns-lts.Need-returns-4 (turns-calls t) (turns-at t) turns.Post turns-Inv-loop turns-μ-loop
-turns-returns-4 t c = left-returns (c .before .before .before .before .before .before .before .before .before .before .before .before .before .before .before .before .before .before .before .loop .inv) (c .before .before .before .before .before .before .before .before .before .before .before .before .before .before .before .before .before .before .if1 .left) (c .before .before .before .before .before .before .before .before .before .before .before .before .before .before .before .before .before .if2 .left) (c .before .before .before .before .before .before .before .before .before .before .before .before .entry3 .ensures) (c .before .before .before .before .turns .ensures) (c .before .told2 .ensures) (of-two _ _ 5 (c .before .before .before .before .before .before .before .before .before .before .before .before .before .before .before .before .kind .ensures) (five-up _ (c .before .before .before .before .before .before .before .before .before .before .before .before .before .before .before .match .rest .1) (c .before .before .before .before .before .before .before .before .before .before .before .before .before .before .if3 .left)) (c .before .before .before .before .before .before .before .before .before .before .before .before .before .if4 .taken)) refl (c .match3 .keys2)
+turns-returns-4 t c =
+    let at-told2 = c .before in
+    let at-turns = at-told2 .before .before .before in
+    let at-entry3 = at-turns .before .before .before .before .before .before .before .before in
+    let at-if4 = at-entry3 .before in
+    let at-if3 = at-if4 .before in
+    let at-match = at-if3 .before in
+    let at-kind = at-match .before in
+    let at-if2 = at-kind .before in
+    let at-if1 = at-if2 .before in
+    let at-loop = at-if1 .before in
+    left-returns (at-loop .loop .inv) (at-if1 .if1 .left) (at-if2 .if2 .left) (at-entry3 .entry3 .ensures) (at-turns .turns .ensures) (at-told2 .told2 .ensures) (of-two _ _ 5 (at-kind .kind .ensures) (five-up _ (at-match .match .rest .1) (at-if3 .if3 .left)) (at-if4 .if4 .taken)) refl (c .match3 .keys2)
 
 pub turns-element-write-st : (t : ℕ) → turns-lts.Need-element-write-st (turns-calls t) (turns-at t) turns.Post turns-Inv-loop turns-μ-loop
 turns-element-write-st t c = search needs
@@ -124,7 +181,11 @@ pub turns-element-write-st-2 : (t : ℕ) → turns-lts.Need-element-write-st-2 (
 turns-element-write-st-2 t c = search needs
 
 pub turns-cast-done : (t : ℕ) → turns-lts.Need-cast-done (turns-calls t) (turns-at t) turns.Post turns-Inv-loop turns-μ-loop
-turns-cast-done t c = omega (arith, node-small ((c .before .before .before .before .before .before .before .before .before .before .before .before .before .before .before .before .before .before .before .before .before .loop .inv) .ready .steady) _ (ready-same (c .before .before .before .before .before .before .before .before .before .before .before .before .before .before .before .before .before .before .before .before .before .loop .inv) (c .before .before .before .before .before .before .before .before .before .before .before .before .before .before .before .before .before .before .before .before .if1 .left) (c .before .before .before .before .before .before .before .before .before .before .before .before .before .before .before .before .before .before .before .if2 .left) .subject))
+turns-cast-done t c =
+    let at-if2 = c .before .before .before .before .before .before .before .before .before .before .before .before .before .before .before .before .before .before .before in
+    let at-if1 = at-if2 .before in
+    let at-loop = at-if1 .before in
+    omega (arith, node-small ((at-loop .loop .inv) .ready .steady) _ (ready-same (at-loop .loop .inv) (at-if1 .if1 .left) (at-if2 .if2 .left) .subject))
 
 pub turns-done-requires : (t : ℕ) → turns-lts.Need-done-requires (turns-calls t) (turns-at t) turns.Post turns-Inv-loop turns-μ-loop
 turns-done-requires t c κs = search needs
@@ -136,7 +197,20 @@ pub turns-loop-less-3 : (t : ℕ) → turns-lts.Need-loop-less-3 (turns-calls t)
 turns-loop-less-3 t c = omega (arith, pos _ (c .before .before .before .before .before .before .before .before .before .before .before .before .before .before .before .before .before .before .before .before .before .if2 .left))
 
 pub turns-loop-again-3 : (t : ℕ) → turns-lts.Need-loop-again-3 (turns-calls t) (turns-at t) turns.Post turns-Inv-loop turns-μ-loop
-turns-loop-again-3 t c = left-turn (c .before .before .before .before .before .before .before .before .before .before .before .before .before .before .before .before .before .before .before .before .before .before .before .loop .inv) (c .before .before .before .before .before .before .before .before .before .before .before .before .before .before .before .before .before .before .before .before .before .before .if1 .left) (c .before .before .before .before .before .before .before .before .before .before .before .before .before .before .before .before .before .before .before .before .before .if2 .left) (c .before .before .before .before .before .before .before .before .before .before .before .before .before .before .before .before .entry3 .ensures) (c .before .before .before .before .before .before .before .before .turns .ensures) (c .before .before .before .before .before .told2 .ensures) (of-two _ _ 5 (c .before .before .before .before .before .before .before .before .before .before .before .before .before .before .before .before .before .before .before .before .kind .ensures) (five-up _ (c .before .before .before .before .before .before .before .before .before .before .before .before .before .before .before .before .before .before .before .match .rest .1) (c .before .before .before .before .before .before .before .before .before .before .before .before .before .before .before .before .before .before .if3 .left)) (c .before .before .before .before .before .before .before .before .before .before .before .before .before .before .before .before .before .if4 .taken)) (c .entry5 .ensures) (c .before .before .before .u .given .1) (c .before .done .ensures) (c .before .before .before .before .before .before .before .before .turns .kept .1 .0)
+turns-loop-again-3 t c =
+    let at-done = c .before in
+    let at-u = at-done .before .before in
+    let at-told2 = at-u .before .before in
+    let at-turns = at-told2 .before .before .before in
+    let at-entry3 = at-turns .before .before .before .before .before .before .before .before in
+    let at-if4 = at-entry3 .before in
+    let at-if3 = at-if4 .before in
+    let at-match = at-if3 .before in
+    let at-kind = at-match .before in
+    let at-if2 = at-kind .before in
+    let at-if1 = at-if2 .before in
+    let at-loop = at-if1 .before in
+    left-turn (at-loop .loop .inv) (at-if1 .if1 .left) (at-if2 .if2 .left) (at-entry3 .entry3 .ensures) (at-turns .turns .ensures) (at-told2 .told2 .ensures) (of-two _ _ 5 (at-kind .kind .ensures) (five-up _ (at-match .match .rest .1) (at-if3 .if3 .left)) (at-if4 .if4 .taken)) (c .entry5 .ensures) (at-u .u .given .1) (at-done .done .ensures) (at-turns .turns .kept .1 .0)
 
 pub turns-entry-requires-6 : (t : ℕ) → turns-lts.Need-entry-requires-6 (turns-calls t) (turns-at t) turns.Post turns-Inv-loop turns-μ-loop
 turns-entry-requires-6 t c κs = ((c .before .before .before .before .before .before .before .loop .inv) .ready .inside, omega arith)
@@ -145,13 +219,33 @@ pub turns-loop-less-4 : (t : ℕ) → turns-lts.Need-loop-less-4 (turns-calls t)
 turns-loop-less-4 t c = omega (arith, pos _ (c .before .before .before .before .before .before .if2 .left))
 
 pub turns-loop-again-4 : (t : ℕ) → turns-lts.Need-loop-again-4 (turns-calls t) (turns-at t) turns.Post turns-Inv-loop turns-μ-loop
-turns-loop-again-4 t c = rec-turn (c .before .before .before .before .before .before .before .before .loop .inv) (c .before .before .before .before .before .before .before .if1 .left) (c .before .before .before .before .before .before .if2 .left) _ (c .entry6 .ensures) (of-two _ _ 7 (c .before .before .before .before .before .kind .ensures) (c .before .before .if4 .left) (c .before .if6 .taken))
+turns-loop-again-4 t c =
+    let at-if6 = c .before in
+    let at-if4 = at-if6 .before in
+    let at-kind = at-if4 .before .before .before in
+    let at-if2 = at-kind .before in
+    let at-if1 = at-if2 .before in
+    let at-loop = at-if1 .before in
+    rec-turn (at-loop .loop .inv) (at-if1 .if1 .left) (at-if2 .if2 .left) _ (c .entry6 .ensures) (of-two _ _ 7 (at-kind .kind .ensures) (at-if4 .if4 .left) (at-if6 .if6 .taken))
 
 pub turns-rule-requires : (t : ℕ) → turns-lts.Need-rule-requires (turns-calls t) (turns-at t) turns.Post turns-Inv-loop turns-μ-loop
-turns-rule-requires t c κs = (omega (arith, (c .before .before .before .before .before .before .before .loop .inv) .deeper, pos _ (c .before .before .before .before .before .if2 .left), c .before .before .before .before .before .before .before .before .before .pre .0), (ready-same (c .before .before .before .before .before .before .before .loop .inv) (c .before .before .before .before .before .before .if1 .left) (c .before .before .before .before .before .if2 .left), last-kind _ _ (c .before .before .before .before .kind .ensures) (c .before .before .before .match .rest .1) (⊎-elim (λ w. inl (w .taken)) (λ w. inr (w .2 .left)) (c .before .before .if3 .came))))
+turns-rule-requires t c κs =
+    let at-if3 = c .before .before in
+    let at-match = at-if3 .before in
+    let at-kind = at-match .before in
+    let at-if2 = at-kind .before in
+    let at-if1 = at-if2 .before in
+    let at-loop = at-if1 .before in
+    let start = at-loop .before .before in
+    (omega (arith, (at-loop .loop .inv) .deeper, pos _ (at-if2 .if2 .left), start .pre .0), (ready-same (at-loop .loop .inv) (at-if1 .if1 .left) (at-if2 .if2 .left), last-kind _ _ (at-kind .kind .ensures) (at-match .match .rest .1) (⊎-elim (λ w. inl (w .taken)) (λ w. inr (w .2 .left)) (at-if3 .if3 .came))))
 
 pub turns-same-length-5 : (t : ℕ) → turns-lts.Need-same-length-5 (turns-calls t) (turns-at t) turns.Post turns-Inv-loop turns-μ-loop
 turns-same-length-5 t c = c .before .before .rule .kept .1 .0 ∙ (c .before .before .before .before .before .before .before .before .before .before .loop .inv) .long
 
 pub turns-returns-5 : (t : ℕ) → turns-lts.Need-returns-5 (turns-calls t) (turns-at t) turns.Post turns-Inv-loop turns-μ-loop
-turns-returns-5 t c = whole (c .before .before .before .before .before .before .before .before .before .before .loop .inv) (c .before .before .before .before .before .before .before .before .before .if1 .left) (c .before .before .before .before .before .before .before .before .if2 .left) (c .before .before .rule .ensures)
+turns-returns-5 t c =
+    let at-rule = c .before .before in
+    let at-if2 = at-rule .before .before .before .before .before .before in
+    let at-if1 = at-if2 .before in
+    let at-loop = at-if1 .before in
+    whole (at-loop .loop .inv) (at-if1 .if1 .left) (at-if2 .if2 .left) (at-rule .rule .ensures)

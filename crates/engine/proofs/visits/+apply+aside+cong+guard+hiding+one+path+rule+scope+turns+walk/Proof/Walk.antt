@@ -47,7 +47,16 @@ pub walk-same-length : (t : ℕ) → walk-lts.Need-same-length (walk-calls t) (w
 walk-same-length t c = (c .before .before .before .loop .inv .0) .kept .long
 
 pub walk-returns : (t : ℕ) → walk-lts.Need-returns (walk-calls t) (walk-at t) walk.Post walk-Inv-loop walk-μ-loop
-walk-returns t c = leap-short (c .before .before .before .before .before .before .before .before .before .before .before .before .pre .1 .0) (c .before .before .before .before .before .before .before .before .before .before .before .before .pre .1 .1) (c .before .before .before .loop .inv .0) (omega (arith, c .before .before .before .before .before .before .before .before .count .ensures, c .before .before .loop-test .taken)) _ _ (c .before .before .before .before .before .leap .ensures) (c .before .before .before .before .before .before .before .before .before .before .kind .ensures) (c .before .before .before .before .landing .ensures) refl (c .before .if1 .taken) (c .no-units .ensures)
+walk-returns t c =
+    let at-if1 = c .before in
+    let at-loop-test = at-if1 .before in
+    let at-loop = at-loop-test .before in
+    let at-landing = at-loop .before in
+    let at-leap = at-landing .before in
+    let at-count = at-leap .before .before .before in
+    let at-kind = at-count .before .before in
+    let start = at-kind .before .before in
+    leap-short (start .pre .1 .0) (start .pre .1 .1) (at-loop .loop .inv .0) (omega (arith, at-count .count .ensures, at-loop-test .loop-test .taken)) _ _ (at-leap .leap .ensures) (at-kind .kind .ensures) (at-landing .landing .ensures) refl (at-if1 .if1 .taken) (c .no-units .ensures)
 
 pub walk-add-word : (t : ℕ) → walk-lts.Need-add-word (walk-calls t) (walk-at t) walk.Post walk-Inv-loop walk-μ-loop
 walk-add-word t c = omega (arith, c .before .before .before .before .before .before .before .before .count .ensures, c .before .before .loop-test .taken)
@@ -62,7 +71,11 @@ pub walk-saved-requires-2 : (t : ℕ) → walk-lts.Need-saved-requires-2 (walk-c
 walk-saved-requires-2 t c κs = search needs
 
 pub walk-operand-requires : (t : ℕ) → walk-lts.Need-operand-requires (walk-calls t) (walk-at t) walk.Post walk-Inv-loop walk-μ-loop
-walk-operand-requires t c κs = ((c .before .before .before .before .before .before .before .before .before .before .before .before .before .before .before .before .before .before .before .pre .1 .0) .inside, omega (arith, c .before .before .before .before .before .before .before .before .before .before .before .before .before .before .before .count .ensures, c .before .before .before .before .before .before .before .before .before .loop-test .taken))
+walk-operand-requires t c κs =
+    let at-loop-test = c .before .before .before .before .before .before .before .before .before in
+    let at-count = at-loop-test .before .before .before .before .before .before in
+    let start = at-count .before .before .before .before in
+    ((start .pre .1 .0) .inside, omega (arith, at-count .count .ensures, at-loop-test .loop-test .taken))
 
 pub walk-done-requires : (t : ℕ) → walk-lts.Need-done-requires (walk-calls t) (walk-at t) walk.Post walk-Inv-loop walk-μ-loop
 walk-done-requires t c κs = search needs
@@ -71,7 +84,17 @@ pub walk-sub-apply : (t : ℕ) → walk-lts.Need-sub-apply (walk-calls t) (walk-
 walk-sub-apply t c = c .before .before .before .before .before .before .before .before .before .before .before .before .before .before .leap .ensures .few
 
 pub walk-apply-requires : (t : ℕ) → walk-lts.Need-apply-requires (walk-calls t) (walk-at t) walk.Post walk-Inv-loop walk-μ-loop
-walk-apply-requires t c κs = (omega arith, leap-ready (c .before .before .before .before .before .before .before .before .before .before .before .before .before .before .before .before .before .before .before .before .before .pre .1 .0) (c .before .before .before .before .before .before .before .before .before .before .before .before .before .before .before .before .before .before .before .before .before .pre .1 .1) (c .before .before .before .before .before .before .before .before .before .before .before .before .loop .inv .0) (omega (arith, c .before .before .before .before .before .before .before .before .before .before .before .before .before .before .before .before .before .count .ensures, c .before .before .before .before .before .before .before .before .before .before .before .loop-test .taken)) _ _ (c .before .before .before .before .before .before .before .before .before .before .before .before .before .before .leap .ensures) (c .before .before .before .before .before .before .before .before .before .before .before .before .before .before .before .before .before .before .before .kind .ensures) (c .before .before .before .before .before .before .before .before .before .before .before .before .before .landing .ensures) (c .before .operand .ensures) (c .before .before .before .before .before .before .before .before .word2 .ensures) (c .done .ensures))
+walk-apply-requires t c κs =
+    let at-operand = c .before in
+    let at-word2 = at-operand .before .before .before .before .before .before .before in
+    let at-loop-test = at-word2 .before .before .before in
+    let at-loop = at-loop-test .before in
+    let at-landing = at-loop .before in
+    let at-leap = at-landing .before in
+    let at-count = at-leap .before .before .before in
+    let at-kind = at-count .before .before in
+    let start = at-kind .before .before in
+    (omega arith, leap-ready (start .pre .1 .0) (start .pre .1 .1) (at-loop .loop .inv .0) (omega (arith, at-count .count .ensures, at-loop-test .loop-test .taken)) _ _ (at-leap .leap .ensures) (at-kind .kind .ensures) (at-landing .landing .ensures) (at-operand .operand .ensures) (at-word2 .word2 .ensures) (c .done .ensures))
 
 pub walk-hear-requires : (t : ℕ) → walk-lts.Need-hear-requires (walk-calls t) (walk-at t) walk.Post walk-Inv-loop walk-μ-loop
 walk-hear-requires t c κs = search needs
@@ -86,13 +109,46 @@ pub walk-same-length-2 : (t : ℕ) → walk-lts.Need-same-length-2 (walk-calls t
 walk-same-length-2 t c = c .before .before .before .before .before .apply .kept .1 .0 ∙ (c .before .before .before .before .before .before .before .before .before .before .before .before .before .before .before .before .before .before .loop .inv .0) .kept .long
 
 pub walk-returns-2 : (t : ℕ) → walk-lts.Need-returns-2 (walk-calls t) (walk-at t) walk.Post walk-Inv-loop walk-μ-loop
-walk-returns-2 t c = going-off (c .before .before .before .before .before .before .before .before .before .before .before .before .before .before .before .before .before .before .before .before .before .before .before .before .before .before .before .pre .1 .0) (c .before .before .before .before .before .before .before .before .before .before .before .before .before .before .before .before .before .before .before .before .before .before .before .before .before .before .before .pre .1 .1) (c .before .before .before .before .before .before .before .before .before .before .before .before .before .before .before .before .before .before .loop .inv .0) (omega (arith, c .before .before .before .before .before .before .before .before .before .before .before .before .before .before .before .before .before .before .before .before .before .before .before .count .ensures, c .before .before .before .before .before .before .before .before .before .before .before .before .before .before .before .before .before .loop-test .taken)) refl (c .before .before .before .before .before .before .before .before .before .before .before .before .before .before .before .before .before .before .before .before .before .before .before .before .before .kind .ensures) (c .before .before .before .before .before .before .before .before .before .before .before .before .before .before .word2 .ensures) refl (leap-gives (c .before .before .before .before .before .before .before .before .before .before .before .before .before .before .before .before .before .before .before .before .before .before .before .before .before .before .before .pre .1 .0) (c .before .before .before .before .before .before .before .before .before .before .before .before .before .before .before .before .before .before .before .before .before .before .before .before .before .before .before .pre .1 .1) (c .before .before .before .before .before .before .before .before .before .before .before .before .before .before .before .before .before .before .loop .inv .0) (omega (arith, c .before .before .before .before .before .before .before .before .before .before .before .before .before .before .before .before .before .before .before .before .before .before .before .count .ensures, c .before .before .before .before .before .before .before .before .before .before .before .before .before .before .before .before .before .loop-test .taken)) _ _ (c .before .before .before .before .before .before .before .before .before .before .before .before .before .before .before .before .before .before .before .before .leap .ensures) (c .before .before .before .before .before .before .before .before .before .before .before .before .before .before .before .before .before .before .before .before .before .before .before .before .before .kind .ensures) (c .before .before .before .before .before .before .before .before .before .before .before .before .before .before .before .before .before .before .before .landing .ensures) (c .before .before .before .before .before .before .before .operand .ensures) (c .before .before .before .before .before .before .before .before .before .before .before .before .before .before .word2 .ensures) (c .before .before .before .before .before .before .done .ensures) (omega (arith, c .before .before .before .before .before .before .before .before .before .before .before .before .before .before .before .before .if1 .left)) (c .before .before .before .before .before .apply .ensures)) (c .before .before .hear .ensures) (c .enum-told .given .1)
+walk-returns-2 t c =
+    let at-hear = c .before .before in
+    let at-apply = at-hear .before .before .before in
+    let at-done = at-apply .before in
+    let at-operand = at-done .before in
+    let at-word2 = at-operand .before .before .before .before .before .before .before in
+    let at-if1 = at-word2 .before .before in
+    let at-loop-test = at-if1 .before in
+    let at-loop = at-loop-test .before in
+    let at-landing = at-loop .before in
+    let at-leap = at-landing .before in
+    let at-count = at-leap .before .before .before in
+    let at-kind = at-count .before .before in
+    let start = at-kind .before .before in
+    going-off (start .pre .1 .0) (start .pre .1 .1) (at-loop .loop .inv .0) (omega (arith, at-count .count .ensures, at-loop-test .loop-test .taken)) refl (at-kind .kind .ensures) (at-word2 .word2 .ensures) refl (leap-gives (start .pre .1 .0) (start .pre .1 .1) (at-loop .loop .inv .0) (omega (arith, at-count .count .ensures, at-loop-test .loop-test .taken)) _ _ (at-leap .leap .ensures) (at-kind .kind .ensures) (at-landing .landing .ensures) (at-operand .operand .ensures) (at-word2 .word2 .ensures) (at-done .done .ensures) (omega (arith, at-if1 .if1 .left)) (at-apply .apply .ensures)) (at-hear .hear .ensures) (c .enum-told .given .1)
 
 pub walk-same-length-3 : (t : ℕ) → walk-lts.Need-same-length-3 (walk-calls t) (walk-at t) walk.Post walk-Inv-loop walk-μ-loop
-walk-same-length-3 t c = c .before .before .before .before .before .before .before .before .apply .kept .1 .0 ∙ (c .before .before .before .before .before .before .before .before .before .before .before .before .before .before .before .before .before .before .before .before .before .loop .inv .0) .kept .long
+walk-same-length-3 t c =
+    let at-apply = c .before .before .before .before .before .before .before .before in
+    let at-loop = at-apply .before .before .before .before .before .before .before .before .before .before .before .before .before in
+    at-apply .apply .kept .1 .0 ∙ (at-loop .loop .inv .0) .kept .long
 
 pub walk-returns-3 : (t : ℕ) → walk-lts.Need-returns-3 (walk-calls t) (walk-at t) walk.Post walk-Inv-loop walk-μ-loop
-walk-returns-3 t c = going-stops (c .before .before .before .before .before .before .before .before .before .before .before .before .before .before .before .before .before .before .before .before .before .before .before .before .before .before .before .before .before .before .pre .1 .0) (c .before .before .before .before .before .before .before .before .before .before .before .before .before .before .before .before .before .before .before .before .before .before .before .before .before .before .before .before .before .before .pre .1 .1) (c .before .before .before .before .before .before .before .before .before .before .before .before .before .before .before .before .before .before .before .before .before .loop .inv .0) (omega (arith, c .before .before .before .before .before .before .before .before .before .before .before .before .before .before .before .before .before .before .before .before .before .before .before .before .before .before .count .ensures, c .before .before .before .before .before .before .before .before .before .before .before .before .before .before .before .before .before .before .before .before .loop-test .taken)) refl (c .before .before .before .before .before .before .before .before .before .before .before .before .before .before .before .before .before .before .before .before .before .before .before .before .before .before .before .before .kind .ensures) (c .before .before .before .before .before .before .before .before .before .before .before .before .before .before .before .before .before .word2 .ensures) refl (leap-gives (c .before .before .before .before .before .before .before .before .before .before .before .before .before .before .before .before .before .before .before .before .before .before .before .before .before .before .before .before .before .before .pre .1 .0) (c .before .before .before .before .before .before .before .before .before .before .before .before .before .before .before .before .before .before .before .before .before .before .before .before .before .before .before .before .before .before .pre .1 .1) (c .before .before .before .before .before .before .before .before .before .before .before .before .before .before .before .before .before .before .before .before .before .loop .inv .0) (omega (arith, c .before .before .before .before .before .before .before .before .before .before .before .before .before .before .before .before .before .before .before .before .before .before .before .before .before .before .count .ensures, c .before .before .before .before .before .before .before .before .before .before .before .before .before .before .before .before .before .before .before .before .loop-test .taken)) _ _ (c .before .before .before .before .before .before .before .before .before .before .before .before .before .before .before .before .before .before .before .before .before .before .before .leap .ensures) (c .before .before .before .before .before .before .before .before .before .before .before .before .before .before .before .before .before .before .before .before .before .before .before .before .before .before .before .before .kind .ensures) (c .before .before .before .before .before .before .before .before .before .before .before .before .before .before .before .before .before .before .before .before .before .before .landing .ensures) (c .before .before .before .before .before .before .before .before .before .before .operand .ensures) (c .before .before .before .before .before .before .before .before .before .before .before .before .before .before .before .before .before .word2 .ensures) (c .before .before .before .before .before .before .before .before .before .done .ensures) (omega (arith, c .before .before .before .before .before .before .before .before .before .before .before .before .before .before .before .before .before .before .before .if1 .left)) (c .before .before .before .before .before .before .before .before .apply .ensures)) (c .before .before .before .before .before .hear .ensures) (c .before .before .before .yes .given .1) (c .before .before .before .before .before .before .before .before .before .before .before .before .before .before .before .before .before .before .before .before .before .before .before .before .before .before .before .before .kind .ensures) (c .if3 .taken) (c .before .if2 .left)
+walk-returns-3 t c =
+    let at-if2 = c .before in
+    let at-yes = at-if2 .before .before in
+    let at-hear = at-yes .before .before in
+    let at-apply = at-hear .before .before .before in
+    let at-done = at-apply .before in
+    let at-operand = at-done .before in
+    let at-word2 = at-operand .before .before .before .before .before .before .before in
+    let at-if1 = at-word2 .before .before in
+    let at-loop-test = at-if1 .before in
+    let at-loop = at-loop-test .before in
+    let at-landing = at-loop .before in
+    let at-leap = at-landing .before in
+    let at-count = at-leap .before .before .before in
+    let at-kind = at-count .before .before in
+    let start = at-kind .before .before in
+    going-stops (start .pre .1 .0) (start .pre .1 .1) (at-loop .loop .inv .0) (omega (arith, at-count .count .ensures, at-loop-test .loop-test .taken)) refl (at-kind .kind .ensures) (at-word2 .word2 .ensures) refl (leap-gives (start .pre .1 .0) (start .pre .1 .1) (at-loop .loop .inv .0) (omega (arith, at-count .count .ensures, at-loop-test .loop-test .taken)) _ _ (at-leap .leap .ensures) (at-kind .kind .ensures) (at-landing .landing .ensures) (at-operand .operand .ensures) (at-word2 .word2 .ensures) (at-done .done .ensures) (omega (arith, at-if1 .if1 .left)) (at-apply .apply .ensures)) (at-hear .hear .ensures) (at-yes .yes .given .1) (at-kind .kind .ensures) (c .if3 .taken) (at-if2 .if2 .left)
 
 pub walk-element-write-st : (t : ℕ) → walk-lts.Need-element-write-st (walk-calls t) (walk-at t) walk.Post walk-Inv-loop walk-μ-loop
 walk-element-write-st t c = search needs
@@ -107,16 +163,42 @@ pub walk-at-requires-2 : (t : ℕ) → walk-lts.Need-at-requires-2 (walk-calls t
 walk-at-requires-2 t c κs = search needs
 
 pub walk-beyond-requires : (t : ℕ) → walk-lts.Need-beyond-requires (walk-calls t) (walk-at t) walk.Post walk-Inv-loop walk-μ-loop
-walk-beyond-requires t c κs = omega (arith, c .before .before .before .before .before .before .before .before .before .before .before .before .before .before .before .before .before .before .before .before .before .before .before .before .before .before .before .count .ensures, c .before .before .before .before .before .before .before .before .before .before .before .before .before .before .before .before .before .before .before .before .before .loop-test .taken)
+walk-beyond-requires t c κs =
+    let at-loop-test = c .before .before .before .before .before .before .before .before .before .before .before .before .before .before .before .before .before .before .before .before .before in
+    let at-count = at-loop-test .before .before .before .before .before .before in
+    omega (arith, at-count .count .ensures, at-loop-test .loop-test .taken)
 
 pub walk-add-i : (t : ℕ) → walk-lts.Need-add-i (walk-calls t) (walk-at t) walk.Post walk-Inv-loop walk-μ-loop
-walk-add-i t c = omega (arith, c .before .before .before .before .before .before .before .before .before .before .before .before .before .before .before .before .before .before .before .before .before .before .before .before .before .before .before .before .count .ensures, c .before .before .before .before .before .before .before .before .before .before .before .before .before .before .before .before .before .before .before .before .before .before .loop-test .taken)
+walk-add-i t c =
+    let at-loop-test = c .before .before .before .before .before .before .before .before .before .before .before .before .before .before .before .before .before .before .before .before .before .before in
+    let at-count = at-loop-test .before .before .before .before .before .before in
+    omega (arith, at-count .count .ensures, at-loop-test .loop-test .taken)
 
 pub walk-loop-less : (t : ℕ) → walk-lts.Need-loop-less (walk-calls t) (walk-at t) walk.Post walk-Inv-loop walk-μ-loop
 walk-loop-less t c = omega (arith, c .before .before .before .before .before .before .before .before .before .before .before .before .before .before .before .before .before .before .before .before .before .before .loop-test .taken)
 
 pub walk-loop-again : (t : ℕ) → walk-lts.Need-loop-again (walk-calls t) (walk-at t) walk.Post walk-Inv-loop walk-μ-loop
-walk-loop-again t c = (⊎-elim (λ j. going-yes (c .before .before .before .before .before .before .before .before .before .before .before .before .before .before .before .before .before .before .before .before .before .before .before .before .before .before .before .before .before .before .before .before .pre .1 .0) (c .before .before .before .before .before .before .before .before .before .before .before .before .before .before .before .before .before .before .before .before .before .before .before .before .before .before .before .before .before .before .before .before .pre .1 .1) (c .before .before .before .before .before .before .before .before .before .before .before .before .before .before .before .before .before .before .before .before .before .before .before .loop .inv .0) (omega (arith, c .before .before .before .before .before .before .before .before .before .before .before .before .before .before .before .before .before .before .before .before .before .before .before .before .before .before .before .before .count .ensures, c .before .before .before .before .before .before .before .before .before .before .before .before .before .before .before .before .before .before .before .before .before .before .loop-test .taken)) refl (c .before .before .before .before .before .before .before .before .before .before .before .before .before .before .before .before .before .before .before .before .before .before .before .before .before .before .before .before .before .before .kind .ensures) (c .before .before .before .before .before .before .before .before .before .before .before .before .before .before .before .before .before .before .before .word2 .ensures) refl (leap-gives (c .before .before .before .before .before .before .before .before .before .before .before .before .before .before .before .before .before .before .before .before .before .before .before .before .before .before .before .before .before .before .before .before .pre .1 .0) (c .before .before .before .before .before .before .before .before .before .before .before .before .before .before .before .before .before .before .before .before .before .before .before .before .before .before .before .before .before .before .before .before .pre .1 .1) (c .before .before .before .before .before .before .before .before .before .before .before .before .before .before .before .before .before .before .before .before .before .before .before .loop .inv .0) (omega (arith, c .before .before .before .before .before .before .before .before .before .before .before .before .before .before .before .before .before .before .before .before .before .before .before .before .before .before .before .before .count .ensures, c .before .before .before .before .before .before .before .before .before .before .before .before .before .before .before .before .before .before .before .before .before .before .loop-test .taken)) _ _ (c .before .before .before .before .before .before .before .before .before .before .before .before .before .before .before .before .before .before .before .before .before .before .before .before .before .leap .ensures) (c .before .before .before .before .before .before .before .before .before .before .before .before .before .before .before .before .before .before .before .before .before .before .before .before .before .before .before .before .before .before .kind .ensures) (c .before .before .before .before .before .before .before .before .before .before .before .before .before .before .before .before .before .before .before .before .before .before .before .before .landing .ensures) (c .before .before .before .before .before .before .before .before .before .before .before .before .operand .ensures) (c .before .before .before .before .before .before .before .before .before .before .before .before .before .before .before .before .before .before .before .word2 .ensures) (c .before .before .before .before .before .before .before .before .before .before .before .done .ensures) (omega (arith, c .before .before .before .before .before .before .before .before .before .before .before .before .before .before .before .before .before .before .before .before .before .if1 .left)) (c .before .before .before .before .before .before .before .before .before .before .apply .ensures)) (c .before .before .before .before .before .before .before .hear .ensures) (c .before .before .before .before .before .yes .given .1) (j .0 .taken) (j .1) (j .2) (placed (c .before .before .before .before .before .before .before .before .before .before .before .before .before .before .before .before .before .before .before .before .before .before .before .loop .i) _ _ _ (c .before .before .before .before .before .before .before .before .before .before .before .before .before .before .before .before .before .before .before .before .before .before .before .loop .a) (c .before .before .before .before .before .before .before .before .before .before .before .before .before .before .before .before .before .before .before .before .before .before .before .loop .b) (c .before .before .before .before .before .before .before .before .before .before .before .before .before .before .before .before .before .before .before .before .before .before .before .loop .more) (c .before .before .at .ensures) (c .before .at2 .ensures) (c .beyond .ensures) (j .3))) (λ j. going-no (c .before .before .before .before .before .before .before .before .before .before .before .before .before .before .before .before .before .before .before .before .before .before .before .before .before .before .before .before .before .before .before .before .pre .1 .0) (c .before .before .before .before .before .before .before .before .before .before .before .before .before .before .before .before .before .before .before .before .before .before .before .before .before .before .before .before .before .before .before .before .pre .1 .1) (c .before .before .before .before .before .before .before .before .before .before .before .before .before .before .before .before .before .before .before .before .before .before .before .loop .inv .0) (omega (arith, c .before .before .before .before .before .before .before .before .before .before .before .before .before .before .before .before .before .before .before .before .before .before .before .before .before .before .before .before .count .ensures, c .before .before .before .before .before .before .before .before .before .before .before .before .before .before .before .before .before .before .before .before .before .before .loop-test .taken)) refl (c .before .before .before .before .before .before .before .before .before .before .before .before .before .before .before .before .before .before .before .before .before .before .before .before .before .before .before .before .before .before .kind .ensures) (c .before .before .before .before .before .before .before .before .before .before .before .before .before .before .before .before .before .before .before .word2 .ensures) refl (leap-gives (c .before .before .before .before .before .before .before .before .before .before .before .before .before .before .before .before .before .before .before .before .before .before .before .before .before .before .before .before .before .before .before .before .pre .1 .0) (c .before .before .before .before .before .before .before .before .before .before .before .before .before .before .before .before .before .before .before .before .before .before .before .before .before .before .before .before .before .before .before .before .pre .1 .1) (c .before .before .before .before .before .before .before .before .before .before .before .before .before .before .before .before .before .before .before .before .before .before .before .loop .inv .0) (omega (arith, c .before .before .before .before .before .before .before .before .before .before .before .before .before .before .before .before .before .before .before .before .before .before .before .before .before .before .before .before .count .ensures, c .before .before .before .before .before .before .before .before .before .before .before .before .before .before .before .before .before .before .before .before .before .before .loop-test .taken)) _ _ (c .before .before .before .before .before .before .before .before .before .before .before .before .before .before .before .before .before .before .before .before .before .before .before .before .before .leap .ensures) (c .before .before .before .before .before .before .before .before .before .before .before .before .before .before .before .before .before .before .before .before .before .before .before .before .before .before .before .before .before .before .kind .ensures) (c .before .before .before .before .before .before .before .before .before .before .before .before .before .before .before .before .before .before .before .before .before .before .before .before .landing .ensures) (c .before .before .before .before .before .before .before .before .before .before .before .before .operand .ensures) (c .before .before .before .before .before .before .before .before .before .before .before .before .before .before .before .before .before .before .before .word2 .ensures) (c .before .before .before .before .before .before .before .before .before .before .before .done .ensures) (omega (arith, c .before .before .before .before .before .before .before .before .before .before .before .before .before .before .before .before .before .before .before .before .before .if1 .left)) (c .before .before .before .before .before .before .before .before .before .before .apply .ensures)) (c .before .before .before .before .before .before .before .hear .ensures) (c .before .before .before .before .before .yes .given .1) (j .0 .left) (c .before .before .before .before .before .before .before .before .before .before .before .before .before .before .before .before .before .before .before .before .before .before .before .before .before .before .before .before .before .before .kind .ensures) (j .1 .left) (c .before .before .before .before .before .before .before .before .before .before .before .before .before .before .before .before .before .saved .ensures) (c .before .before .before .before .before .before .before .before .before .before .before .before .before .before .before .saved2 .ensures) (j .2) (j .3) (placed (c .before .before .before .before .before .before .before .before .before .before .before .before .before .before .before .before .before .before .before .before .before .before .before .loop .i) _ _ _ (c .before .before .before .before .before .before .before .before .before .before .before .before .before .before .before .before .before .before .before .before .before .before .before .loop .a) (c .before .before .before .before .before .before .before .before .before .before .before .before .before .before .before .before .before .before .before .before .before .before .before .loop .b) (c .before .before .before .before .before .before .before .before .before .before .before .before .before .before .before .before .before .before .before .before .before .before .before .loop .more) (c .before .before .at .ensures) (c .before .at2 .ensures) (c .beyond .ensures) (j .4))) (c .before .before .before .if2 .came), four-still (c .before .before .before .before .before .before .before .before .before .before .before .before .before .before .before .before .before .before .before .before .before .before .before .loop .more) (c .before .before .before .before .before .before .before .before .before .before .before .before .before .before .before .before .before .before .before .before .before .before .before .loop .i) (c .before .before .before .if2 .y) (c .before .before .before .before .before .before .before .before .before .before .before .before .before .before .before .before .before .before .before .before .before .before .before .loop .inv .1) (c .beyond .ensures))
+walk-loop-again t c =
+    let at-at2 = c .before in
+    let at-at = at-at2 .before in
+    let at-if2 = at-at .before in
+    let at-yes = at-if2 .before .before in
+    let at-hear = at-yes .before .before in
+    let at-apply = at-hear .before .before .before in
+    let at-done = at-apply .before in
+    let at-operand = at-done .before in
+    let at-saved2 = at-operand .before .before .before in
+    let at-saved = at-saved2 .before .before in
+    let at-word2 = at-saved .before .before in
+    let at-if1 = at-word2 .before .before in
+    let at-loop-test = at-if1 .before in
+    let at-loop = at-loop-test .before in
+    let at-landing = at-loop .before in
+    let at-leap = at-landing .before in
+    let at-count = at-leap .before .before .before in
+    let at-kind = at-count .before .before in
+    let start = at-kind .before .before in
+    (⊎-elim (λ j. going-yes (start .pre .1 .0) (start .pre .1 .1) (at-loop .loop .inv .0) (omega (arith, at-count .count .ensures, at-loop-test .loop-test .taken)) refl (at-kind .kind .ensures) (at-word2 .word2 .ensures) refl (leap-gives (start .pre .1 .0) (start .pre .1 .1) (at-loop .loop .inv .0) (omega (arith, at-count .count .ensures, at-loop-test .loop-test .taken)) _ _ (at-leap .leap .ensures) (at-kind .kind .ensures) (at-landing .landing .ensures) (at-operand .operand .ensures) (at-word2 .word2 .ensures) (at-done .done .ensures) (omega (arith, at-if1 .if1 .left)) (at-apply .apply .ensures)) (at-hear .hear .ensures) (at-yes .yes .given .1) (j .0 .taken) (j .1) (j .2) (placed (at-loop .loop .i) _ _ _ (at-loop .loop .a) (at-loop .loop .b) (at-loop .loop .more) (at-at .at .ensures) (at-at2 .at2 .ensures) (c .beyond .ensures) (j .3))) (λ j. going-no (start .pre .1 .0) (start .pre .1 .1) (at-loop .loop .inv .0) (omega (arith, at-count .count .ensures, at-loop-test .loop-test .taken)) refl (at-kind .kind .ensures) (at-word2 .word2 .ensures) refl (leap-gives (start .pre .1 .0) (start .pre .1 .1) (at-loop .loop .inv .0) (omega (arith, at-count .count .ensures, at-loop-test .loop-test .taken)) _ _ (at-leap .leap .ensures) (at-kind .kind .ensures) (at-landing .landing .ensures) (at-operand .operand .ensures) (at-word2 .word2 .ensures) (at-done .done .ensures) (omega (arith, at-if1 .if1 .left)) (at-apply .apply .ensures)) (at-hear .hear .ensures) (at-yes .yes .given .1) (j .0 .left) (at-kind .kind .ensures) (j .1 .left) (at-saved .saved .ensures) (at-saved2 .saved2 .ensures) (j .2) (j .3) (placed (at-loop .loop .i) _ _ _ (at-loop .loop .a) (at-loop .loop .b) (at-loop .loop .more) (at-at .at .ensures) (at-at2 .at2 .ensures) (c .beyond .ensures) (j .4))) (at-if2 .if2 .came), four-still (at-loop .loop .more) (at-loop .loop .i) (at-if2 .if2 .y) (at-loop .loop .inv .1) (c .beyond .ensures))
 
 pub walk-array-read-t57 : (t : ℕ) → walk-lts.Need-array-read-t57 (walk-calls t) (walk-at t) walk.Post walk-Inv-loop walk-μ-loop
 walk-array-read-t57 t c = search needs
@@ -131,10 +213,22 @@ pub walk-array-read-t66 : (t : ℕ) → walk-lts.Need-array-read-t66 (walk-calls
 walk-array-read-t66 t c = search needs
 
 pub walk-finish-requires : (t : ℕ) → walk-lts.Need-finish-requires (walk-calls t) (walk-at t) walk.Post walk-Inv-loop walk-μ-loop
-walk-finish-requires t c κs = (going-roomy (c .before .before .before .before .before .before .before .before .before .before .before .before .pre .1 .0) (c .before .before .before .before .before .before .before .before .before .before .before .before .pre .1 .1) (c .before .before .before .loop .inv .0) (omega (arith, c .before .before .before .before .before .before .before .before .count .ensures, c .before .before .loop-test .left)), going-long (c .before .before .before .before .before .before .before .before .before .before .before .before .pre .1 .0) (c .before .before .before .before .before .before .before .before .before .before .before .before .pre .1 .1) (c .before .before .before .loop .inv .0) (omega (arith, c .before .before .before .before .before .before .before .before .count .ensures, c .before .before .loop-test .left)), going-small (c .before .before .before .before .before .before .before .before .before .before .before .before .pre .1 .0) (c .before .before .before .before .before .before .before .before .before .before .before .before .pre .1 .1) (c .before .before .before .loop .inv .0) (omega (arith, c .before .before .before .before .before .before .before .before .count .ensures, c .before .before .loop-test .left)))
+walk-finish-requires t c κs =
+    let at-loop-test = c .before .before in
+    let at-loop = at-loop-test .before in
+    let at-count = at-loop .before .before .before .before .before in
+    let start = at-count .before .before .before .before in
+    (going-roomy (start .pre .1 .0) (start .pre .1 .1) (at-loop .loop .inv .0) (omega (arith, at-count .count .ensures, at-loop-test .loop-test .left)), going-long (start .pre .1 .0) (start .pre .1 .1) (at-loop .loop .inv .0) (omega (arith, at-count .count .ensures, at-loop-test .loop-test .left)), going-small (start .pre .1 .0) (start .pre .1 .1) (at-loop .loop .inv .0) (omega (arith, at-count .count .ensures, at-loop-test .loop-test .left)))
 
 pub walk-same-length-4 : (t : ℕ) → walk-lts.Need-same-length-4 (walk-calls t) (walk-at t) walk.Post walk-Inv-loop walk-μ-loop
 walk-same-length-4 t c = c .before .before .finish .kept .0 ∙ (c .before .before .before .before .before .before .loop .inv .0) .kept .long
 
 pub walk-returns-4 : (t : ℕ) → walk-lts.Need-returns-4 (walk-calls t) (walk-at t) walk.Post walk-Inv-loop walk-μ-loop
-walk-returns-4 t c = going-ends (c .before .before .before .before .before .before .before .before .before .before .before .before .before .before .before .pre .1 .0) (c .before .before .before .before .before .before .before .before .before .before .before .before .before .before .before .pre .1 .1) (c .before .before .before .before .before .before .loop .inv .0) (omega (arith, c .before .before .before .before .before .before .before .before .before .before .before .count .ensures, c .before .before .before .before .before .loop-test .left)) (c .before .before .before .before .before .before .before .before .before .before .before .before .before .kind .ensures) (c .before .before .before .before .before .before .before .before .before .before .before .count .ensures) (whole-made _ _ _ _ _ _ _ _ _ _ _ _ _ _ (c .before .before .before .before .before .before .loop .inv .1) (c .before .before .finish .ensures))
+walk-returns-4 t c =
+    let at-finish = c .before .before in
+    let at-loop-test = at-finish .before .before .before in
+    let at-loop = at-loop-test .before in
+    let at-count = at-loop .before .before .before .before .before in
+    let at-kind = at-count .before .before in
+    let start = at-kind .before .before in
+    going-ends (start .pre .1 .0) (start .pre .1 .1) (at-loop .loop .inv .0) (omega (arith, at-count .count .ensures, at-loop-test .loop-test .left)) (at-kind .kind .ensures) (at-count .count .ensures) (whole-made _ _ _ _ _ _ _ _ _ _ _ _ _ _ (at-loop .loop .inv .1) (at-finish .finish .ensures))
