@@ -19,7 +19,7 @@ ghost use Rattle.engine.specs.Record.{markOf, held};
 ghost use Rattle.engine.specs.Visits.{visit, noded, Pattern, Entries, Steady, Roomy, Gives};
 
 // The node of these eight words at the mark; no room where the mark equals the store's nodes.
-pub fn node(store: &mut [u32], st: &mut [u32; 34], made: [u32; 8], left: u32) -> u64
+pub(crate) fn node(store: &mut [u32], st: &mut [u32; 34], made: [u32; 8], left: u32) -> u64
     requires { ⌜ Roomy (now store) (markOf (now st)) × (length (now st) ≡ 34) ⌝ }
     ensures { λ r. ⌜ Gives (noded made (now (st .entry)) (now (store .entry)) left) (now (st .entry)) r (now (st .exit)) (now (store .exit)) ⌝ }
 {
@@ -33,7 +33,7 @@ pub fn node(store: &mut [u32], st: &mut [u32; 34], made: [u32; 8], left: u32) ->
 }
 
 // BUILD of the pattern p.
-pub fn build(
+pub(crate) fn build(
     table: &[u32; 32768],
     store: &mut [u32],
     st: &mut [u32; 34],

@@ -34,7 +34,14 @@ pub struct Fitted {
 
 // A PCON whose constructor and count agree with the node's, after its own visit: child by child. Some nesting is left for
 // the children, so that the loop does not test it; its caller does.
-pub fn fits(table: &[u32; 32768], store: &[u32], p: u32, s: u64, b: Bindings, deep: u32) -> Fitted
+pub(crate) fn fits(
+    table: &[u32; 32768],
+    store: &[u32],
+    p: u32,
+    s: u64,
+    b: Bindings,
+    deep: u32,
+) -> Fitted
     requires { ⌜ Entries (now table) × (p < 4096) × (kindOf (now table) p ≡ 19) × (agreeing (now table) (now store) p (nodeIn s) ≡ true) × (0 < deep) ⌝ }
     ensures { λ r. ⌜ Fitting (now (table .entry)) (now (store .entry)) deep p s (b .words) (r .got) (r .binds .words) ⌝ }
 {
@@ -166,7 +173,7 @@ fn filled(table: &[u32; 32768], store: &[u32], st: &mut [u32; 34], p: u32, s: u6
 }
 
 // MATCH of the pattern p on a node: the root is looked at first.
-pub fn matching(
+pub(crate) fn matching(
     table: &[u32; 32768],
     store: &[u32],
     st: &mut [u32; 34],

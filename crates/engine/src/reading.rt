@@ -8,21 +8,21 @@ ghost use Rattle.checks.specs.Good.{kindOf, operandCount};
 ghost use Rattle.engine.specs.Visits.{countOf, rowAt, agreeing};
 
 // Word j of the entry e.
-pub fn entry(table: &[u32; 32768], e: u32, j: u32) -> u32
+pub(crate) fn entry(table: &[u32; 32768], e: u32, j: u32) -> u32
     requires { ⌜ (e < 4096) × (j < 8) ⌝ }
     ensures { λ r. ⌜ r ≡ wordAt (now (table .entry)) e j ⌝ }
 {
     table[8 * (e as usize) + (j as usize)]
 }
 
-pub fn kind(table: &[u32; 32768], e: u32) -> u32
+pub(crate) fn kind(table: &[u32; 32768], e: u32) -> u32
     requires { ⌜ e < 4096 ⌝ }
     ensures { λ r. ⌜ r ≡ kindOf (now (table .entry)) e ⌝ }
 {
     entry(table, e, 0) / 16
 }
 
-pub fn operands(table: &[u32; 32768], e: u32) -> u32
+pub(crate) fn operands(table: &[u32; 32768], e: u32) -> u32
     requires { ⌜ e < 4096 ⌝ }
     ensures { λ r. ⌜ r ≡ operandCount (now (table .entry)) e ⌝ }
 {
@@ -54,7 +54,7 @@ pub fn row(store: &[u32], k: u32) -> [u32; 8]
 }
 
 // Whether the constructor and the count of entry p are those of node k.
-pub fn agree(table: &[u32; 32768], store: &[u32], p: u32, k: u32) -> bool
+pub(crate) fn agree(table: &[u32; 32768], store: &[u32], p: u32, k: u32) -> bool
     requires { ⌜ p < 4096 ⌝ }
     ensures { λ r. ⌜ r ≡ agreeing (now (table .entry)) (now (store .entry)) p k ⌝ }
 {

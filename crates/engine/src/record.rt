@@ -17,7 +17,7 @@ pub fn bit(mask: u32, v: u32) -> u32
 }
 
 // Sets one variable of the record: v is bound to node t.
-pub fn set_variable(b: &mut Bindings, v: u32, t: u32)
+pub(crate) fn set_variable(b: &mut Bindings, v: u32, t: u32)
     requires { ⌜ v < 32 ⌝ }
     ensures { λ _. ⌜ now (b .exit) .words ≡ bound (now (b .entry) .words) v t ⌝ }
 {
@@ -36,7 +36,7 @@ pub fn bind(b: Bindings, v: u32, t: u32) -> Bindings
 }
 
 // The same in the words that a run holds.
-pub fn put_variable(st: &mut [u32; 34], v: u32, t: u32)
+pub(crate) fn put_variable(st: &mut [u32; 34], v: u32, t: u32)
     requires { ⌜ v < 32 ⌝ }
     ensures { λ _. ⌜ now (st .exit) ≡ bound (now (st .entry)) v t ⌝ }
 {

@@ -12,7 +12,7 @@ ghost use Rattle.engine.specs.Visits.{Hinted, Skips};
 
 // How many visits the first operand of the CHOICE or LEFT e makes on the node of s before it fails. 0 where it is not known
 // to fail, or where units or nesting might end before.
-pub fn skipped(table: &[u32; 32768], store: &[u32], e: u32, s: u64, d: u32) -> u32
+pub(crate) fn skipped(table: &[u32; 32768], store: &[u32], e: u32, s: u64, d: u32) -> u32
     requires { ⌜ Hinted (now table) × (e < 4096) × (wordAt (now table) e 4 < 4096) × ((kindOf (now table) e ≡ 5) ⊎ (kindOf (now table) e ≡ 6)) ⌝ }
     ensures { λ r. ⌜ Skips (now (table .entry)) (now (store .entry)) (wordAt (now (table .entry)) e 2) (nodeIn s) (min d (unitsIn s)) r ⌝ }
 {

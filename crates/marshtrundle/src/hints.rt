@@ -1,28 +1,22 @@
 // What the given table tells of an entry's first operand before a run: hints, which the run keeps in two words that the entry
 // does not use.
+use checks::entries::kind_of;
 use words::word;
 ghost use mathlib.Core.Path.{_≡_};
-ghost use Rattle.checks.specs.Good.{kindOf};
 ghost use Rattle.marshtrundle.specs.Loaded.{Begun, Calls, Noted};
 
 // An entry, and a number of visits; 0 visits where nothing is known.
 pub struct Hint(pub u32, pub u32);
 
-fn kind(table: &[u32], e: u32) -> u32
-    ensures { λ r. ⌜ r ≡ kindOf (now (table .entry)) e ⌝ }
-{
-    word(table, e, 0) / 16
-}
-
 // A MATCH of a PCON: the PCON's visit is the second.
 fn matched(table: &[u32], q: u32) -> Hint
     ensures { λ r. ⌜ Begun (now (table .entry)) q 2 (r .0) (r .1) ⌝ }
 {
-    if kind(table, q) != 14 {
+    if kind_of(table, q) != 14 {
         return Hint(0, 0);
     }
     let p = word(table, q, 2);
-    if kind(table, p) != 19 {
+    if kind_of(table, p) != 19 {
         return Hint(0, 0);
     }
     Hint(p, 2)
@@ -32,7 +26,7 @@ fn matched(table: &[u32], q: u32) -> Hint
 fn first(table: &[u32], q: u32) -> Hint
     ensures { λ r. ⌜ Begun (now (table .entry)) q 3 (r .0) (r .1) ⌝ }
 {
-    if kind(table, q) != 4 {
+    if kind_of(table, q) != 4 {
         return matched(table, q);
     }
     let h = matched(table, word(table, q, 2));
@@ -46,7 +40,7 @@ fn first(table: &[u32], q: u32) -> Hint
 fn begun(table: &[u32], q: u32) -> Hint
     ensures { λ r. ⌜ Begun (now (table .entry)) q 4 (r .0) (r .1) ⌝ }
 {
-    if kind(table, q) != 16 {
+    if kind_of(table, q) != 16 {
         return first(table, q);
     }
     let h = first(table, word(table, q, 2));
@@ -60,11 +54,11 @@ fn begun(table: &[u32], q: u32) -> Hint
 fn called(table: &[u32], q: u32) -> Hint
     ensures { λ r. ⌜ ((r .1 ≡ 0 → ⊥) → Calls (now (table .entry)) (r .0) q (r .1)) ⌝ }
 {
-    if kind(table, q) != 8 {
+    if kind_of(table, q) != 8 {
         return Hint(0, 0);
     }
     let r = word(table, q, 2);
-    if kind(table, r) != 7 {
+    if kind_of(table, r) != 7 {
         return Hint(0, 0);
     }
     Hint(word(table, r, 2), 2)
@@ -74,7 +68,7 @@ fn called(table: &[u32], q: u32) -> Hint
 pub fn known(table: &[u32], e: u32) -> Hint
     ensures { λ r. ⌜ ((r .1 ≡ 0 → ⊥) → Noted (now (table .entry)) e (r .0) (r .1)) ⌝ }
 {
-    let k = kind(table, e);
+    let k = kind_of(table, e);
     let q = word(table, e, 2);
     if k == 5 {
         return begun(table, q);

@@ -5,8 +5,8 @@ use borrow.Author.Needs.{needs}
 use Rattle.marshtrundle.proofs.hints.begun.Statement.{statement}
 use Rattle.marshtrundle.proofs.hints.begun.Tie as tie
 
-kind-requires : tie.Need-kind-requires
-kind-requires c κs = search needs
+kind-of-requires : tie.Need-kind-of-requires
+kind-of-requires c κs = search needs
 
 first-requires : tie.Need-first-requires
 first-requires c κs = search needs
@@ -27,13 +27,13 @@ add-t4 : tie.Need-add-t4
 add-t4 c = search needs
 
 returns-3 : tie.Need-returns-3
-returns-3 c = begun-scope (c .before .before .before .before .word .ensures) (c .before .before .before .first2 .ensures) (c .before .if2 .left) (sym (c .before .before .before .before .before .before .kind .ensures) ∙ c .before .before .before .before .before .if1 .left)
+returns-3 c = begun-scope (c .before .before .before .before .word .ensures) (c .before .before .before .first2 .ensures) (c .before .if2 .left) (sym (c .before .before .before .before .before .before .kind-of .ensures) ∙ c .before .before .before .before .before .if1 .left)
 
 pub begun-spec : {M : Type 1} → statement M
 begun-spec =
     tie.close
     (tie.spec
-    kind-requires
+    kind-of-requires
     first-requires
     returns
     word-requires

@@ -5,8 +5,8 @@ use borrow.Author.Needs.{needs}
 use Rattle.marshtrundle.proofs.hints.matched.Statement.{statement}
 use Rattle.marshtrundle.proofs.hints.matched.Tie as tie
 
-kind-requires : tie.Need-kind-requires
-kind-requires c κs = search needs
+kind-of-requires : tie.Need-kind-of-requires
+kind-of-requires c κs = search needs
 
 returns : tie.Need-returns
 returns c = begun-none refl
@@ -14,15 +14,15 @@ returns c = begun-none refl
 word-requires : tie.Need-word-requires
 word-requires c κs = search needs
 
-kind-requires-2 : tie.Need-kind-requires-2
-kind-requires-2 c κs = search needs
+kind-of-requires-2 : tie.Need-kind-of-requires-2
+kind-of-requires-2 c κs = search needs
 
 returns-2 : tie.Need-returns-2
 returns-2 c = begun-none refl
 
 returns-3 : tie.Need-returns-3
-returns-3 c = begun-match (sym (c .before .before .before .before .kind .ensures) ∙ c .before .before .before .if1 .left) (c .before .before .word .ensures) (sym (c .before .kind2 .ensures) ∙ c .if2 .left)
+returns-3 c = begun-match (sym (c .before .before .before .before .kind-of .ensures) ∙ c .before .before .before .if1 .left) (c .before .before .word .ensures) (sym (c .before .kind-of2 .ensures) ∙ c .if2 .left)
 
 pub matched-spec : {M : Type 1} → statement M
 matched-spec =
-    tie.close (tie.spec kind-requires returns word-requires kind-requires-2 returns-2 returns-3)
+    tie.close (tie.spec kind-of-requires returns word-requires kind-of-requires-2 returns-2 returns-3)

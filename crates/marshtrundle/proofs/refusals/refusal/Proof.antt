@@ -41,7 +41,7 @@ returns-3 c =
     let at-check-table = at-if2 .before .before in
     let at-if1 = at-check-table .before in
     let at-sizes-fit = at-if1 .before in
-    rw (← at-sizes-fit .sizes-fit .ensures, not-false (at-sizes-fit .sizes-fit .result) (at-if1 .if1 .left), ← at-check-table .check-table .ensures, eq-eqb _ _ (at-if2 .if2 .left), ← at-check-store .check-store .ensures, ne-eqb _ _ (c .if3 .taken))
+    rw (← at-sizes-fit .sizes-fit .ensures, not-false (at-sizes-fit .sizes-fit .result) (at-if1 .if1 .left), ← at-check-table .check-table .ensures, eq-eqb _ _ (at-if2 .if2 .left), ← at-check-store .check-store .ensures, ne-eqb _ 0 (c .if3 .taken))
 
 -- src/refusals.rt:74:9
 start-fits-requires : tie.Need-start-fits-requires
@@ -58,7 +58,7 @@ returns-4 c =
     let at-check-table = at-if2 .before .before in
     let at-if1 = at-check-table .before in
     let at-sizes-fit = at-if1 .before in
-    rw (← at-sizes-fit .sizes-fit .ensures, not-false (at-sizes-fit .sizes-fit .result) (at-if1 .if1 .left), ← at-check-table .check-table .ensures, eq-eqb _ _ (at-if2 .if2 .left), ← at-check-store .check-store .ensures, eq-eqb _ _ (at-if3 .if3 .left), ← at-start-fits .start-fits .ensures, not-true (at-start-fits .start-fits .result) (c .if4 .taken))
+    rw (← at-sizes-fit .sizes-fit .ensures, not-false (at-sizes-fit .sizes-fit .result) (at-if1 .if1 .left), ← at-check-table .check-table .ensures, eq-eqb _ _ (at-if2 .if2 .left), ← at-check-store .check-store .ensures, eq-eqb _ 0 (at-if3 .if3 .left), ← at-start-fits .start-fits .ensures, not-true (at-start-fits .start-fits .result) (c .if4 .taken))
 
 -- src/refusals.rt:57:1
 returns-5 : tie.Need-returns-5
@@ -71,7 +71,7 @@ returns-5 c =
     let at-check-table = at-if2 .before .before in
     let at-if1 = at-check-table .before in
     let at-sizes-fit = at-if1 .before in
-    rw (← at-sizes-fit .sizes-fit .ensures, not-false (at-sizes-fit .sizes-fit .result) (at-if1 .if1 .left), ← at-check-table .check-table .ensures, eq-eqb _ _ (at-if2 .if2 .left), ← at-check-store .check-store .ensures, eq-eqb _ _ (at-if3 .if3 .left), ← at-start-fits .start-fits .ensures, not-false (at-start-fits .start-fits .result) (c .if4 .left))
+    rw (← at-sizes-fit .sizes-fit .ensures, not-false (at-sizes-fit .sizes-fit .result) (at-if1 .if1 .left), ← at-check-table .check-table .ensures, eq-eqb _ _ (at-if2 .if2 .left), ← at-check-store .check-store .ensures, eq-eqb _ 0 (at-if3 .if3 .left), ← at-start-fits .start-fits .ensures, not-false (at-start-fits .start-fits .result) (c .if4 .left))
 
 pub refusal-spec : {M : Type 1} → statement M
 refusal-spec =

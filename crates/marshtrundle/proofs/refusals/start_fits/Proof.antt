@@ -48,7 +48,7 @@ returns-2 c = rw (lt-ltb _ _ (c .before .before .before .if1 .left), ← c .befo
 -- src/refusals.rt:51:9
 returns-3 : tie.Need-returns-3
 unfolding startFits
-returns-3 c = rw (lt-ltb _ _ (c .before .before .before .before .before .if1 .left), ← c .before .before .before .before .kind-of .ensures, ← c .before .before .before .sort-of .ensures, c .before .enum-told .given .1, le-ltb _ _ (c .if2 .taken))
+returns-3 c = let a = c .before .before .before .before .before .before .before .before .args in rw (lt-ltb _ _ (c .before .before .before .before .before .if1 .left), ← c .before .before .before .before .kind-of .ensures, ← c .before .before .before .sort-of .ensures, c .before .enum-told .given .1, le-ltb (a .subject) (a .mark) (omega (arith, c .if2 .taken)))
 
 -- src/refusals.rt:53:5
 bindings-below-requires : tie.Need-bindings-below-requires
@@ -57,7 +57,7 @@ bindings-below-requires c κs = search needs
 -- src/refusals.rt:40:1
 returns-4 : tie.Need-returns-4
 unfolding startFits
-returns-4 c = rw (lt-ltb _ _ (c .before .before .before .before .before .before .if1 .left), ← c .before .before .before .before .before .kind-of .ensures, ← c .before .before .before .before .sort-of .ensures, c .before .before .enum-told .given .1, lt-ltb _ _ (c .before .if2 .left)) (c .bindings-below .ensures)
+returns-4 c = let a = c .before .before .before .before .before .before .before .before .before .args in rw (lt-ltb _ _ (c .before .before .before .before .before .before .if1 .left), ← c .before .before .before .before .before .kind-of .ensures, ← c .before .before .before .before .sort-of .ensures, c .before .before .enum-told .given .1, lt-ltb (a .subject) (a .mark) (omega (arith, c .before .if2 .left))) (c .bindings-below .ensures)
 
 pub start-fits-spec : {M : Type 1} → statement M
 start-fits-spec =
