@@ -135,6 +135,13 @@ pub record Gives (o : Ran) (st : List ℕ) (r : ℕ) (st′ w′ : List ℕ) : T
   pub is : out r st′ w′ ≡ o
   pub frame : Framed st st′
 
+-- entry e applied to the state g, and what follows its visit: r with the record and the store at return
+abbrev pub Applied : (t w st : List ℕ) (e g d r : ℕ) → (st′ w′ : List ℕ) → Type 0
+Applied t w st e g d r st′ w′ = Gives (visit t d (apply e (nodeIn g) (held st)) w (markOf st) (unitsIn g)) st r st′ w′
+
+abbrev pub Follows : (t w st : List ℕ) (e g d r : ℕ) → (st′ w′ : List ℕ) → Type 0
+Follows t w st e g d r st′ w′ = Gives (ruled t d e (nodeIn g) (held st) w (markOf st) (unitsIn g)) st r st′ w′
+
 -- a number of visits after which entry q fails on node k, or 0 where none is known
 pub record Skips (t w : List ℕ) (q k most n : ℕ) : Type 0 where
   pub few : n ≤ most

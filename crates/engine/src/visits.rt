@@ -28,10 +28,50 @@ ghost use Rattle.words.specs.Tests.{if_then_else_};
 ghost use lib.Dec.{eqb, ltb};
 ghost use lib.ListN.{length, getD, set};
 ghost use Rattle.checks.specs.Good.{kindOf};
-ghost use Rattle.meaning.specs.Rules.{apply as applied};
 ghost use Rattle.engine.specs.Answers.{nodeIn, unitsIn};
 ghost use Rattle.engine.specs.Record.{markOf, held};
-ghost use Rattle.engine.specs.Visits.{visit, plan, ruled, walked, landed, finished, Counted, Hinted, Leaps, Ready, Roomy, Last, Gives};
+ghost use Rattle.engine.specs.Visits.{plan, walked, Applied, Follows, landed, finished, Counted, Hinted, Leaps, Ready, Roomy, Last, Gives};
+
+// The kinds that have a rule here.
+const ID: u32 = 0;
+
+const TEST: u32 = 2;
+
+const NOT: u32 = 3;
+
+const SEQ: u32 = 4;
+
+const CHOICE: u32 = 5;
+
+const LEFT: u32 = 6;
+
+const REC: u32 = 7;
+
+const CALL: u32 = 8;
+
+const PATH: u32 = 9;
+
+const CONG: u32 = 10;
+
+const ALL: u32 = 11;
+
+const ONE: u32 = 12;
+
+const SOME: u32 = 13;
+
+const MATCH: u32 = 14;
+
+const BUILD: u32 = 15;
+
+const SCOPE: u32 = 16;
+
+const WHERE: u32 = 17;
+// Where the record has the mark and the mask of the bound variables; a node stands in the upper half of a word.
+const MARK: usize = 32;
+
+const MASK: usize = 33;
+
+const HALF: u64 = 1 << 32;
 
 // One visit: an entry applied as a strategy. Units first, then nesting; then it is counted. ALL, of which traversals are made,
 // is looked at here: a term without children is given back at once.
@@ -44,19 +84,19 @@ pub fn apply(
     deep: u32,
 ) -> u64
     requires { ⌜ Ready (now table) (now store) (now st) start given ⌝ }
-    ensures { λ r. ⌜ Gives (visit (now (table .entry)) deep (applied start (nodeIn given) (held (now (st .entry)))) (now (store .entry)) (markOf (now (st .entry))) (unitsIn given)) (now (st .entry)) r (now (st .exit)) (now (store .exit)) ⌝ }
+    ensures { λ r. ⌜ Applied (now (table .entry)) (now (store .entry)) (now (st .entry)) start given deep r (now (st .exit)) (now (store .exit)) ⌝ }
 {
-    if kind(table, start) != 11 {
+    if kind(table, start) != ALL {
         return turns(table, store, st, start, given, deep);
     }
-    let left = (given % 4294967296) as u32;
+    let left = (given % HALF) as u32;
     if left == 0 {
         return no_units();
     }
     if deep == 0 {
         return no_nesting(left);
     }
-    if count(store, (given / 4294967296) as u32) == 0 {
+    if count(store, (given / HALF) as u32) == 0 {
         return given - 1;
     }
     walk(table, store, st, start, given - 1, deep - 1)
@@ -72,13 +112,13 @@ fn turns(
     deep: u32,
 ) -> u64
     requires { ⌜ Ready (now table) (now store) (now st) start given ⌝ }
-    ensures { λ r. ⌜ Gives (visit (now (table .entry)) deep (applied start (nodeIn given) (held (now (st .entry)))) (now (store .entry)) (markOf (now (st .entry))) (unitsIn given)) (now (st .entry)) r (now (st .exit)) (now (store .exit)) ⌝ }
+    ensures { λ r. ⌜ Applied (now (table .entry)) (now (store .entry)) (now (st .entry)) start given deep r (now (st .exit)) (now (store .exit)) ⌝ }
 {
     let mut e = start;
     let mut s = given;
     let mut d = deep;
     loop {
-        let left = (s % 4294967296) as u32;
+        let left = (s % HALF) as u32;
         if left == 0 {
             return no_units();
         }
@@ -89,10 +129,10 @@ fn turns(
         s -= 1;
         let kind = kind(table, e);
         match kind {
-            7..=8 => {
+            REC..=CALL => {
                 e = entry(table, e, 2);
             }
-            4 => {
+            SEQ => {
                 let got = apply(table, store, st, entry(table, e, 2), s, d);
                 let Answer::Done(_, _) = told(got) else {
                     return got;
@@ -100,7 +140,7 @@ fn turns(
                 s = got;
                 e = entry(table, e, 3);
             }
-            5..=6 => {
+            CHOICE..=LEFT => {
                 // Where the first operand fails at its head, its visits are counted and not made.
                 let first = entry(table, e, 2);
                 let fails = skipped(table, store, e, s, d);
@@ -109,15 +149,15 @@ fn turns(
                     e = entry(table, e, 3);
                     continue;
                 }
-                let mark = st[32];
-                let mask = st[33];
+                let mark = st[MARK];
+                let mask = st[MASK];
                 let got = turns(table, store, st, first, s, d);
                 let Answer::Failed(u) = told(got) else {
                     return got;
                 };
-                st[32] = mark;
-                st[33] = mask;
-                s = done((s / 4294967296) as u32, u);
+                st[MARK] = mark;
+                st[MASK] = mask;
+                s = done((s / HALF) as u32, u);
                 e = entry(table, e, 3);
             }
             _ => {
@@ -130,29 +170,22 @@ fn turns(
 // The rule of a kind with no operand in a last position.
 fn rule(table: &[u32; 32768], store: &mut [u32], st: &mut [u32; 34], e: u32, s: u64, d: u32) -> u64
     requires { ⌜ Ready (now table) (now store) (now st) e s × Last (kindOf (now table) e) ⌝ }
-    ensures { λ r. ⌜ Gives (ruled (now (table .entry)) d e (nodeIn s) (held (now (st .entry))) (now (store .entry)) (markOf (now (st .entry))) (unitsIn s)) (now (st .entry)) r (now (st .exit)) (now (store .exit)) ⌝ }
+    ensures { λ r. ⌜ Follows (now (table .entry)) (now (store .entry)) (now (st .entry)) e s d r (now (st .exit)) (now (store .exit)) ⌝ }
 {
     let kind = kind(table, e);
     match kind {
-        0 => s,
-        2..=3 => guard(table, store, st, e, s, d),
-        9 => path(table, store, st, e, s, d),
-        10 => cong(table, store, st, e, s, d),
-        11 => walk(table, store, st, e, s, d),
-        12 => one(table, store, st, e, s, d),
-        13 => walk(table, store, st, e, s, d),
-        14 => matching(table, store, st, entry(table, e, 2), s, d),
-        15 => build(
-            table,
-            store,
-            st,
-            entry(table, e, 2),
-            (s % 4294967296) as u32,
-            d,
-        ),
-        16 => scope(table, store, st, e, s, d),
-        17 => aside(table, store, st, e, s, d),
-        _ => failure((s % 4294967296) as u32),
+        ID => s,
+        TEST..=NOT => guard(table, store, st, e, s, d),
+        PATH => path(table, store, st, e, s, d),
+        CONG => cong(table, store, st, e, s, d),
+        ALL => walk(table, store, st, e, s, d),
+        ONE => one(table, store, st, e, s, d),
+        SOME => walk(table, store, st, e, s, d),
+        MATCH => matching(table, store, st, entry(table, e, 2), s, d),
+        BUILD => build(table, store, st, entry(table, e, 2), (s % HALF) as u32, d),
+        SCOPE => scope(table, store, st, e, s, d),
+        WHERE => aside(table, store, st, e, s, d),
+        _ => failure((s % HALF) as u32),
     }
 }
 
@@ -166,26 +199,26 @@ fn guard(
     deep: u32,
 ) -> u64
     requires { ⌜ Ready (now table) (now store) (now st) e s × ((kindOf (now table) e ≡ 2) ⊎ (kindOf (now table) e ≡ 3)) ⌝ }
-    ensures { λ r. ⌜ Gives (ruled (now (table .entry)) deep e (nodeIn s) (held (now (st .entry))) (now (store .entry)) (markOf (now (st .entry))) (unitsIn s)) (now (st .entry)) r (now (st .exit)) (now (store .exit)) ⌝ }
+    ensures { λ r. ⌜ Follows (now (table .entry)) (now (store .entry)) (now (st .entry)) e s deep r (now (st .exit)) (now (store .exit)) ⌝ }
 {
-    let mark = st[32];
-    let mask = st[33];
+    let mark = st[MARK];
+    let mask = st[MASK];
     let got = apply(table, store, st, entry(table, e, 2), s, deep);
     let Heard::Ended(yes, _, u) = hear(got) else {
         return got;
     };
-    st[32] = mark;
-    st[33] = mask;
-    if kind(table, e) == 2 {
+    st[MARK] = mark;
+    st[MASK] = mask;
+    if kind(table, e) == TEST {
         if yes {
-            return done((s / 4294967296) as u32, u);
+            return done((s / HALF) as u32, u);
         }
         return failure(u);
     }
     if yes {
         return failure(u);
     }
-    done((s / 4294967296) as u32, u)
+    done((s / HALF) as u32, u)
 }
 
 // WHERE: the term as it was, the new bindings kept.
@@ -198,13 +231,13 @@ fn aside(
     deep: u32,
 ) -> u64
     requires { ⌜ Ready (now table) (now store) (now st) e s × (kindOf (now table) e ≡ 17) ⌝ }
-    ensures { λ r. ⌜ Gives (ruled (now (table .entry)) deep e (nodeIn s) (held (now (st .entry))) (now (store .entry)) (markOf (now (st .entry))) (unitsIn s)) (now (st .entry)) r (now (st .exit)) (now (store .exit)) ⌝ }
+    ensures { λ r. ⌜ Follows (now (table .entry)) (now (store .entry)) (now (st .entry)) e s deep r (now (st .exit)) (now (store .exit)) ⌝ }
 {
     let got = apply(table, store, st, entry(table, e, 2), s, deep);
     let Answer::Done(_, u) = told(got) else {
         return got;
     };
-    done((s / 4294967296) as u32, u)
+    done((s / HALF) as u32, u)
 }
 
 // PATH i: child i, counted from 1.
@@ -217,11 +250,11 @@ fn path(
     deep: u32,
 ) -> u64
     requires { ⌜ Ready (now table) (now store) (now st) e s × (kindOf (now table) e ≡ 9) ⌝ }
-    ensures { λ r. ⌜ Gives (ruled (now (table .entry)) deep e (nodeIn s) (held (now (st .entry))) (now (store .entry)) (markOf (now (st .entry))) (unitsIn s)) (now (st .entry)) r (now (st .exit)) (now (store .exit)) ⌝ }
+    ensures { λ r. ⌜ Follows (now (table .entry)) (now (store .entry)) (now (st .entry)) e s deep r (now (st .exit)) (now (store .exit)) ⌝ }
 {
     let i = entry(table, e, 1);
-    let t = (s / 4294967296) as u32;
-    let left = (s % 4294967296) as u32;
+    let t = (s / HALF) as u32;
+    let left = (s % HALF) as u32;
     if i == 0 {
         return failure(left);
     }
@@ -254,11 +287,11 @@ fn cong(
     deep: u32,
 ) -> u64
     requires { ⌜ Ready (now table) (now store) (now st) e s × (kindOf (now table) e ≡ 10) ⌝ }
-    ensures { λ r. ⌜ Gives (ruled (now (table .entry)) deep e (nodeIn s) (held (now (st .entry))) (now (store .entry)) (markOf (now (st .entry))) (unitsIn s)) (now (st .entry)) r (now (st .exit)) (now (store .exit)) ⌝ }
+    ensures { λ r. ⌜ Follows (now (table .entry)) (now (store .entry)) (now (st .entry)) e s deep r (now (st .exit)) (now (store .exit)) ⌝ }
 {
-    let t = (s / 4294967296) as u32;
+    let t = (s / HALF) as u32;
     if !agree(table, store, e, t) {
-        return failure((s % 4294967296) as u32);
+        return failure((s % HALF) as u32);
     }
     walk(table, store, st, e, s, deep)
 }
@@ -275,8 +308,8 @@ fn walk(
     requires { ⌜ Ready (now table) (now store) (now st) e s × Counted (now table) (now store) e (nodeIn s) ⌝ }
     ensures { λ r. ⌜ Gives (plan (now (table .entry)) deep (walked (now (table .entry)) (now (store .entry)) e (nodeIn s) (held (now (st .entry)))) (now (store .entry)) (markOf (now (st .entry))) (unitsIn s)) (now (st .entry)) r (now (st .exit)) (now (store .exit)) ⌝ }
 {
-    let t = (s / 4294967296) as u32;
-    let mut u = (s % 4294967296) as u32;
+    let t = (s / HALF) as u32;
+    let mut u = (s % HALF) as u32;
     let kind = kind(table, e);
     let n = count(store, t);
     let name = word(store, t, 0);
@@ -292,8 +325,8 @@ fn walk(
             return no_units();
         }
         let c = word(store, t, 2 + i);
-        let mark = saved(st, kind, 32);
-        let mask = saved(st, kind, 33);
+        let mark = saved(st, kind, MARK);
+        let mask = saved(st, kind, MASK);
         let got = apply(
             table,
             store,
@@ -310,11 +343,11 @@ fn walk(
             won = 1;
             y = x;
         } else {
-            if kind != 13 {
+            if kind != SOME {
                 return got;
             }
-            st[32] = mark;
-            st[33] = mask;
+            st[MARK] = mark;
+            st[MASK] = mask;
         }
         a = at(i, 0, y, a);
         b = at(i, 1, y, b);
@@ -345,8 +378,8 @@ fn leap(table: &[u32; 32768], e: u32, deep: u32) -> u32
     }
     let kind = kind(table, e);
     match kind {
-        11 => entry(table, e, 5),
-        13 => entry(table, e, 5),
+        ALL => entry(table, e, 5),
+        SOME => entry(table, e, 5),
         _ => 0,
     }
 }
@@ -367,7 +400,7 @@ fn operand(table: &[u32; 32768], e: u32, kind: u32, first: u32, i: u32) -> u32
     requires { ⌜ (e < 4096) × (i < 6) ⌝ }
     ensures { λ r. ⌜ r ≡ (if eqb kind 10 then wordAt (now (table .entry)) e (2 + i) else first) ⌝ }
 {
-    if kind == 10 {
+    if kind == CONG {
         return entry(table, e, 2 + i);
     }
     first
@@ -378,7 +411,7 @@ fn saved(st: &[u32; 34], kind: u32, j: usize) -> u32
     requires { ⌜ j < 34 ⌝ }
     ensures { λ r. ⌜ r ≡ (if eqb kind 13 then getD (now (st .entry)) j 0 else 0) ⌝ }
 {
-    if kind == 13 {
+    if kind == SOME {
         return st[j];
     }
     0
@@ -421,7 +454,7 @@ fn finish(
     requires { ⌜ Roomy (now store) (markOf (now st)) × (length (now st) ≡ 34) × (nodeIn s < 131072) ⌝ }
     ensures { λ r. ⌜ Gives (finished kind won n s made (now (st .entry)) (now (store .entry)) left) (now (st .entry)) r (now (st .exit)) (now (store .exit)) ⌝ }
 {
-    if kind == 13 {
+    if kind == SOME {
         if won == 0 {
             return failure(left);
         }
@@ -443,13 +476,13 @@ fn one(
     deep: u32,
 ) -> u64
     requires { ⌜ Ready (now table) (now store) (now st) e s × (kindOf (now table) e ≡ 12) ⌝ }
-    ensures { λ r. ⌜ Gives (ruled (now (table .entry)) deep e (nodeIn s) (held (now (st .entry))) (now (store .entry)) (markOf (now (st .entry))) (unitsIn s)) (now (st .entry)) r (now (st .exit)) (now (store .exit)) ⌝ }
+    ensures { λ r. ⌜ Follows (now (table .entry)) (now (store .entry)) (now (st .entry)) e s deep r (now (st .exit)) (now (store .exit)) ⌝ }
 {
-    let t = (s / 4294967296) as u32;
-    let mut u = (s % 4294967296) as u32;
+    let t = (s / HALF) as u32;
+    let mut u = (s % HALF) as u32;
     let n = count(store, t);
-    let mark = st[32];
-    let mask = st[33];
+    let mark = st[MARK];
+    let mask = st[MASK];
     let op = entry(table, e, 2);
     let mut i: u32 = 0;
     while i < n {
@@ -462,8 +495,8 @@ fn one(
             made[2 + (i as usize)] = x;
             return node(store, st, made, left);
         }
-        st[32] = mark;
-        st[33] = mask;
+        st[MARK] = mark;
+        st[MASK] = mask;
         u = left;
         i += 1;
     }
@@ -480,14 +513,14 @@ fn scope(
     deep: u32,
 ) -> u64
     requires { ⌜ Ready (now table) (now store) (now st) e s × (kindOf (now table) e ≡ 16) ⌝ }
-    ensures { λ r. ⌜ Gives (ruled (now (table .entry)) deep e (nodeIn s) (held (now (st .entry))) (now (store .entry)) (markOf (now (st .entry))) (unitsIn s)) (now (st .entry)) r (now (st .exit)) (now (store .exit)) ⌝ }
+    ensures { λ r. ⌜ Follows (now (table .entry)) (now (store .entry)) (now (st .entry)) e s deep r (now (st .exit)) (now (store .exit)) ⌝ }
 {
     let mask = entry(table, e, 1);
-    if st[33] & mask != 0 {
+    if st[MASK] & mask != 0 {
         return hiding(table, store, st, e, s, deep);
     }
     let got = apply(table, store, st, entry(table, e, 2), s, deep);
-    st[33] = hide(st[33], mask);
+    st[MASK] = hide(st[MASK], mask);
     got
 }
 
@@ -501,14 +534,14 @@ fn hiding(
     deep: u32,
 ) -> u64
     requires { ⌜ Ready (now table) (now store) (now st) e s × (kindOf (now table) e ≡ 16) ⌝ }
-    ensures { λ r. ⌜ Gives (ruled (now (table .entry)) deep e (nodeIn s) (held (now (st .entry))) (now (store .entry)) (markOf (now (st .entry))) (unitsIn s)) (now (st .entry)) r (now (st .exit)) (now (store .exit)) ⌝ }
+    ensures { λ r. ⌜ Follows (now (table .entry)) (now (store .entry)) (now (st .entry)) e s deep r (now (st .exit)) (now (store .exit)) ⌝ }
 {
     let mask = entry(table, e, 1);
-    let hidden = st[33] & mask;
+    let hidden = st[MASK] & mask;
     let outer = *st;
-    st[33] = hide(st[33], mask);
+    st[MASK] = hide(st[MASK], mask);
     let got = apply(table, store, st, entry(table, e, 2), s, deep);
     put_back(st, outer, hidden);
-    st[33] = hide(st[33], mask) | hidden;
+    st[MASK] = hide(st[MASK], mask) | hidden;
     got
 }

@@ -6,12 +6,6 @@ use Rattle.checks.specs.declared.Found.{Found}
 use Rattle.checks.proofs.answered.Statement.{statement}
 use Rattle.checks.proofs.answered.Tie as tie
 
-enum-known-bad : tie.Need-enum-known-bad
-enum-known-bad c = search needs
-
-enum-told : tie.Need-enum-told
-enum-told c = search needs
-
 returns : tie.Need-returns
 returns c =
     sym (ap (λ (f : Found). found (c .before .before .before .args .answer) (placeOf f)) (c .before .bad .given .1))
@@ -20,4 +14,4 @@ returns-2 : tie.Need-returns-2
 returns-2 c = sym (ap (λ (f : Found). found (c .before .before .args .answer) (placeOf f)) (c .enum-told .given .1))
 
 pub answered-spec : {M : Type 1} → statement M
-answered-spec = tie.close (tie.spec enum-known-bad enum-told returns returns-2)
+answered-spec = tie.close (tie.spec (λ c. search needs) (λ c. search needs) returns returns-2)

@@ -9,12 +9,6 @@ use Rattle.free.proofs.Smallest.{strategy-plain}
 use Rattle.free.proofs.free_variables.Statement.{statement}
 use Rattle.free.proofs.free_variables.Tie as tie
 
-check-table-requires : tie.Need-check-table-requires
-check-table-requires c κs = search needs
-
-refused-requires : tie.Need-refused-requires
-refused-requires c κs = search needs
-
 returns : tie.Need-returns
 unfolding asked
 returns c =
@@ -22,12 +16,6 @@ returns c =
     let bad = c .before .if1 .taken in
     rw (c .refused .ensures)
     record { outcome = rw (← k .ensures, ne-eqb _ _ bad); refused = λ n. refl; mask = λ z. absurd (bad z) }
-
-is-strategy-requires : tie.Need-is-strategy-requires
-is-strategy-requires c κs = search needs
-
-refused-requires-2 : tie.Need-refused-requires-2
-refused-requires-2 c κs = search needs
 
 returns-2 : tie.Need-returns-2
 unfolding asked
@@ -64,11 +52,5 @@ pub free-variables-spec : {M : Type 1} → statement M
 free-variables-spec =
     tie.close
     (tie.spec
-    check-table-requires
-    refused-requires
-    returns
-    is-strategy-requires
-    refused-requires-2
-    returns-2
-    mask-of-requires
-    returns-3)
+    (λ c κs. search needs) (λ c κs. search needs) returns (λ c κs. search needs) (λ c κs. search needs) returns-2
+    mask-of-requires returns-3)

@@ -11,15 +11,6 @@ returns : tie.Need-returns
 unfolding isStrategy
 returns c = rw (le-ltb (c .before .before .args .e) (rows (c .before .before .args .table .now)) (c .if1 .taken))
 
-kind-of-requires : tie.Need-kind-of-requires
-kind-of-requires c κs = search needs
-
-sort-of-requires : tie.Need-sort-of-requires
-sort-of-requires c κs = search needs
-
-same-requires : tie.Need-same-requires
-same-requires c κs = search needs
-
 returns-2 : tie.Need-returns-2
 unfolding isStrategy
 returns-2 c =
@@ -28,4 +19,4 @@ returns-2 c =
 
 pub is-strategy-spec : {M : Type 1} → statement M
 is-strategy-spec =
-    tie.close (tie.spec returns kind-of-requires sort-of-requires same-requires returns-2)
+    tie.close (tie.spec returns (λ c κs. search needs) (λ c κs. search needs) (λ c κs. search needs) returns-2)

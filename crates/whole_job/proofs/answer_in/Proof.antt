@@ -8,30 +8,6 @@ use Rattle.whole_job.proofs.Answering.{put-good, put-bad, read-bad, rea
 use Rattle.whole_job.proofs.answer_in.Statement.{statement}
 use Rattle.whole_job.proofs.answer_in.Tie as tie
 
-read-requires : tie.Need-read-requires
-read-requires c κs = search needs
-
-enum-known-o : tie.Need-enum-known-o
-enum-known-o c = search needs
-
-answer-requires : tie.Need-answer-requires
-answer-requires c κs = search needs
-
-enum-known-o-2 : tie.Need-enum-known-o-2
-enum-known-o-2 c = search needs
-
-cast-entries : tie.Need-cast-entries
-cast-entries c = search needs
-
-mul-entries : tie.Need-mul-entries
-mul-entries c = search needs
-
-cast-room : tie.Need-cast-room
-cast-room c = search needs
-
-mul-room : tie.Need-mul-room
-mul-room c = search needs
-
 slice-reshare-prefix-answer-run : tie.Need-slice-reshare-prefix-answer-run
 slice-reshare-prefix-answer-run c =
     let at-o2 = c .before .before .before in
@@ -67,18 +43,6 @@ answer-run-requires c κs =
     let start = at-read .before .before .before .before .before .before .before .before .before in
     let z = read-sized (start .args .text .now) (at-read .read .ensures) (at-o2 .o2 .given .1) in (start .pre .3, simp length-take (omega (arith, z .store)), z .bindings, z .nodes)
 
-same-length : tie.Need-same-length
-same-length c = search needs
-
-same-length-2 : tie.Need-same-length-2
-same-length-2 c = search needs
-
-same-length-3 : tie.Need-same-length-3
-same-length-3 c = search needs
-
-same-length-4 : tie.Need-same-length-4
-same-length-4 c = search needs
-
 returns : tie.Need-returns
 returns c =
     let at-answer = c .before .before in
@@ -86,18 +50,6 @@ returns c =
     let at-read = at-o .before .before .before .before .before .before .before .before in
     let start = at-read .before .before .before .before .before .before .before .before .before in
     put-bad (start .args .text .now) _ _ (read-bad (start .args .text .now) (at-read .read .ensures) (at-o .o .given .1)) (at-answer .answer .ensures)
-
-same-length-5 : tie.Need-same-length-5
-same-length-5 c = search needs
-
-same-length-6 : tie.Need-same-length-6
-same-length-6 c = search needs
-
-same-length-7 : tie.Need-same-length-7
-same-length-7 c = search needs
-
-same-length-8 : tie.Need-same-length-8
-same-length-8 c = search needs
 
 returns-2 : tie.Need-returns-2
 returns-2 c =
@@ -111,26 +63,8 @@ pub answer-in-spec : {M : Type 1} → statement M
 answer-in-spec =
     tie.close
     (tie.spec
-    read-requires
-    enum-known-o
-    answer-requires
-    enum-known-o-2
-    cast-entries
-    mul-entries
-    cast-room
-    mul-room
-    slice-reshare-prefix-answer-run
-    slice-aggregate-answer-run
-    slice-relend-prefix-answer-run
-    slice-aggregate-answer-run-2
-    answer-run-requires
-    same-length
-    same-length-2
-    same-length-3
-    same-length-4
-    returns
-    same-length-5
-    same-length-6
-    same-length-7
-    same-length-8
-    returns-2)
+    (λ c κs. search needs) (λ c. search needs) (λ c κs. search needs) (λ c. search needs) (λ c. search needs)
+    (λ c. search needs) (λ c. search needs) (λ c. search needs) slice-reshare-prefix-answer-run
+    slice-aggregate-answer-run slice-relend-prefix-answer-run slice-aggregate-answer-run-2 answer-run-requires
+    (λ c. search needs) (λ c. search needs) (λ c. search needs) (λ c. search needs) returns (λ c. search needs)
+    (λ c. search needs) (λ c. search needs) (λ c. search needs) returns-2)

@@ -5,20 +5,8 @@ use Rattle.whole_job.proofs.Answering.{mark-fits, put-run}
 use Rattle.whole_job.proofs.answer_run.Statement.{statement}
 use Rattle.whole_job.proofs.answer_run.Tie as tie
 
-run-requires : tie.Need-run-requires
-run-requires c κs = search needs
-
 answer-requires : tie.Need-answer-requires
 answer-requires c κs = (search needs, mark-fits _ 1024 (c .before .before .before .before .before .before .before .run .ensures) (omega arith) (omega arith), search needs)
-
-same-length : tie.Need-same-length
-same-length c = search needs
-
-same-length-2 : tie.Need-same-length-2
-same-length-2 c = search needs
-
-same-length-3 : tie.Need-same-length-3
-same-length-3 c = search needs
 
 returns : tie.Need-returns
 returns c = put-run _ (c .before .before .before .before .before .before .before .before .before .before .run .ensures) (c .before .before .answer .ensures)
@@ -26,4 +14,4 @@ returns c = put-run _ (c .before .before .before .before .before .before .before
 pub answer-run-spec : {M : Type 1} → statement M
 answer-run-spec =
     tie.close
-    (tie.spec run-requires answer-requires same-length same-length-2 same-length-3 returns)
+    (tie.spec (λ c κs. search needs) answer-requires (λ c. search needs) (λ c. search needs) (λ c. search needs) returns)

@@ -37,9 +37,6 @@ loop-again c = (
   clearedFrom-set (c .before .loop .words) (c .before .loop .i) (search needs) ∙ c .before .loop .inv .1,
 )
 
-same-length : tie.Need-same-length Inv-loop μ-loop
-same-length c = search needs
-
 returns : tie.Need-returns Inv-loop μ-loop
 returns c = sym (clearedFrom-end (c .before .loop .words) (c .before .loop .i) (search needs)) ∙ c .before .loop .inv .1
 
@@ -47,13 +44,4 @@ pub clear-from-spec : {M : Type 1} → statement M
 clear-from-spec =
     tie.close
     (tie.spec
-    Inv-loop
-    μ-loop
-    loop-holds
-    mul-words
-    slice-write-words
-    add-i
-    loop-less
-    loop-again
-    same-length
-    returns)
+    Inv-loop μ-loop loop-holds mul-words slice-write-words add-i loop-less loop-again (λ c. search needs) returns)

@@ -54,9 +54,6 @@ loop-again c = (
       (paste-suc (c .before .before .args .words .now) (8 * c .before .before .args .k) (c .before .before .args .t3) (c .before .loop .j) 0 (search needs) (search needs)),
 )
 
-same-length : tie.Need-same-length Inv-loop μ-loop
-same-length c = search needs
-
 returns : tie.Need-returns Inv-loop μ-loop
 returns c =
     let e : c .before .loop .j ≡ 8 = omega arith in
@@ -67,17 +64,5 @@ pub put-row-spec : {M : Type 1} → statement M
 put-row-spec =
     tie.close
     (tie.spec
-    Inv-loop
-    μ-loop
-    mul-i
-    loop-holds
-    mul-words
-    array-read-words
-    add-words
-    mul-words-2
-    slice-write-words
-    add-j
-    loop-less
-    loop-again
-    same-length
-    returns)
+    Inv-loop μ-loop mul-i loop-holds mul-words array-read-words add-words mul-words-2 slice-write-words add-j loop-less
+    loop-again (λ c. search needs) returns)

@@ -5,15 +5,6 @@ use Rattle.checks.specs.Good.{argumentFits}
 use Rattle.checks.proofs.entries.argument_fits.Statement.{statement}
 use Rattle.checks.proofs.entries.argument_fits.Tie as tie
 
-kind-of-requires : tie.Need-kind-of-requires
-kind-of-requires c κs = search needs
-
-word-requires : tie.Need-word-requires
-word-requires c κs = search needs
-
-lowest-argument-requires : tie.Need-lowest-argument-requires
-lowest-argument-requires c κs = search needs
-
 returns : tie.Need-returns
 unfolding argumentFits
 returns c =
@@ -23,9 +14,6 @@ returns c =
       ← c .before .lowest-argument .ensures,
       lt-leb _ _ (c .if1 .taken),
     )
-
-highest-argument-requires : tie.Need-highest-argument-requires
-highest-argument-requires c κs = search needs
 
 returns-2 : tie.Need-returns-2
 unfolding argumentFits
@@ -42,9 +30,4 @@ pub argument-fits-spec : {M : Type 1} → statement M
 argument-fits-spec =
     tie.close
     (tie.spec
-    kind-of-requires
-    word-requires
-    lowest-argument-requires
-    returns
-    highest-argument-requires
-    returns-2)
+    (λ c κs. search needs) (λ c κs. search needs) (λ c κs. search needs) returns (λ c κs. search needs) returns-2)

@@ -8,9 +8,6 @@ use Rattle.checks.proofs.Good.{tableLengthFits-plain}
 use Rattle.checks.proofs.entries.check_table.Statement.{statement}
 use Rattle.checks.proofs.entries.check_table.Tie as tie
 
-table-length-fits-requires : tie.Need-table-length-fits-requires
-table-length-fits-requires c κs = search needs
-
 returns : tie.Need-returns
 unfolding tableChecked
 returns c =
@@ -21,9 +18,6 @@ lowest-bad-entry-requires c κs =
     tableLengthFits-plain
     (length (c .before .before .before .args .table .now)) .0
     (sym (c .before .table-length-fits .ensures) ∙ not-false _ (c .if1 .left)) .most
-
-answered-requires : tie.Need-answered-requires
-answered-requires c κs = search needs
 
 returns-2 : tie.Need-returns-2
 unfolding tableChecked
@@ -39,8 +33,4 @@ pub check-table-spec : {M : Type 1} → statement M
 check-table-spec =
     tie.close
     (tie.spec
-    table-length-fits-requires
-    returns
-    lowest-bad-entry-requires
-    answered-requires
-    returns-2)
+    (λ c κs. search needs) returns lowest-bad-entry-requires (λ c κs. search needs) returns-2)

@@ -5,18 +5,9 @@ use Rattle.checks.specs.Good.{countFits}
 use Rattle.checks.proofs.entries.count_fits.Statement.{statement}
 use Rattle.checks.proofs.entries.count_fits.Tie as tie
 
-kind-of-requires : tie.Need-kind-of-requires
-kind-of-requires c κs = search needs
-
 returns : tie.Need-returns
 unfolding countFits
 returns c = rw (← c .before .kind-of .ensures, lt-leb _ _ (c .if1 .taken))
-
-operand-count-requires : tie.Need-operand-count-requires
-operand-count-requires c κs = search needs
-
-least-requires : tie.Need-least-requires
-least-requires c κs = search needs
 
 returns-2 : tie.Need-returns-2
 unfolding countFits
@@ -28,9 +19,6 @@ returns-2 c =
       le-leb _ _ (c .before .before .before .if1 .left),
       lt-leb _ _ (c .if2 .taken),
     )
-
-most-requires : tie.Need-most-requires
-most-requires c κs = search needs
 
 returns-3 : tie.Need-returns-3
 unfolding countFits
@@ -48,10 +36,5 @@ pub count-fits-spec : {M : Type 1} → statement M
 count-fits-spec =
     tie.close
     (tie.spec
-    kind-of-requires
-    returns
-    operand-count-requires
-    least-requires
-    returns-2
-    most-requires
+    (λ c κs. search needs) returns (λ c κs. search needs) (λ c κs. search needs) returns-2 (λ c κs. search needs)
     returns-3)

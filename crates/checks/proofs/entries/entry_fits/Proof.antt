@@ -10,9 +10,6 @@ use Rattle.checks.proofs.Good.{counted, at-most-six, goodEntry-operands
 use Rattle.checks.proofs.entries.entry_fits.Statement.{statement}
 use Rattle.checks.proofs.entries.entry_fits.Tie as tie
 
-count-fits-requires : tie.Need-count-fits-requires
-count-fits-requires c κs = search needs
-
 returns : tie.Need-returns
 unfolding goodEntry
 returns c = rw (sym (c .before .count-fits .ensures) ∙ not-true _ (c .if1 .taken))
@@ -46,9 +43,6 @@ returns-3 c =
       not-true (c .before .operands-fit .result) (c .if3 .taken),
     )
 
-operand-count-requires : tie.Need-operand-count-requires
-operand-count-requires c κs = search needs
-
 unused-zero-requires : tie.Need-unused-zero-requires
 unused-zero-requires c κs =
     omega (arith, c .operand-count .ensures, at-most-six _ _ (count (c .before .before .before .before .before)))
@@ -68,12 +62,5 @@ pub entry-fits-spec : {M : Type 1} → statement M
 entry-fits-spec =
     tie.close
     (tie.spec
-    count-fits-requires
-    returns
-    argument-fits-requires
-    returns-2
-    operands-fit-requires
-    returns-3
-    operand-count-requires
-    unused-zero-requires
-    returns-4)
+    (λ c κs. search needs) returns argument-fits-requires returns-2 operands-fit-requires returns-3
+    (λ c κs. search needs) unused-zero-requires returns-4)

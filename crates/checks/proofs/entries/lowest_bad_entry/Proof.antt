@@ -23,9 +23,6 @@ loop-holds c = (omega arith, rw sub-zero)
 cast-loop : tie.Need-cast-loop Inv-loop μ-loop
 cast-loop c = omega arith
 
-entry-fits-requires : tie.Need-entry-fits-requires Inv-loop μ-loop
-entry-fits-requires c κs = search needs
-
 returns : tie.Need-returns Inv-loop μ-loop
 returns c =
     rejected-stop _ _ _ _
@@ -55,13 +52,4 @@ pub lowest-bad-entry-spec : {M : Type 1} → statement M
 lowest-bad-entry-spec =
     tie.close
     (tie.spec
-    Inv-loop
-    μ-loop
-    loop-holds
-    cast-loop
-    entry-fits-requires
-    returns
-    add-e
-    loop-less
-    loop-again
-    returns-2)
+    Inv-loop μ-loop loop-holds cast-loop (λ c κs. search needs) returns add-e loop-less loop-again returns-2)

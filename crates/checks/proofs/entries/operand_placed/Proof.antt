@@ -5,18 +5,9 @@ use Rattle.checks.specs.Good.{operandPlaced}
 use Rattle.checks.proofs.entries.operand_placed.Statement.{statement}
 use Rattle.checks.proofs.entries.operand_placed.Tie as tie
 
-held-requires : tie.Need-held-requires
-held-requires c κs = search needs
-
-cast-if1 : tie.Need-cast-if1
-cast-if1 c = search needs
-
 returns : tie.Need-returns
 unfolding operandPlaced
 returns c = rw (← c .before .held .ensures, le-ltb _ _ (c .if1 .taken))
-
-kind-of-requires : tie.Need-kind-of-requires
-kind-of-requires c κs = search needs
 
 returns-2 : tie.Need-returns-2
 unfolding operandPlaced
@@ -40,4 +31,4 @@ returns-3 c =
 
 pub operand-placed-spec : {M : Type 1} → statement M
 operand-placed-spec =
-    tie.close (tie.spec held-requires cast-if1 returns kind-of-requires returns-2 returns-3)
+    tie.close (tie.spec (λ c κs. search needs) (λ c. search needs) returns (λ c κs. search needs) returns-2 returns-3)

@@ -5,15 +5,6 @@ use Rattle.checks.specs.Good.{operandSorted}
 use Rattle.checks.proofs.entries.operand_sorted.Statement.{statement}
 use Rattle.checks.proofs.entries.operand_sorted.Tie as tie
 
-kind-of-requires : tie.Need-kind-of-requires
-kind-of-requires c κs = search needs
-
-held-requires : tie.Need-held-requires
-held-requires c κs = search needs
-
-kind-of-requires-2 : tie.Need-kind-of-requires-2
-kind-of-requires-2 c κs = search needs
-
 returns : tie.Need-returns
 unfolding operandSorted
 returns c =
@@ -23,15 +14,6 @@ returns c =
       ← c .before .before .held .ensures,
       ← c .before .kind-of2 .ensures,
     )
-
-sort-of-requires : tie.Need-sort-of-requires
-sort-of-requires c κs = search needs
-
-takes-requires : tie.Need-takes-requires
-takes-requires c κs = search needs
-
-same-requires : tie.Need-same-requires
-same-requires c κs = search needs
 
 returns-2 : tie.Need-returns-2
 unfolding operandSorted
@@ -56,11 +38,5 @@ pub operand-sorted-spec : {M : Type 1} → statement M
 operand-sorted-spec =
     tie.close
     (tie.spec
-    kind-of-requires
-    held-requires
-    kind-of-requires-2
-    returns
-    sort-of-requires
-    takes-requires
-    same-requires
-    returns-2)
+    (λ c κs. search needs) (λ c κs. search needs) (λ c κs. search needs) returns (λ c κs. search needs)
+    (λ c κs. search needs) (λ c κs. search needs) returns-2)

@@ -22,9 +22,6 @@ Inv-loop table e n i₀ i =
 abbrev μ-loop : tie.MeasureT-loop
 μ-loop table e n i₀ i = n - i
 
-operand-count-requires : tie.Need-operand-count-requires Inv-loop μ-loop
-operand-count-requires c κs = search needs
-
 loop-holds : tie.Need-loop-holds Inv-loop μ-loop
 loop-holds c = (omega arith, rw (sub-zero, c .operand-count .ensures) (every-and _ _ 0 _))
 
@@ -37,9 +34,6 @@ returns c =
     (c .before .before .before .loop .inv .1)
     (c .before .before .loop-test .taken)
     (rw (← c .before .operand-placed .ensures, not-true (c .before .operand-placed .result) (c .if1 .taken)))
-
-operand-sorted-requires : tie.Need-operand-sorted-requires Inv-loop μ-loop
-operand-sorted-requires c κs = search needs
 
 returns-2 : tie.Need-returns-2 Inv-loop μ-loop
 returns-2 c =
@@ -90,15 +84,5 @@ pub operands-fit-spec : {M : Type 1} → statement M
 operands-fit-spec =
     tie.close
     (tie.spec
-    Inv-loop
-    μ-loop
-    operand-count-requires
-    loop-holds
-    operand-placed-requires
-    returns
-    operand-sorted-requires
-    returns-2
-    add-i
-    loop-less
-    loop-again
-    returns-3)
+    Inv-loop μ-loop (λ c κs. search needs) loop-holds operand-placed-requires returns (λ c κs. search needs) returns-2
+    add-i loop-less loop-again returns-3)

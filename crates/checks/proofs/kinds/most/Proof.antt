@@ -4,14 +4,8 @@ use Rattle.checks.proofs.Tables.{at-kind}
 use Rattle.checks.proofs.kinds.most.Statement.{statement}
 use Rattle.checks.proofs.kinds.most.Tie as tie
 
-mul-result : tie.Need-mul-result
-mul-result c = search needs
-
-array-read-result : tie.Need-array-read-result
-array-read-result c = search needs
-
 returns : tie.Need-returns
 returns c = at-kind (c .args .k) (c .pre) .most
 
 pub most-spec : {M : Type 1} → statement M
-most-spec = tie.close (tie.spec mul-result array-read-result returns)
+most-spec = tie.close (tie.spec (λ c. search needs) (λ c. search needs) returns)

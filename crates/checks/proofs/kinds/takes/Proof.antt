@@ -4,11 +4,8 @@ use Rattle.checks.proofs.Tables.{at-kind}
 use Rattle.checks.proofs.kinds.takes.Statement.{statement}
 use Rattle.checks.proofs.kinds.takes.Tie as tie
 
-array-copy-out-result : tie.Need-array-copy-out-result
-array-copy-out-result c = search needs
-
 returns : tie.Need-returns
 returns c = at-kind (c .before .args .k) (c .before .pre) .sort
 
 pub takes-spec : {M : Type 1} → statement M
-takes-spec = tie.close (tie.spec array-copy-out-result returns)
+takes-spec = tie.close (tie.spec (λ c. search needs) returns)

@@ -6,9 +6,6 @@ use Rattle.checks.specs.Checked.{storeChecked}
 use Rattle.checks.proofs.nodes.check_store.Statement.{statement}
 use Rattle.checks.proofs.nodes.check_store.Tie as tie
 
-store-length-fits-requires : tie.Need-store-length-fits-requires
-store-length-fits-requires c κs = search needs
-
 returns : tie.Need-returns
 unfolding storeChecked
 returns c =
@@ -22,12 +19,6 @@ returns-2 c =
       not-false (c .before .before .store-length-fits .result) (c .before .if1 .left),
       lt-leb _ _ (c .if2 .taken),
     )
-
-lowest-bad-node-requires : tie.Need-lowest-bad-node-requires
-lowest-bad-node-requires c κs = search needs
-
-answered-requires : tie.Need-answered-requires
-answered-requires c κs = search needs
 
 returns-3 : tie.Need-returns-3
 unfolding storeChecked
@@ -44,9 +35,4 @@ pub check-store-spec : {M : Type 1} → statement M
 check-store-spec =
     tie.close
     (tie.spec
-    store-length-fits-requires
-    returns
-    returns-2
-    lowest-bad-node-requires
-    answered-requires
-    returns-3)
+    (λ c κs. search needs) returns returns-2 (λ c κs. search needs) (λ c κs. search needs) returns-3)

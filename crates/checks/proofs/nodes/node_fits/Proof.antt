@@ -5,15 +5,9 @@ use Rattle.checks.specs.Good.{goodNode}
 use Rattle.checks.proofs.nodes.node_fits.Statement.{statement}
 use Rattle.checks.proofs.nodes.node_fits.Tie as tie
 
-word-requires : tie.Need-word-requires
-word-requires c κs = search needs
-
 returns : tie.Need-returns
 unfolding goodNode
 returns c = rw (← c .before .word .ensures, lt-leb _ _ (c .if1 .taken))
-
-word-requires-2 : tie.Need-word-requires-2
-word-requires-2 c κs = search needs
 
 returns-2 : tie.Need-returns-2
 unfolding goodNode
@@ -24,9 +18,6 @@ returns-2 c =
       ← c .before .word2 .ensures,
       lt-leb _ _ (c .if2 .taken),
     )
-
-children-below-requires : tie.Need-children-below-requires
-children-below-requires c κs = search needs
 
 returns-3 : tie.Need-returns-3
 unfolding goodNode
@@ -39,9 +30,6 @@ returns-3 c =
       ← c .before .children-below .ensures,
       not-true (c .before .children-below .result) (c .if3 .taken),
     )
-
-unused-zero-requires : tie.Need-unused-zero-requires
-unused-zero-requires c κs = search needs
 
 returns-4 : tie.Need-returns-4
 unfolding goodNode
@@ -66,11 +54,5 @@ pub node-fits-spec : {M : Type 1} → statement M
 node-fits-spec =
     tie.close
     (tie.spec
-    word-requires
-    returns
-    word-requires-2
-    returns-2
-    children-below-requires
-    returns-3
-    unused-zero-requires
-    returns-4)
+    (λ c κs. search needs) returns (λ c κs. search needs) returns-2 (λ c κs. search needs) returns-3
+    (λ c κs. search needs) returns-4)

@@ -4,18 +4,6 @@ use Rattle.engine.specs.Answers.{heardOf}
 use Rattle.engine.proofs.answers.hear.Statement.{statement}
 use Rattle.engine.proofs.answers.hear.Tie as tie
 
-told-requires : tie.Need-told-requires
-told-requires c κs = search needs
-
-enum-known-a : tie.Need-enum-known-a
-enum-known-a c = search needs
-
-enum-known-a-2 : tie.Need-enum-known-a-2
-enum-known-a-2 c = search needs
-
-enum-known-a-3 : tie.Need-enum-known-a-3
-enum-known-a-3 c = search needs
-
 returns : tie.Need-returns
 unfolding heardOf
 returns c = rw (← (c .before .before .before .told .ensures), c .before .a .given .1)
@@ -31,4 +19,4 @@ returns-3 c = rw (← (c .before .before .before .told .ensures), c .before .a3 
 pub hear-spec : {M : Type 1} → statement M
 hear-spec =
     tie.close
-    (tie.spec told-requires enum-known-a enum-known-a-2 enum-known-a-3 returns returns-2 returns-3)
+    (tie.spec (λ c κs. search needs) (λ c. search needs) (λ c. search needs) (λ c. search needs) returns returns-2 returns-3)

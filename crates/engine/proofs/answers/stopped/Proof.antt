@@ -6,17 +6,11 @@ use Rattle.engine.proofs.answers.stopped.Tie as tie
 use Rattle.engine.proofs.answers.stopped.Reads as reads
 use Rattle.engine.proofs.answers.stopped.Lts as lts
 
-no-units-requires : tie.Need-no-units-requires
-no-units-requires c κs = search needs
-
 returns : tie.Need-returns
 returns c = c .no-units .ensures ∙ sym (stopped-units _ (c .before .if1 .taken))
-
-no-nesting-requires : tie.Need-no-nesting-requires
-no-nesting-requires c κs = search needs
 
 returns-2 : tie.Need-returns-2
 returns-2 c = c .no-nesting .ensures ∙ sym (stopped-nesting _ (c .before .if1 .left))
 
 pub stopped-spec : {M : Type 1} → statement M
-stopped-spec = tie.close (tie.spec no-units-requires returns no-nesting-requires returns-2)
+stopped-spec = tie.close (tie.spec (λ c κs. search needs) returns (λ c κs. search needs) returns-2)

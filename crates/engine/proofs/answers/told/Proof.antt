@@ -8,12 +8,6 @@ use Rattle.engine.specs.Answers.{nodeIn, toldOf}
 use Rattle.engine.proofs.answers.told.Statement.{statement}
 use Rattle.engine.proofs.answers.told.Tie as tie
 
-cast-left : tie.Need-cast-left
-cast-left c = search needs
-
-cast-t6 : tie.Need-cast-t6
-cast-t6 c = search needs
-
 returns : tie.Need-returns
 unfolding toldOf
 returns c =
@@ -30,4 +24,4 @@ unfolding toldOf
 returns-3 c = rw (ne-eqb _ _ (c .if2 .left), le-ltb _ _ (c .before .if1 .left))
 
 pub told-spec : {M : Type 1} → statement M
-told-spec = tie.close (tie.spec cast-left cast-t6 returns returns-2 returns-3)
+told-spec = tie.close (tie.spec (λ c. search needs) (λ c. search needs) returns returns-2 returns-3)

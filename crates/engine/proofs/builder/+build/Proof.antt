@@ -64,44 +64,20 @@ small t c = omega (arith, c .before .before .before .before .before .before .pre
 below : (t : ℕ) (c : build-lts.In-loop (build-calls t) (build-at t) build.Post build-Inv-loop build-μ-loop) → c .before .loop .i < operandCount (c .before .before .before .before .before .before .before .before .before .args .table .now) (c .before .before .before .before .before .before .before .before .before .args .p)
 below t c = omega arith
 
-build-no-units-requires : (t : ℕ) → build-lts.Need-no-units-requires (build-calls t) (build-at t) build.Post build-Inv-loop build-μ-loop
-build-no-units-requires t c κs = search needs
-
 build-returns : (t : ℕ) → build-lts.Need-returns (build-calls t) (build-at t) build.Post build-Inv-loop build-μ-loop
 build-returns t c = λ k. record { is = units-out _ _ _ _ _ _ _ _ (c .no-units .ensures) (c .before .if1 .taken); frame = framed-refl _ }
-
-build-no-nesting-requires : (t : ℕ) → build-lts.Need-no-nesting-requires (build-calls t) (build-at t) build.Post build-Inv-loop build-μ-loop
-build-no-nesting-requires t c κs = search needs
 
 build-returns-2 : (t : ℕ) → build-lts.Need-returns-2 (build-calls t) (build-at t) build.Post build-Inv-loop build-μ-loop
 build-returns-2 t c = λ k. record { is = nesting-out _ _ _ _ _ _ _ _ (c .no-nesting .ensures) (omega arith) (c .before .before .if1 .left) (c .before .if2 .taken); frame = framed-refl _ }
 
-build-sub-u : (t : ℕ) → build-lts.Need-sub-u (build-calls t) (build-at t) build.Post build-Inv-loop build-μ-loop
-build-sub-u t c = search needs
-
-build-kind-requires : (t : ℕ) → build-lts.Need-kind-requires (build-calls t) (build-at t) build.Post build-Inv-loop build-μ-loop
-build-kind-requires t c κs = search needs
-
-build-entry-requires : (t : ℕ) → build-lts.Need-entry-requires (build-calls t) (build-at t) build.Post build-Inv-loop build-μ-loop
-build-entry-requires t c κs = search needs
-
-build-element-copy-out-bit : (t : ℕ) → build-lts.Need-element-copy-out-bit (build-calls t) (build-at t) build.Post build-Inv-loop build-μ-loop
-build-element-copy-out-bit t c = search needs
-
 build-bit-requires : (t : ℕ) → build-lts.Need-bit-requires (build-calls t) (build-at t) build.Post build-Inv-loop build-μ-loop
 build-bit-requires t c κs = let v = small t (c .before) in omega arith
-
-build-cast-done : (t : ℕ) → build-lts.Need-cast-done (build-calls t) (build-at t) build.Post build-Inv-loop build-μ-loop
-build-cast-done t c = search needs
 
 build-mul-done : (t : ℕ) → build-lts.Need-mul-done (build-calls t) (build-at t) build.Post build-Inv-loop build-μ-loop
 build-mul-done t c = let v = small t (c .before .before .before) in omega arith
 
 build-element-copy-out-done : (t : ℕ) → build-lts.Need-element-copy-out-done (build-calls t) (build-at t) build.Post build-Inv-loop build-μ-loop
 build-element-copy-out-done t c = let v = small t (c .before .before .before) in omega arith
-
-build-done-requires : (t : ℕ) → build-lts.Need-done-requires (build-calls t) (build-at t) build.Post build-Inv-loop build-μ-loop
-build-done-requires t c κs = search needs
 
 build-returns-3 : (t : ℕ) → build-lts.Need-returns-3 (build-calls t) (build-at t) build.Post build-Inv-loop build-μ-loop
 build-returns-3 t c =
@@ -114,9 +90,6 @@ build-returns-3 t c =
     let start = at-if1 .before .before in
     λ k. variable-built _ _ _ _ _ _ (at-if1 .if1 .left) (at-if2 .if2 .left) _ (is-variable t (at-before .before)) (at-entry .entry .ensures) k _ (omega arith) (start .pre .1 .3) (small t (at-before .before)) (sym (at-bit .bit .ensures) ∙ at-if4 .if4 .taken) (c .done .ensures)
 
-build-failure-requires : (t : ℕ) → build-lts.Need-failure-requires (build-calls t) (build-at t) build.Post build-Inv-loop build-μ-loop
-build-failure-requires t c κs = search needs
-
 build-returns-4 : (t : ℕ) → build-lts.Need-returns-4 (build-calls t) (build-at t) build.Post build-Inv-loop build-μ-loop
 build-returns-4 t c =
     let at-if4 = c .before in
@@ -126,12 +99,6 @@ build-returns-4 t c =
     let at-if2 = at-entry .before .before .before in
     let at-if1 = at-if2 .before in
     λ k. variable-fails _ _ _ _ _ _ (at-if1 .if1 .left) (at-if2 .if2 .left) _ (is-variable t (at-before .before)) (at-entry .entry .ensures) k _ (omega arith) (λ e. at-if4 .if4 .left (at-bit .bit .ensures ∙ e)) (c .failure .ensures)
-
-build-operands-requires : (t : ℕ) → build-lts.Need-operands-requires (build-calls t) (build-at t) build.Post build-Inv-loop build-μ-loop
-build-operands-requires t c κs = search needs
-
-build-entry-requires-2 : (t : ℕ) → build-lts.Need-entry-requires-2 (build-calls t) (build-at t) build.Post build-Inv-loop build-μ-loop
-build-entry-requires-2 t c κs = search needs
 
 build-loop-holds : (t : ℕ) → build-lts.Need-loop-holds (build-calls t) (build-at t) build.Post build-Inv-loop build-μ-loop
 build-loop-holds t c =
@@ -157,9 +124,6 @@ build-add-entry t c = omega (arith, c .before .before .before .before .before .b
 build-entry-requires-3 : (t : ℕ) → build-lts.Need-entry-requires-3 (build-calls t) (build-at t) build.Post build-Inv-loop build-μ-loop
 build-entry-requires-3 t c κs = omega (arith, c .before .before .before .before .before .before .before .before .before .before .before .pre .1 .0 .few _ (c .before .before .before .before .before .before .before .before .before .before .before .pre .1 .1))
 
-build-sub-build : (t : ℕ) → build-lts.Need-sub-build (build-calls t) (build-at t) build.Post build-Inv-loop build-μ-loop
-build-sub-build t c = search needs
-
 build-build-requires : (t : ℕ) → build-lts.Need-build-requires (build-calls t) (build-at t) build.Post build-Inv-loop build-μ-loop
 build-build-requires t c κs =
     let at-before = c .before .before in
@@ -168,15 +132,6 @@ build-build-requires t c κs =
     let i = at-loop .loop .inv in
     let q = operand-pattern _ (start .pre .1 .0) _ _ _ (start .pre .1 .1) (i .2) (below t (at-before .before)) (c .entry3 .ensures) in
     (omega arith, (start .pre .1 .0, q .0, q .1, i .6 .steady, i .6 .frame .long ∙ start .pre .1 .4))
-
-build-told-requires : (t : ℕ) → build-lts.Need-told-requires (build-calls t) (build-at t) build.Post build-Inv-loop build-μ-loop
-build-told-requires t c κs = search needs
-
-build-enum-known-x : (t : ℕ) → build-lts.Need-enum-known-x (build-calls t) (build-at t) build.Post build-Inv-loop build-μ-loop
-build-enum-known-x t c = search needs
-
-build-same-length : (t : ℕ) → build-lts.Need-same-length (build-calls t) (build-at t) build.Post build-Inv-loop build-μ-loop
-build-same-length t c = search needs
 
 build-returns-5 : (t : ℕ) → build-lts.Need-returns-5 (build-calls t) (build-at t) build.Post build-Inv-loop build-μ-loop
 build-returns-5 t c =
@@ -188,25 +143,10 @@ build-returns-5 t c =
     let start = at-loop .before .before .before .before .before .before .before .before in
     build-stops _ _ _ _ _ _ _ _ _ _ (at-loop .loop .inv .6) (start .pre .1 .0 .few _ (start .pre .1 .1)) (below t (at-before .before)) _ _ (at-entry3 .entry3 .ensures) _ _ (at-build .build .ensures) _ (at-told .told .ensures) (c .match .keys2)
 
-build-cast-made : (t : ℕ) → build-lts.Need-cast-made (build-calls t) (build-at t) build.Post build-Inv-loop build-μ-loop
-build-cast-made t c = search needs
-
-build-add-made : (t : ℕ) → build-lts.Need-add-made (build-calls t) (build-at t) build.Post build-Inv-loop build-μ-loop
-build-add-made t c = search needs
-
-build-mul-made : (t : ℕ) → build-lts.Need-mul-made (build-calls t) (build-at t) build.Post build-Inv-loop build-μ-loop
-build-mul-made t c = search needs
-
 build-array-write-made : (t : ℕ) → build-lts.Need-array-write-made (build-calls t) (build-at t) build.Post build-Inv-loop build-μ-loop
 build-array-write-made t c =
     let start = c .before .before .before .before .before .before .before .before .before .before .before .before .before .before .before .before .before .before .before in
     omega (arith, start .pre .1 .0 .few _ (start .pre .1 .1))
-
-build-add-i : (t : ℕ) → build-lts.Need-add-i (build-calls t) (build-at t) build.Post build-Inv-loop build-μ-loop
-build-add-i t c = search needs
-
-build-loop-less : (t : ℕ) → build-lts.Need-loop-less (build-calls t) (build-at t) build.Post build-Inv-loop build-μ-loop
-build-loop-less t c = search needs
 
 build-loop-again : (t : ℕ) → build-lts.Need-loop-again (build-calls t) (build-at t) build.Post build-Inv-loop build-μ-loop
 build-loop-again t c =
@@ -230,9 +170,6 @@ build-loop-again t c =
 build-node-requires : (t : ℕ) → build-lts.Need-node-requires (build-calls t) (build-at t) build.Post build-Inv-loop build-μ-loop
 build-node-requires t c κs = (roomy (c .before .before .before .loop .inv .6 .steady), c .before .before .before .loop .inv .6 .frame .long ∙ c .before .before .before .before .before .before .before .before .before .before .before .pre .1 .4)
 
-build-same-length-2 : (t : ℕ) → build-lts.Need-same-length-2 (build-calls t) (build-at t) build.Post build-Inv-loop build-μ-loop
-build-same-length-2 t c = search needs
-
 build-returns-6 : (t : ℕ) → build-lts.Need-returns-6 (build-calls t) (build-at t) build.Post build-Inv-loop build-μ-loop
 build-returns-6 t c =
     let at-node = c .before .before in
@@ -245,42 +182,11 @@ pub +build-spec : {M : Type 1} → statement M
 +build-spec = close μ-build λ t. build-lts.spec (build-calls t)
     (build-at t)
     build.Post
-    build-Inv-loop
-    build-μ-loop
-    (build-no-units-requires t)
-    (build-returns t)
-    (build-no-nesting-requires t)
-    (build-returns-2 t)
-    (build-sub-u t)
-    (build-kind-requires t)
-    (build-entry-requires t)
-    (build-element-copy-out-bit t)
-    (build-bit-requires t)
-    (build-cast-done t)
-    (build-mul-done t)
-    (build-element-copy-out-done t)
-    (build-done-requires t)
-    (build-returns-3 t)
-    (build-failure-requires t)
-    (build-returns-4 t)
-    (build-operands-requires t)
-    (build-entry-requires-2 t)
-    (build-loop-holds t)
-    (build-add-entry t)
-    (build-entry-requires-3 t)
-    (build-sub-build t)
-    (build-build-requires t)
-    (build-told-requires t)
-    (build-enum-known-x t)
-    (build-same-length t)
-    (build-returns-5 t)
-    (build-cast-made t)
-    (build-add-made t)
-    (build-mul-made t)
-    (build-array-write-made t)
-    (build-add-i t)
-    (build-loop-less t)
-    (build-loop-again t)
-    (build-node-requires t)
-    (build-same-length-2 t)
-    (build-returns-6 t)
+    build-Inv-loop build-μ-loop (λ c κs. search needs) (build-returns t) (λ c κs. search needs) (build-returns-2 t)
+    (λ c. search needs) (λ c κs. search needs) (λ c κs. search needs) (λ c. search needs) (build-bit-requires t)
+    (λ c. search needs) (build-mul-done t) (build-element-copy-out-done t) (λ c κs. search needs) (build-returns-3 t)
+    (λ c κs. search needs) (build-returns-4 t) (λ c κs. search needs) (λ c κs. search needs) (build-loop-holds t)
+    (build-add-entry t) (build-entry-requires-3 t) (λ c. search needs) (build-build-requires t) (λ c κs. search needs)
+    (λ c. search needs) (λ c. search needs) (build-returns-5 t) (λ c. search needs) (λ c. search needs)
+    (λ c. search needs) (build-array-write-made t) (λ c. search needs) (λ c. search needs) (build-loop-again t)
+    (build-node-requires t) (λ c. search needs) (build-returns-6 t)

@@ -6,38 +6,8 @@ use borrow.Author.Needs.{needs}
 use Rattle.engine.proofs.builder.node.Statement.{statement}
 use Rattle.engine.proofs.builder.node.Tie as tie
 
-element-copy-out-k : tie.Need-element-copy-out-k
-element-copy-out-k c = search needs
-
-cast-if1 : tie.Need-cast-if1
-cast-if1 c = search needs
-
-mul-if1 : tie.Need-mul-if1
-mul-if1 c = search needs
-
-add-if1 : tie.Need-add-if1
-add-if1 c = search needs
-
-no-room-requires : tie.Need-no-room-requires
-no-room-requires c κs = search needs
-
 returns : tie.Need-returns
 returns c = node-full _ _ _ _ _ (c .before .before .before .before .pre .0) (omega arith) (c .before .if1 .taken) (c .no-room .ensures)
-
-put-row-requires : tie.Need-put-row-requires
-put-row-requires c κs = search needs
-
-add-st : tie.Need-add-st
-add-st c = search needs
-
-element-write-st : tie.Need-element-write-st
-element-write-st c = search needs
-
-done-requires : tie.Need-done-requires
-done-requires c κs = search needs
-
-same-length : tie.Need-same-length
-same-length c = search needs
 
 returns-2 : tie.Need-returns-2
 returns-2 c =
@@ -50,15 +20,5 @@ pub node-spec : {M : Type 1} → statement M
 node-spec =
     tie.close
     (tie.spec
-    element-copy-out-k
-    cast-if1
-    mul-if1
-    add-if1
-    no-room-requires
-    returns
-    put-row-requires
-    add-st
-    element-write-st
-    done-requires
-    same-length
-    returns-2)
+    (λ c. search needs) (λ c. search needs) (λ c. search needs) (λ c. search needs) (λ c κs. search needs) returns
+    (λ c κs. search needs) (λ c. search needs) (λ c. search needs) (λ c κs. search needs) (λ c. search needs) returns-2)

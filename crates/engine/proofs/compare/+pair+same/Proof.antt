@@ -55,32 +55,11 @@ same-calls t = (no-units-reads.Asked, no-units-reads.Learnt, no-nesting-reads.As
 abbrev pair-calls : ℕ → pair-lts.Claims
 pair-calls t = (no-units-reads.Asked, no-units-reads.Learnt, no-nesting-reads.Asked, no-nesting-reads.Learnt, count-reads.Asked, count-reads.Learnt, word-reads.Asked, word-reads.Learnt, failure-reads.Asked, failure-reads.Learnt, done-reads.Asked, done-reads.Learnt, same-below t, same.Post)
 
-pair-no-units-requires : (t : ℕ) → pair-lts.Need-no-units-requires (pair-calls t) (pair-at t) pair.Post
-pair-no-units-requires t c κs = search needs
-
 pair-returns : (t : ℕ) → pair-lts.Need-returns (pair-calls t) (pair-at t) pair.Post
 pair-returns t c = λ t β m. units-kept t _ _ _ m _ _ _ β (c .no-units .ensures) (c .before .if1 .taken)
 
-pair-no-nesting-requires : (t : ℕ) → pair-lts.Need-no-nesting-requires (pair-calls t) (pair-at t) pair.Post
-pair-no-nesting-requires t c κs = search needs
-
 pair-returns-2 : (t : ℕ) → pair-lts.Need-returns-2 (pair-calls t) (pair-at t) pair.Post
 pair-returns-2 t c = λ t β m. nesting-kept t _ _ _ m _ _ _ β (c .no-nesting .ensures) (c .before .before .before .before .fits .left .fits) (c .before .before .if1 .left) (c .before .if2 .taken)
-
-pair-count-requires : (t : ℕ) → pair-lts.Need-count-requires (pair-calls t) (pair-at t) pair.Post
-pair-count-requires t c κs = search needs
-
-pair-word-requires : (t : ℕ) → pair-lts.Need-word-requires (pair-calls t) (pair-at t) pair.Post
-pair-word-requires t c κs = search needs
-
-pair-word-requires-2 : (t : ℕ) → pair-lts.Need-word-requires-2 (pair-calls t) (pair-at t) pair.Post
-pair-word-requires-2 t c κs = search needs
-
-pair-sub-failure : (t : ℕ) → pair-lts.Need-sub-failure (pair-calls t) (pair-at t) pair.Post
-pair-sub-failure t c = search needs
-
-pair-failure-requires : (t : ℕ) → pair-lts.Need-failure-requires (pair-calls t) (pair-at t) pair.Post
-pair-failure-requires t c κs = search needs
 
 pair-returns-3 : (t : ℕ) → pair-lts.Need-returns-3 (pair-calls t) (pair-at t) pair.Post
 pair-returns-3 t c =
@@ -92,15 +71,6 @@ pair-returns-3 t c =
     let start = at-if1 .before .before in
     let e : _ ≡ _ → ⊥ = λ h. at-if3 .if3 .taken (at-word .word .ensures ∙ h ∙ sym (at-word2 .word2 .ensures)) in
     λ t β m. other-constructor _ _ _ t _ m _ β (at-if1 .if1 .left) (at-if2 .if2 .left) _ (c .failure .ensures) (start .fits .left .fits) e
-
-pair-count-requires-2 : (t : ℕ) → pair-lts.Need-count-requires-2 (pair-calls t) (pair-at t) pair.Post
-pair-count-requires-2 t c κs = search needs
-
-pair-sub-failure-2 : (t : ℕ) → pair-lts.Need-sub-failure-2 (pair-calls t) (pair-at t) pair.Post
-pair-sub-failure-2 t c = search needs
-
-pair-failure-requires-2 : (t : ℕ) → pair-lts.Need-failure-requires-2 (pair-calls t) (pair-at t) pair.Post
-pair-failure-requires-2 t c κs = search needs
 
 pair-returns-4 : (t : ℕ) → pair-lts.Need-returns-4 (pair-calls t) (pair-at t) pair.Post
 pair-returns-4 t c =
@@ -115,12 +85,6 @@ pair-returns-4 t c =
     let start = at-if1 .before .before in
     let a = sym (at-word .word .ensures) ∙ at-if3 .if3 .left ∙ at-word2 .word2 .ensures in
     λ t β m. other-count _ _ _ t _ m _ β (at-if1 .if1 .left) (at-if2 .if2 .left) _ (c .failure2 .ensures) (start .fits .left .fits) a (λ h. at-if4 .if4 .taken (at-count .count .ensures ∙ h ∙ sym (at-count2 .count2 .ensures)))
-
-pair-sub-done : (t : ℕ) → pair-lts.Need-sub-done (pair-calls t) (pair-at t) pair.Post
-pair-sub-done t c = search needs
-
-pair-done-requires : (t : ℕ) → pair-lts.Need-done-requires (pair-calls t) (pair-at t) pair.Post
-pair-done-requires t c κs = search needs
 
 pair-returns-5 : (t : ℕ) → pair-lts.Need-returns-5 (pair-calls t) (pair-at t) pair.Post
 pair-returns-5 t c =
@@ -164,35 +128,11 @@ same-μ-loop store a b left deep x₀ y₀ u₀ d₀ x y u d = d
 same-loop-holds : (t : ℕ) → same-lts.Need-loop-holds (same-calls t) (same-at t) same.Post same-Inv-loop2 same-μ-loop2 same-Inv-loop same-μ-loop
 same-loop-holds t c = (omega arith, omega arith, λ t β m r e. e)
 
-same-no-units-requires : (t : ℕ) → same-lts.Need-no-units-requires (same-calls t) (same-at t) same.Post same-Inv-loop2 same-μ-loop2 same-Inv-loop same-μ-loop
-same-no-units-requires t c κs = search needs
-
 same-returns : (t : ℕ) → same-lts.Need-returns (same-calls t) (same-at t) same.Post same-Inv-loop2 same-μ-loop2 same-Inv-loop same-μ-loop
 same-returns t c = λ t β m. c .before .before .loop .inv .2 t β m _ (units-kept t _ _ _ m _ _ _ β (c .no-units .ensures) (c .before .if1 .taken))
 
-same-no-nesting-requires : (t : ℕ) → same-lts.Need-no-nesting-requires (same-calls t) (same-at t) same.Post same-Inv-loop2 same-μ-loop2 same-Inv-loop same-μ-loop
-same-no-nesting-requires t c κs = search needs
-
 same-returns-2 : (t : ℕ) → same-lts.Need-returns-2 (same-calls t) (same-at t) same.Post same-Inv-loop2 same-μ-loop2 same-Inv-loop same-μ-loop
 same-returns-2 t c = λ t β m. c .before .before .before .loop .inv .2 t β m _ (nesting-kept t _ _ _ m _ _ _ β (c .no-nesting .ensures) (c .before .before .before .loop .inv .0) (c .before .before .if1 .left) (c .before .if2 .taken))
-
-same-sub-u : (t : ℕ) → same-lts.Need-sub-u (same-calls t) (same-at t) same.Post same-Inv-loop2 same-μ-loop2 same-Inv-loop same-μ-loop
-same-sub-u t c = search needs
-
-same-sub-d : (t : ℕ) → same-lts.Need-sub-d (same-calls t) (same-at t) same.Post same-Inv-loop2 same-μ-loop2 same-Inv-loop same-μ-loop
-same-sub-d t c = search needs
-
-same-count-requires : (t : ℕ) → same-lts.Need-count-requires (same-calls t) (same-at t) same.Post same-Inv-loop2 same-μ-loop2 same-Inv-loop same-μ-loop
-same-count-requires t c κs = search needs
-
-same-word-requires : (t : ℕ) → same-lts.Need-word-requires (same-calls t) (same-at t) same.Post same-Inv-loop2 same-μ-loop2 same-Inv-loop same-μ-loop
-same-word-requires t c κs = search needs
-
-same-word-requires-2 : (t : ℕ) → same-lts.Need-word-requires-2 (same-calls t) (same-at t) same.Post same-Inv-loop2 same-μ-loop2 same-Inv-loop same-μ-loop
-same-word-requires-2 t c κs = search needs
-
-same-failure-requires : (t : ℕ) → same-lts.Need-failure-requires (same-calls t) (same-at t) same.Post same-Inv-loop2 same-μ-loop2 same-Inv-loop same-μ-loop
-same-failure-requires t c κs = search needs
 
 same-returns-3 : (t : ℕ) → same-lts.Need-returns-3 (same-calls t) (same-at t) same.Post same-Inv-loop2 same-μ-loop2 same-Inv-loop same-μ-loop
 same-returns-3 t c =
@@ -204,12 +144,6 @@ same-returns-3 t c =
     let at-loop = at-if1 .before in
     let e : _ ≡ _ → ⊥ = λ h. at-if3 .if3 .taken (at-word .word .ensures ∙ h ∙ sym (at-word2 .word2 .ensures)) in
     λ t β m. at-loop .loop .inv .2 t β m _ (other-constructor _ _ _ t _ m _ β (at-if1 .if1 .left) (at-if2 .if2 .left) _ (c .failure .ensures) (at-loop .loop .inv .0) e)
-
-same-count-requires-2 : (t : ℕ) → same-lts.Need-count-requires-2 (same-calls t) (same-at t) same.Post same-Inv-loop2 same-μ-loop2 same-Inv-loop same-μ-loop
-same-count-requires-2 t c κs = search needs
-
-same-failure-requires-2 : (t : ℕ) → same-lts.Need-failure-requires-2 (same-calls t) (same-at t) same.Post same-Inv-loop2 same-μ-loop2 same-Inv-loop same-μ-loop
-same-failure-requires-2 t c κs = search needs
 
 same-returns-4 : (t : ℕ) → same-lts.Need-returns-4 (same-calls t) (same-at t) same.Post same-Inv-loop2 same-μ-loop2 same-Inv-loop same-μ-loop
 same-returns-4 t c =
@@ -224,9 +158,6 @@ same-returns-4 t c =
     let at-loop = at-if1 .before in
     let a = sym (at-word .word .ensures) ∙ at-if3 .if3 .left ∙ at-word2 .word2 .ensures in
     λ t β m. at-loop .loop .inv .2 t β m _ (other-count _ _ _ t _ m _ β (at-if1 .if1 .left) (at-if2 .if2 .left) _ (c .failure2 .ensures) (at-loop .loop .inv .0) a (λ h. at-if4 .if4 .taken (at-count .count .ensures ∙ h ∙ sym (at-count2 .count2 .ensures))))
-
-same-done-requires : (t : ℕ) → same-lts.Need-done-requires (same-calls t) (same-at t) same.Post same-Inv-loop2 same-μ-loop2 same-Inv-loop same-μ-loop
-same-done-requires t c κs = search needs
 
 same-returns-5 : (t : ℕ) → same-lts.Need-returns-5 (same-calls t) (same-at t) same.Post same-Inv-loop2 same-μ-loop2 same-Inv-loop same-μ-loop
 same-returns-5 t c =
@@ -261,40 +192,13 @@ same-loop2-holds t c =
     let l = at-loop .loop .inv in
     (omega (arith, c .if5 .left), at-count .count .ensures, n, omega (arith, l .0), omega (arith, l .1, at-if2 .if2 .left), λ t β m. (_, agreed _ _ _ t _ m _ β (at-if1 .if1 .left) (at-if2 .if2 .left) a (sym (at-count .count .ensures) ∙ n), l .2 t β m))
 
-same-add-loop2 : (t : ℕ) → same-lts.Need-add-loop2 (same-calls t) (same-at t) same.Post same-Inv-loop2 same-μ-loop2 same-Inv-loop same-μ-loop
-same-add-loop2 t c = search needs
-
-same-add-word : (t : ℕ) → same-lts.Need-add-word (same-calls t) (same-at t) same.Post same-Inv-loop2 same-μ-loop2 same-Inv-loop same-μ-loop
-same-add-word t c = search needs
-
-same-word-requires-3 : (t : ℕ) → same-lts.Need-word-requires-3 (same-calls t) (same-at t) same.Post same-Inv-loop2 same-μ-loop2 same-Inv-loop same-μ-loop
-same-word-requires-3 t c κs = search needs
-
-same-add-word-2 : (t : ℕ) → same-lts.Need-add-word-2 (same-calls t) (same-at t) same.Post same-Inv-loop2 same-μ-loop2 same-Inv-loop same-μ-loop
-same-add-word-2 t c = search needs
-
-same-word-requires-4 : (t : ℕ) → same-lts.Need-word-requires-4 (same-calls t) (same-at t) same.Post same-Inv-loop2 same-μ-loop2 same-Inv-loop same-μ-loop
-same-word-requires-4 t c κs = search needs
-
 same-pair-requires : (t : ℕ) → same-lts.Need-pair-requires (same-calls t) (same-at t) same.Post same-Inv-loop2 same-μ-loop2 same-Inv-loop same-μ-loop
 same-pair-requires t c κs = (omega (arith, c .before .before .before .loop2 .inv .4), tt)
-
-same-told-requires : (t : ℕ) → same-lts.Need-told-requires (same-calls t) (same-at t) same.Post same-Inv-loop2 same-μ-loop2 same-Inv-loop same-μ-loop
-same-told-requires t c κs = search needs
-
-same-enum-known-more : (t : ℕ) → same-lts.Need-enum-known-more (same-calls t) (same-at t) same.Post same-Inv-loop2 same-μ-loop2 same-Inv-loop same-μ-loop
-same-enum-known-more t c = search needs
 
 same-returns-6 : (t : ℕ) → same-lts.Need-returns-6 (same-calls t) (same-at t) same.Post same-Inv-loop2 same-μ-loop2 same-Inv-loop same-μ-loop
 same-returns-6 t c = λ t β m.
     let g = c .before .before .before .before .before .before .loop2 .inv .5 t β m in
     g .2 _ (pair-stops _ _ _ t _ _ β m _ (g .1) (omega arith) (omega arith) _ _ _ (c .before .before .before .before .word3 .ensures) (c .before .before .before .word4 .ensures) (c .before .before .pair .ensures t β m) _ (c .before .told .ensures) (c .match .keys2))
-
-same-add-i : (t : ℕ) → same-lts.Need-add-i (same-calls t) (same-at t) same.Post same-Inv-loop2 same-μ-loop2 same-Inv-loop same-μ-loop
-same-add-i t c = search needs
-
-same-loop2-less : (t : ℕ) → same-lts.Need-loop2-less (same-calls t) (same-at t) same.Post same-Inv-loop2 same-μ-loop2 same-Inv-loop same-μ-loop
-same-loop2-less t c = search needs
 
 same-loop2-again : (t : ℕ) → same-lts.Need-loop2-again (same-calls t) (same-at t) same.Post same-Inv-loop2 same-μ-loop2 same-Inv-loop same-μ-loop
 same-loop2-again t c =
@@ -315,18 +219,6 @@ same-loop2-again t c =
           (_, pair-done _ _ _ t _ _ β m _ (g .1) (omega arith) (omega arith) _ _ _ (at-word3 .word3 .ensures) (at-word4 .word4 .ensures) (at-pair .pair .ensures t β m) _ (at-told .told .ensures) _ _ (at-more .more .given .1), g .2),
     )
 
-same-add-word-3 : (t : ℕ) → same-lts.Need-add-word-3 (same-calls t) (same-at t) same.Post same-Inv-loop2 same-μ-loop2 same-Inv-loop same-μ-loop
-same-add-word-3 t c = search needs
-
-same-word-requires-5 : (t : ℕ) → same-lts.Need-word-requires-5 (same-calls t) (same-at t) same.Post same-Inv-loop2 same-μ-loop2 same-Inv-loop same-μ-loop
-same-word-requires-5 t c κs = search needs
-
-same-add-word-4 : (t : ℕ) → same-lts.Need-add-word-4 (same-calls t) (same-at t) same.Post same-Inv-loop2 same-μ-loop2 same-Inv-loop same-μ-loop
-same-add-word-4 t c = search needs
-
-same-word-requires-6 : (t : ℕ) → same-lts.Need-word-requires-6 (same-calls t) (same-at t) same.Post same-Inv-loop2 same-μ-loop2 same-Inv-loop same-μ-loop
-same-word-requires-6 t c κs = search needs
-
 same-loop-less : (t : ℕ) → same-lts.Need-loop-less (same-calls t) (same-at t) same.Post same-Inv-loop2 same-μ-loop2 same-Inv-loop same-μ-loop
 same-loop-less t c = omega (arith, c .before .before .before .before .before .before .before .before .before .before .before .if2 .left)
 
@@ -345,65 +237,18 @@ pub +pair+same-spec : {M : Type 1} → statement M
     (λ t. pair-lts.spec (pair-calls t)
     (pair-at t)
     pair.Post
-    (pair-no-units-requires t)
-    (pair-returns t)
-    (pair-no-nesting-requires t)
-    (pair-returns-2 t)
-    (pair-count-requires t)
-    (pair-word-requires t)
-    (pair-word-requires-2 t)
-    (pair-sub-failure t)
-    (pair-failure-requires t)
-    (pair-returns-3 t)
-    (pair-count-requires-2 t)
-    (pair-sub-failure-2 t)
-    (pair-failure-requires-2 t)
-    (pair-returns-4 t)
-    (pair-sub-done t)
-    (pair-done-requires t)
-    (pair-returns-5 t)
-    (pair-same-requires t)
-    (pair-returns-6 t))
+    (λ c κs. search needs) (pair-returns t) (λ c κs. search needs) (pair-returns-2 t) (λ c κs. search needs)
+    (λ c κs. search needs) (λ c κs. search needs) (λ c. search needs) (λ c κs. search needs) (pair-returns-3 t)
+    (λ c κs. search needs) (λ c. search needs) (λ c κs. search needs) (pair-returns-4 t) (λ c. search needs)
+    (λ c κs. search needs) (pair-returns-5 t) (pair-same-requires t) (pair-returns-6 t))
     λ t. same-lts.spec (same-calls t)
     (same-at t)
     same.Post
-    same-Inv-loop2
-    same-μ-loop2
-    same-Inv-loop
-    same-μ-loop
-    (same-loop-holds t)
-    (same-no-units-requires t)
-    (same-returns t)
-    (same-no-nesting-requires t)
-    (same-returns-2 t)
-    (same-sub-u t)
-    (same-sub-d t)
-    (same-count-requires t)
-    (same-word-requires t)
-    (same-word-requires-2 t)
-    (same-failure-requires t)
-    (same-returns-3 t)
-    (same-count-requires-2 t)
-    (same-failure-requires-2 t)
-    (same-returns-4 t)
-    (same-done-requires t)
-    (same-returns-5 t)
-    (same-loop2-holds t)
-    (same-add-loop2 t)
-    (same-add-word t)
-    (same-word-requires-3 t)
-    (same-add-word-2 t)
-    (same-word-requires-4 t)
-    (same-pair-requires t)
-    (same-told-requires t)
-    (same-enum-known-more t)
-    (same-returns-6 t)
-    (same-add-i t)
-    (same-loop2-less t)
-    (same-loop2-again t)
-    (same-add-word-3 t)
-    (same-word-requires-5 t)
-    (same-add-word-4 t)
-    (same-word-requires-6 t)
-    (same-loop-less t)
-    (same-loop-again t)
+    same-Inv-loop2 same-μ-loop2 same-Inv-loop same-μ-loop (same-loop-holds t) (λ c κs. search needs) (same-returns t)
+    (λ c κs. search needs) (same-returns-2 t) (λ c. search needs) (λ c. search needs) (λ c κs. search needs)
+    (λ c κs. search needs) (λ c κs. search needs) (λ c κs. search needs) (same-returns-3 t) (λ c κs. search needs)
+    (λ c κs. search needs) (same-returns-4 t) (λ c κs. search needs) (same-returns-5 t) (same-loop2-holds t)
+    (λ c. search needs) (λ c. search needs) (λ c κs. search needs) (λ c. search needs) (λ c κs. search needs)
+    (same-pair-requires t) (λ c κs. search needs) (λ c. search needs) (same-returns-6 t) (λ c. search needs)
+    (λ c. search needs) (same-loop2-again t) (λ c. search needs) (λ c κs. search needs) (λ c. search needs)
+    (λ c κs. search needs) (same-loop-less t) (same-loop-again t)

@@ -107,15 +107,6 @@ came t c =
     (leaf-matched k z d (constructor-is k e (w .0 .left)) (sym (w .1 .ensures) ∙ not-false _ (w .2 .left)) (sym (w .3 .ensures) ∙ w .4 .left)))))
     (c .if2 .came)
 
-fits-cast-t : (t : ℕ) → fits-lts.Need-cast-t (fits-calls t) (fits-at t) fits.Post fits-Inv-loop fits-μ-loop
-fits-cast-t t c = search needs
-
-fits-cast-u : (t : ℕ) → fits-lts.Need-cast-u (fits-calls t) (fits-at t) fits.Post fits-Inv-loop fits-μ-loop
-fits-cast-u t c = search needs
-
-fits-operands-requires : (t : ℕ) → fits-lts.Need-operands-requires (fits-calls t) (fits-at t) fits.Post fits-Inv-loop fits-μ-loop
-fits-operands-requires t c κs = search needs
-
 fits-loop-holds : (t : ℕ) → fits-lts.Need-loop-holds (fits-calls t) (fits-at t) fits.Post fits-Inv-loop fits-μ-loop
 fits-loop-holds t c = (search needs, c .operands .ensures, omega arith, search needs, matched-none _ _ _ _ _ _)
 
@@ -131,14 +122,8 @@ fits-add-word t c = omega (arith, c .before .before .before .before .before .bef
 fits-word-requires : (t : ℕ) → fits-lts.Need-word-requires (fits-calls t) (fits-at t) fits.Post fits-Inv-loop fits-μ-loop
 fits-word-requires t c κs = omega (arith, c .before .before .before .before .before .before .pre .1 .0 .few _ (c .before .before .before .before .before .before .pre .1 .1))
 
-fits-no-units-requires : (t : ℕ) → fits-lts.Need-no-units-requires (fits-calls t) (fits-at t) fits.Post fits-Inv-loop fits-μ-loop
-fits-no-units-requires t c κs = search needs
-
 fits-returns : (t : ℕ) → fits-lts.Need-returns (fits-calls t) (fits-at t) fits.Post fits-Inv-loop fits-μ-loop
 fits-returns t c = fits-units (turn t (c .before .before)) (c .no-units .ensures) (c .before .if1 .taken)
-
-fits-sub-u : (t : ℕ) → fits-lts.Need-sub-u (fits-calls t) (fits-at t) fits.Post fits-Inv-loop fits-μ-loop
-fits-sub-u t c = search needs
 
 fits-kind-requires : (t : ℕ) → fits-lts.Need-kind-requires (fits-calls t) (fits-at t) fits.Post fits-Inv-loop fits-μ-loop
 fits-kind-requires t c κs = operand-is (turn t (c .before)) .0
@@ -146,32 +131,14 @@ fits-kind-requires t c κs = operand-is (turn t (c .before)) .0
 fits-entry-requires-2 : (t : ℕ) → fits-lts.Need-entry-requires-2 (fits-calls t) (fits-at t) fits.Post fits-Inv-loop fits-μ-loop
 fits-entry-requires-2 t c κs = (operand-is (turn t (c .before .before .before)) .0, omega arith)
 
-fits-array-read-bit : (t : ℕ) → fits-lts.Need-array-read-bit (fits-calls t) (fits-at t) fits.Post fits-Inv-loop fits-μ-loop
-fits-array-read-bit t c = search needs
-
 fits-bit-requires : (t : ℕ) → fits-lts.Need-bit-requires (fits-calls t) (fits-at t) fits.Post fits-Inv-loop fits-μ-loop
 fits-bit-requires t c κs = variable-small (turn t (c .before .before .before .before)) (is-variable t (c .before)) (c .entry2 .ensures)
-
-fits-cast-same : (t : ℕ) → fits-lts.Need-cast-same (fits-calls t) (fits-at t) fits.Post fits-Inv-loop fits-μ-loop
-fits-cast-same t c = search needs
 
 fits-mul-same : (t : ℕ) → fits-lts.Need-mul-same (fits-calls t) (fits-at t) fits.Post fits-Inv-loop fits-μ-loop
 fits-mul-same t c = let v = variable-small (turn t (c .before .before .before .before .before .before)) (is-variable t (c .before .before .before)) (c .before .before .entry2 .ensures) in omega arith
 
 fits-array-read-same : (t : ℕ) → fits-lts.Need-array-read-same (fits-calls t) (fits-at t) fits.Post fits-Inv-loop fits-μ-loop
 fits-array-read-same t c = let v = variable-small (turn t (c .before .before .before .before .before .before)) (is-variable t (c .before .before .before)) (c .before .before .entry2 .ensures) in omega arith
-
-fits-sub-same : (t : ℕ) → fits-lts.Need-sub-same (fits-calls t) (fits-at t) fits.Post fits-Inv-loop fits-μ-loop
-fits-sub-same t c = search needs
-
-fits-same-requires : (t : ℕ) → fits-lts.Need-same-requires (fits-calls t) (fits-at t) fits.Post fits-Inv-loop fits-μ-loop
-fits-same-requires t c κs = search needs
-
-fits-told-requires : (t : ℕ) → fits-lts.Need-told-requires (fits-calls t) (fits-at t) fits.Post fits-Inv-loop fits-μ-loop
-fits-told-requires t c κs = search needs
-
-fits-enum-known-left : (t : ℕ) → fits-lts.Need-enum-known-left (fits-calls t) (fits-at t) fits.Post fits-Inv-loop fits-μ-loop
-fits-enum-known-left t c = search needs
 
 fits-returns-2 : (t : ℕ) → fits-lts.Need-returns-2 (fits-calls t) (fits-at t) fits.Post fits-Inv-loop fits-μ-loop
 fits-returns-2 t c =
@@ -184,38 +151,23 @@ fits-returns-2 t c =
     let at-loop = at-before′ .before .before .before .before in
     bound-stops (turn t (at-before′ .before)) (at-before′ .if1 .left) (levels t (at-before′ .before)) (is-variable t (at-before .before)) (at-before .entry2 .ensures) (sym (at-bit .bit .ensures) ∙ at-if3 .if3 .taken) _ (λ m. at-same .same .ensures _ (held (at-loop .loop .words)) m) _ (at-told .told .ensures) (c .match .keys2)
 
-fits-cast-words : (t : ℕ) → fits-lts.Need-cast-words (fits-calls t) (fits-at t) fits.Post fits-Inv-loop fits-μ-loop
-fits-cast-words t c = search needs
-
 fits-mul-words : (t : ℕ) → fits-lts.Need-mul-words (fits-calls t) (fits-at t) fits.Post fits-Inv-loop fits-μ-loop
 fits-mul-words t c = let v = variable-small (turn t (c .before .before .before .before .before .before)) (is-variable t (c .before .before .before)) (c .before .before .entry2 .ensures) in omega arith
 
 fits-array-write-words : (t : ℕ) → fits-lts.Need-array-write-words (fits-calls t) (fits-at t) fits.Post fits-Inv-loop fits-μ-loop
 fits-array-write-words t c = let v = variable-small (turn t (c .before .before .before .before .before .before)) (is-variable t (c .before .before .before)) (c .before .before .entry2 .ensures) in omega arith
 
-fits-array-read-words : (t : ℕ) → fits-lts.Need-array-read-words (fits-calls t) (fits-at t) fits.Post fits-Inv-loop fits-μ-loop
-fits-array-read-words t c = search needs
-
 fits-shl-words : (t : ℕ) → fits-lts.Need-shl-words (fits-calls t) (fits-at t) fits.Post fits-Inv-loop fits-μ-loop
 fits-shl-words t c = let v = variable-small (turn t (c .before .before .before .before .before .before)) (is-variable t (c .before .before .before)) (c .before .before .entry2 .ensures) in omega arith
 
-fits-array-write-words-2 : (t : ℕ) → fits-lts.Need-array-write-words-2 (fits-calls t) (fits-at t) fits.Post fits-Inv-loop fits-μ-loop
-fits-array-write-words-2 t c = search needs
-
 fits-agree-requires : (t : ℕ) → fits-lts.Need-agree-requires (fits-calls t) (fits-at t) fits.Post fits-Inv-loop fits-μ-loop
 fits-agree-requires t c κs = operand-is (turn t (c .before .before .before)) .0
-
-fits-failure-requires : (t : ℕ) → fits-lts.Need-failure-requires (fits-calls t) (fits-at t) fits.Post fits-Inv-loop fits-μ-loop
-fits-failure-requires t c κs = search needs
 
 fits-returns-3 : (t : ℕ) → fits-lts.Need-returns-3 (fits-calls t) (fits-at t) fits.Post fits-Inv-loop fits-μ-loop
 fits-returns-3 t c = other (turn t (c .before .before .before .before .before .before)) (c .before .before .before .before .before .if1 .left) (levels t (c .before .before .before .before .before .before)) (is-constructor t (c .before .before .before)) (c .failure .ensures) (sym (c .before .before .agree .ensures) ∙ not-true _ (c .before .if4 .taken))
 
 fits-operands-requires-2 : (t : ℕ) → fits-lts.Need-operands-requires-2 (fits-calls t) (fits-at t) fits.Post fits-Inv-loop fits-μ-loop
 fits-operands-requires-2 t c κs = operand-is (turn t (c .before .before .before .before .before)) .0
-
-fits-stopped-requires : (t : ℕ) → fits-lts.Need-stopped-requires (fits-calls t) (fits-at t) fits.Post fits-Inv-loop fits-μ-loop
-fits-stopped-requires t c κs = search needs
 
 fits-returns-4 : (t : ℕ) → fits-lts.Need-returns-4 (fits-calls t) (fits-at t) fits.Post fits-Inv-loop fits-μ-loop
 fits-returns-4 t c =
@@ -226,12 +178,6 @@ fits-returns-4 t c =
     let at-before′′ = at-before′ .before .before .before in
     inner-stopped (turn t (at-before′′ .before)) (at-before′′ .if1 .left) (is-constructor t (at-before′ .before)) (agrees t (at-before .before)) (λ z. at-if5 .if5 .taken (at-before .operands2 .ensures ∙ z)) (at-if6 .if6 .taken) (c .stopped .ensures)
 
-fits-done-requires : (t : ℕ) → fits-lts.Need-done-requires (fits-calls t) (fits-at t) fits.Post fits-Inv-loop fits-μ-loop
-fits-done-requires t c κs = search needs
-
-fits-sub-fits : (t : ℕ) → fits-lts.Need-sub-fits (fits-calls t) (fits-at t) fits.Post fits-Inv-loop fits-μ-loop
-fits-sub-fits t c = search needs
-
 fits-fits-requires : (t : ℕ) → fits-lts.Need-fits-requires (fits-calls t) (fits-at t) fits.Post fits-Inv-loop fits-μ-loop
 fits-fits-requires t c κs =
     let at-if6 = c .before in
@@ -240,12 +186,6 @@ fits-fits-requires t c κs =
     let at-before′′ = at-before′ .before .before .before in
     let start = at-before′′ .before .before .before .before .before .before .before .before in
     (omega arith, (start .pre .1 .0, operand-is (turn t (at-before′′ .before)) .0, is-constructor t (at-before′ .before), handed (turn t (at-before′′ .before)) (at-before′′ .if1 .left) (levels t (at-before′′ .before)) (is-constructor t (at-before′ .before)) (agrees t (at-before .before)) (c .done .ensures), omega (arith, at-if6 .if6 .left)))
-
-fits-told-requires-2 : (t : ℕ) → fits-lts.Need-told-requires-2 (fits-calls t) (fits-at t) fits.Post fits-Inv-loop fits-μ-loop
-fits-told-requires-2 t c κs = search needs
-
-fits-enum-known-left-2 : (t : ℕ) → fits-lts.Need-enum-known-left-2 (fits-calls t) (fits-at t) fits.Post fits-Inv-loop fits-μ-loop
-fits-enum-known-left-2 t c = search needs
 
 fits-returns-5 : (t : ℕ) → fits-lts.Need-returns-5 (fits-calls t) (fits-at t) fits.Post fits-Inv-loop fits-μ-loop
 fits-returns-5 t c =
@@ -257,20 +197,11 @@ fits-returns-5 t c =
     let at-before′′ = at-before′ .before .before .before in
     inner-stops (turn t (at-before′′ .before)) (at-before′′ .if1 .left) (levels t (at-before′′ .before)) (is-constructor t (at-before′ .before)) (agrees t (at-before .before)) (at-done .done .ensures) _ _ (at-fits2 .fits2 .ensures) _ (at-told2 .told2 .ensures) (c .match2 .keys2)
 
-fits-add-i : (t : ℕ) → fits-lts.Need-add-i (fits-calls t) (fits-at t) fits.Post fits-Inv-loop fits-μ-loop
-fits-add-i t c = search needs
-
-fits-loop-less : (t : ℕ) → fits-lts.Need-loop-less (fits-calls t) (fits-at t) fits.Post fits-Inv-loop fits-μ-loop
-fits-loop-less t c = search needs
-
 fits-loop-again : (t : ℕ) → fits-lts.Need-loop-again (fits-calls t) (fits-at t) fits.Post fits-Inv-loop fits-μ-loop
 fits-loop-again t c =
     let i = c .before .before .before .before .before .before .loop .inv in
     let n = came t c in
     (search needs, i .1, n .0, n .1 .frame .long ∙ sym (i .4 .frame .long) ∙ i .3, n .1)
-
-fits-done-requires-2 : (t : ℕ) → fits-lts.Need-done-requires-2 (fits-calls t) (fits-at t) fits.Post fits-Inv-loop fits-μ-loop
-fits-done-requires-2 t c κs = search needs
 
 fits-returns-6 : (t : ℕ) → fits-lts.Need-returns-6 (fits-calls t) (fits-at t) fits.Post fits-Inv-loop fits-μ-loop
 fits-returns-6 t c = matched-all _ _ _ _ _ _ _ _ (c .before .before .loop .i) _ (c .before .before .loop .inv .4) (omega arith) (c .done2 .ensures) (c .before .before .loop .inv .2)
@@ -279,51 +210,13 @@ pub +fits-spec : {M : Type 1} → statement M
 +fits-spec = close μ-fits λ t. fits-lts.spec (fits-calls t)
     (fits-at t)
     fits.Post
-    fits-Inv-loop
-    fits-μ-loop
-    (fits-cast-t t)
-    (fits-cast-u t)
-    (fits-operands-requires t)
-    (fits-loop-holds t)
-    (fits-add-entry t)
-    (fits-entry-requires t)
-    (fits-add-word t)
-    (fits-word-requires t)
-    (fits-no-units-requires t)
-    (fits-returns t)
-    (fits-sub-u t)
-    (fits-kind-requires t)
-    (fits-entry-requires-2 t)
-    (fits-array-read-bit t)
-    (fits-bit-requires t)
-    (fits-cast-same t)
-    (fits-mul-same t)
-    (fits-array-read-same t)
-    (fits-sub-same t)
-    (fits-same-requires t)
-    (fits-told-requires t)
-    (fits-enum-known-left t)
-    (fits-returns-2 t)
-    (fits-cast-words t)
-    (fits-mul-words t)
-    (fits-array-write-words t)
-    (fits-array-read-words t)
-    (fits-shl-words t)
-    (fits-array-write-words-2 t)
-    (fits-agree-requires t)
-    (fits-failure-requires t)
-    (fits-returns-3 t)
-    (fits-operands-requires-2 t)
-    (fits-stopped-requires t)
-    (fits-returns-4 t)
-    (fits-done-requires t)
-    (fits-sub-fits t)
-    (fits-fits-requires t)
-    (fits-told-requires-2 t)
-    (fits-enum-known-left-2 t)
-    (fits-returns-5 t)
-    (fits-add-i t)
-    (fits-loop-less t)
-    (fits-loop-again t)
-    (fits-done-requires-2 t)
-    (fits-returns-6 t)
+    fits-Inv-loop fits-μ-loop (λ c. search needs) (λ c. search needs) (λ c κs. search needs) (fits-loop-holds t)
+    (fits-add-entry t) (fits-entry-requires t) (fits-add-word t) (fits-word-requires t) (λ c κs. search needs)
+    (fits-returns t) (λ c. search needs) (fits-kind-requires t) (fits-entry-requires-2 t) (λ c. search needs)
+    (fits-bit-requires t) (λ c. search needs) (fits-mul-same t) (fits-array-read-same t) (λ c. search needs)
+    (λ c κs. search needs) (λ c κs. search needs) (λ c. search needs) (fits-returns-2 t) (λ c. search needs)
+    (fits-mul-words t) (fits-array-write-words t) (λ c. search needs) (fits-shl-words t) (λ c. search needs)
+    (fits-agree-requires t) (λ c κs. search needs) (fits-returns-3 t) (fits-operands-requires-2 t)
+    (λ c κs. search needs) (fits-returns-4 t) (λ c κs. search needs) (λ c. search needs) (fits-fits-requires t)
+    (λ c κs. search needs) (λ c. search needs) (fits-returns-5 t) (λ c. search needs) (λ c. search needs)
+    (fits-loop-again t) (λ c κs. search needs) (fits-returns-6 t)

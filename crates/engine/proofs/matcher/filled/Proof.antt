@@ -50,15 +50,6 @@ is-constructor c = constructor-is (turn (c .before .before .before)) (c .before 
 agrees : (c : tie.Else4 Inv-loop μ-loop) → agreeing (c .before .before .before .before .before .before .before .before .before .before .before .args .table .now) (c .before .before .before .before .before .before .before .before .before .before .before .args .store .now) (c .before .before .before .before .before .before .entry .result) (c .before .before .before .before .before .word .result) ≡ true
 agrees c = sym (c .before .agree .ensures) ∙ not-false _ (c .if4 .left)
 
-cast-t : tie.Need-cast-t Inv-loop μ-loop
-cast-t c = search needs
-
-cast-u : tie.Need-cast-u Inv-loop μ-loop
-cast-u c = search needs
-
-operands-requires : tie.Need-operands-requires Inv-loop μ-loop
-operands-requires c κs = search needs
-
 loop-holds : tie.Need-loop-holds Inv-loop μ-loop
 loop-holds c = (omega arith, c .operands .ensures, omega arith, c .before .before .pre .4, c .before .before .pre .5, going-none _ _ _ _ _ _ (c .before .before .pre .1) (c .before .before .pre .2) (c .before .before .pre .3))
 
@@ -74,14 +65,8 @@ add-word c = omega (arith, few (c .before .before))
 word-requires : tie.Need-word-requires Inv-loop μ-loop
 word-requires c κs = omega (arith, few (c .before .before))
 
-no-units-requires : tie.Need-no-units-requires Inv-loop μ-loop
-no-units-requires c κs = search needs
-
 returns : tie.Need-returns Inv-loop μ-loop
 returns c = c .before .before .before .before .before .loop .inv .5 .whole _ _ (fits-units (turn (c .before .before)) (c .no-units .ensures) (c .before .if1 .taken))
-
-sub-u : tie.Need-sub-u Inv-loop μ-loop
-sub-u c = search needs
 
 add-i : tie.Need-add-i Inv-loop μ-loop
 add-i c = omega (arith, few (c .before .before .before .before))
@@ -92,32 +77,14 @@ kind-requires c κs = operand-is (turn (c .before)) .0
 entry-requires-2 : tie.Need-entry-requires-2 Inv-loop μ-loop
 entry-requires-2 c κs = (operand-is (turn (c .before .before .before)) .0, omega arith)
 
-element-copy-out-bit : tie.Need-element-copy-out-bit Inv-loop μ-loop
-element-copy-out-bit c = search needs
-
 bit-requires : tie.Need-bit-requires Inv-loop μ-loop
 bit-requires c κs = small (c .before)
-
-cast-same : tie.Need-cast-same Inv-loop μ-loop
-cast-same c = search needs
 
 mul-same : tie.Need-mul-same Inv-loop μ-loop
 mul-same c = let v = small (c .before .before .before) in omega arith
 
 element-copy-out-same : tie.Need-element-copy-out-same Inv-loop μ-loop
 element-copy-out-same c = let v = small (c .before .before .before) in omega arith
-
-sub-same : tie.Need-sub-same Inv-loop μ-loop
-sub-same c = search needs
-
-same-requires : tie.Need-same-requires Inv-loop μ-loop
-same-requires c κs = search needs
-
-told-requires : tie.Need-told-requires Inv-loop μ-loop
-told-requires c κs = search needs
-
-enum-known-left : tie.Need-enum-known-left Inv-loop μ-loop
-enum-known-left c = search needs
 
 returns-2 : tie.Need-returns-2 Inv-loop μ-loop
 returns-2 c =
@@ -167,9 +134,6 @@ loop-again-2 c =
 agree-requires : tie.Need-agree-requires Inv-loop μ-loop
 agree-requires c κs = operand-is (turn (c .before .before .before)) .0
 
-failure-requires : tie.Need-failure-requires Inv-loop μ-loop
-failure-requires c κs = search needs
-
 returns-3 : tie.Need-returns-3 Inv-loop μ-loop
 returns-3 c =
     let at-if4 = c .before in
@@ -181,9 +145,6 @@ returns-3 c =
 operands-requires-2 : tie.Need-operands-requires-2 Inv-loop μ-loop
 operands-requires-2 c κs = operand-is (turn (c .before .before .before .before .before)) .0
 
-stopped-requires : tie.Need-stopped-requires Inv-loop μ-loop
-stopped-requires c κs = search needs
-
 returns-4 : tie.Need-returns-4 Inv-loop μ-loop
 returns-4 c =
     let at-if6 = c .before in
@@ -193,9 +154,6 @@ returns-4 c =
     let at-before′′ = at-before′ .before .before .before in
     let at-loop = at-before′′ .before .before .before .before in
     at-loop .loop .inv .5 .whole _ _ (inner-stopped (turn (at-before′′ .before)) (at-before′′ .if1 .left) (is-constructor (at-before′ .before)) (agrees (at-before .before)) (λ z. at-if5 .if5 .taken (at-before .operands2 .ensures ∙ z)) (at-if6 .if6 .taken) (c .stopped .ensures))
-
-sub-d : tie.Need-sub-d Inv-loop μ-loop
-sub-d c = search needs
 
 loop-less-3 : tie.Need-loop-less-3 Inv-loop μ-loop
 loop-less-3 c =
@@ -215,12 +173,6 @@ loop-again-3 c =
     let l = at-loop .loop .inv in
     (omega arith, at-before .operands2 .ensures, omega (arith, l .2), omega (arith, at-if6 .if6 .left), l .4, going-down (l .5) (turn (at-before′′ .before)) (at-before′′ .if1 .left) (levels (at-before′′ .before)) (is-constructor (at-before′ .before)) (agrees (at-before .before)) (omega (arith, c .if7 .taken, l .1)))
 
-done-requires : tie.Need-done-requires Inv-loop μ-loop
-done-requires c κs = search needs
-
-sub-fits : tie.Need-sub-fits Inv-loop μ-loop
-sub-fits c = search needs
-
 fits-requires : tie.Need-fits-requires Inv-loop μ-loop
 fits-requires c κs =
     let at-done = c .before in
@@ -231,12 +183,6 @@ fits-requires c κs =
     let at-loop = at-before′′ .before .before .before .before in
     let start = at-loop .before .before .before in
     (start .pre .0, operand-is (turn (at-before′′ .before)) .0, is-constructor (at-before′ .before), handed (turn (at-before′′ .before)) (at-before′′ .if1 .left) (levels (at-before′′ .before)) (is-constructor (at-before′ .before)) (agrees (at-before .before)) (at-done .done .ensures), omega (arith, at-if6 .if6 .left, at-loop .loop .inv .3))
-
-told-requires-2 : tie.Need-told-requires-2 Inv-loop μ-loop
-told-requires-2 c κs = search needs
-
-enum-known-left-2 : tie.Need-enum-known-left-2 Inv-loop μ-loop
-enum-known-left-2 c = search needs
 
 returns-5 : tie.Need-returns-5 Inv-loop μ-loop
 returns-5 c =
@@ -279,9 +225,6 @@ loop-again-5 c =
     let f = leaf-matched (turn (at-before′′ .before)) (at-before′′ .if1 .left) (levels (at-before′′ .before)) (is-constructor (at-before′ .before)) (agrees (at-before .before)) (sym (at-before .operands2 .ensures) ∙ c .if5 .left) in
     (omega arith, l .1, omega (arith, l .2), l .3, going-long (l .5) (l .4) f, going-on (l .5) f)
 
-done-requires-2 : tie.Need-done-requires-2 Inv-loop μ-loop
-done-requires-2 c κs = search needs
-
 returns-6 : tie.Need-returns-6 Inv-loop μ-loop
 returns-6 c = c .before .before .loop .inv .5 .whole _ _ (matched-all _ _ _ _ _ _ _ _ (c .before .before .loop .i) _ (c .before .before .loop .inv .5 .so-far) (omega arith) (c .done2 .ensures) (c .before .before .loop .inv .2))
 
@@ -289,55 +232,11 @@ pub filled-spec : {M : Type 1} → statement M
 filled-spec =
     tie.close
     (tie.spec
-    Inv-loop
-    μ-loop
-    cast-t
-    cast-u
-    operands-requires
-    loop-holds
-    add-entry
-    entry-requires
-    add-word
-    word-requires
-    no-units-requires
-    returns
-    sub-u
-    add-i
-    kind-requires
-    entry-requires-2
-    element-copy-out-bit
-    bit-requires
-    cast-same
-    mul-same
-    element-copy-out-same
-    sub-same
-    same-requires
-    told-requires
-    enum-known-left
-    returns-2
-    loop-less
-    loop-again
-    put-variable-requires
-    loop-less-2
-    loop-again-2
-    agree-requires
-    failure-requires
-    returns-3
-    operands-requires-2
-    stopped-requires
-    returns-4
-    sub-d
-    loop-less-3
-    loop-again-3
-    done-requires
-    sub-fits
-    fits-requires
-    told-requires-2
-    enum-known-left-2
-    returns-5
-    loop-less-4
-    loop-again-4
-    loop-less-5
-    loop-again-5
-    done-requires-2
-    returns-6)
+    Inv-loop μ-loop (λ c. search needs) (λ c. search needs) (λ c κs. search needs) loop-holds add-entry entry-requires
+    add-word word-requires (λ c κs. search needs) returns (λ c. search needs) add-i kind-requires entry-requires-2
+    (λ c. search needs) bit-requires (λ c. search needs) mul-same element-copy-out-same (λ c. search needs)
+    (λ c κs. search needs) (λ c κs. search needs) (λ c. search needs) returns-2 loop-less loop-again
+    put-variable-requires loop-less-2 loop-again-2 agree-requires (λ c κs. search needs) returns-3 operands-requires-2
+    (λ c κs. search needs) returns-4 (λ c. search needs) loop-less-3 loop-again-3 (λ c κs. search needs)
+    (λ c. search needs) fits-requires (λ c κs. search needs) (λ c. search needs) returns-5 loop-less-4 loop-again-4
+    loop-less-5 loop-again-5 (λ c κs. search needs) returns-6)

@@ -28,59 +28,17 @@ is-constructor c = no-variable (c .before .before .before .before .before .args 
 agrees : (c : tie.Else5) → agreeing (c .before .before .before .before .before .before .before .args .table .now) (c .before .before .before .before .before .before .before .args .store .now) (c .before .before .before .before .before .before .before .args .p) (nodeIn (c .before .before .before .before .before .before .before .args .s)) ≡ true
 agrees c = sym (c .before .agree .ensures) ∙ not-false _ (c .if5 .left)
 
-cast-left : tie.Need-cast-left
-cast-left c = search needs
-
-no-units-requires : tie.Need-no-units-requires
-no-units-requires c κs = search needs
-
 returns : tie.Need-returns
 returns c = root-units (c .before .before .before .pre .0) _ (c .no-units .ensures) (c .before .if1 .taken)
-
-no-nesting-requires : tie.Need-no-nesting-requires
-no-nesting-requires c κs = search needs
 
 returns-2 : tie.Need-returns-2
 returns-2 c = root-nesting (c .before .before .before .before .pre .0) _ (c .no-nesting .ensures) (c .before .before .if1 .left) (c .before .if2 .taken)
 
-cast-t : tie.Need-cast-t
-cast-t c = search needs
-
-kind-requires : tie.Need-kind-requires
-kind-requires c κs = search needs
-
-entry-requires : tie.Need-entry-requires
-entry-requires c κs = search needs
-
-element-copy-out-bit : tie.Need-element-copy-out-bit
-element-copy-out-bit c = search needs
-
 bit-requires : tie.Need-bit-requires
 bit-requires c κs = small (c .before)
 
-cast-same : tie.Need-cast-same
-cast-same c = search needs
-
-mul-same : tie.Need-mul-same
-mul-same c = search needs
-
 element-copy-out-same : tie.Need-element-copy-out-same
 element-copy-out-same c = let v = small (c .before .before .before) in omega arith
-
-sub-same : tie.Need-sub-same
-sub-same c = search needs
-
-sub-same-2 : tie.Need-sub-same-2
-sub-same-2 c = search needs
-
-same-requires : tie.Need-same-requires
-same-requires c κs = search needs
-
-told-requires : tie.Need-told-requires
-told-requires c κs = search needs
-
-enum-known-u : tie.Need-enum-known-u
-enum-known-u c = search needs
 
 returns-3 : tie.Need-returns-3
 returns-3 c =
@@ -94,9 +52,6 @@ returns-3 c =
     let at-if1 = at-if2 .before in
     let start = at-if1 .before .before in
     root-bound-stops (start .pre .0) _ (at-if1 .if1 .left) (at-if2 .if2 .left) (is-variable (at-before .before)) (at-entry .entry .ensures) (sym (at-bit .bit .ensures) ∙ at-if4 .if4 .taken) _ (at-same .same .ensures _ (held (start .args .st .now)) (markOf (start .args .st .now))) _ (at-told .told .ensures) (c .match .keys2)
-
-done-requires : tie.Need-done-requires
-done-requires c κs = search needs
 
 returns-4 : tie.Need-returns-4
 returns-4 c =
@@ -115,9 +70,6 @@ returns-4 c =
 bind-requires : tie.Need-bind-requires
 bind-requires c κs = let v = small (c .before .before .before .before) in omega arith
 
-sub-result : tie.Need-sub-result
-sub-result c = search needs
-
 returns-5 : tie.Need-returns-5
 returns-5 c =
     let at-bind = c .before in
@@ -130,15 +82,6 @@ returns-5 c =
     let start = at-if1 .before .before in
     root-free (start .pre .0) _ (at-if1 .if1 .left) (at-if2 .if2 .left) (is-variable (at-before .before)) (at-entry .entry .ensures) (λ e. at-if4 .if4 .left (at-bit .bit .ensures ∙ e)) (at-bind .bind .ensures)
 
-agree-requires : tie.Need-agree-requires
-agree-requires c κs = search needs
-
-sub-failure : tie.Need-sub-failure
-sub-failure c = search needs
-
-failure-requires : tie.Need-failure-requires
-failure-requires c κs = search needs
-
 returns-6 : tie.Need-returns-6
 returns-6 c =
     let at-if5 = c .before in
@@ -148,12 +91,6 @@ returns-6 c =
     let start = at-if1 .before .before in
     root-other (start .pre .0) _ (at-if1 .if1 .left) (at-if2 .if2 .left) (is-constructor (at-agree .before)) (c .failure .ensures) (sym (at-agree .agree .ensures) ∙ not-true _ (at-if5 .if5 .taken))
 
-operands-requires : tie.Need-operands-requires
-operands-requires c κs = search needs
-
-sub-result-2 : tie.Need-sub-result-2
-sub-result-2 c = search needs
-
 returns-7 : tie.Need-returns-7
 returns-7 c =
     let at-before = c .before in
@@ -162,12 +99,6 @@ returns-7 c =
     let at-if1 = at-if2 .before in
     let start = at-if1 .before .before in
     root-leaf (start .pre .0) _ (at-if1 .if1 .left) (at-if2 .if2 .left) (is-constructor (at-before′ .before)) (agrees (at-before .before)) (sym (at-before .operands .ensures) ∙ c .if6 .taken)
-
-sub-stopped : tie.Need-sub-stopped
-sub-stopped c = search needs
-
-stopped-requires : tie.Need-stopped-requires
-stopped-requires c κs = search needs
 
 returns-8 : tie.Need-returns-8
 returns-8 c =
@@ -180,12 +111,6 @@ returns-8 c =
     let start = at-if1 .before .before in
     root-stopped (start .pre .0) _ (at-if1 .if1 .left) (at-if2 .if2 .left) (is-constructor (at-before′ .before)) (agrees (at-before .before)) (λ z. at-if6 .if6 .left (at-before .operands .ensures ∙ z)) (at-if7 .if7 .taken) (c .stopped .ensures)
 
-sub-filled : tie.Need-sub-filled
-sub-filled c = search needs
-
-sub-filled-2 : tie.Need-sub-filled-2
-sub-filled-2 c = search needs
-
 filled-requires : tie.Need-filled-requires
 filled-requires c κs =
     let at-if7 = c .before in
@@ -195,12 +120,6 @@ filled-requires c κs =
     let at-if1 = at-if2 .before in
     let start = at-if1 .before .before in
     (start .pre .0 .entries, start .pre .0 .inside, is-constructor (at-before′ .before), root-handed (start .pre .0) _ (at-if1 .if1 .left) (at-if2 .if2 .left) (is-constructor (at-before′ .before)) (agrees (at-before .before)), omega (arith, at-if7 .if7 .left), start .pre .0 .long)
-
-told-requires-2 : tie.Need-told-requires-2
-told-requires-2 c κs = search needs
-
-enum-known-u-2 : tie.Need-enum-known-u-2
-enum-known-u-2 c = search needs
 
 returns-9 : tie.Need-returns-9
 returns-9 c =
@@ -212,9 +131,6 @@ returns-9 c =
     let at-if1 = at-if2 .before in
     let start = at-if1 .before .before in
     root-stops (start .pre .0) _ (at-if1 .if1 .left) (at-if2 .if2 .left) (is-constructor (at-before′ .before)) (agrees (at-before .before)) _ _ (at-filled .filled .ensures) _ (at-told2 .told2 .ensures) (c .match2 .keys2)
-
-done-requires-2 : tie.Need-done-requires-2
-done-requires-2 c κs = search needs
 
 returns-10 : tie.Need-returns-10
 returns-10 c =
@@ -232,45 +148,11 @@ pub matching-spec : {M : Type 1} → statement M
 matching-spec =
     tie.close
     (tie.spec
-    cast-left
-    no-units-requires
-    returns
-    no-nesting-requires
-    returns-2
-    cast-t
-    kind-requires
-    entry-requires
-    element-copy-out-bit
-    bit-requires
-    cast-same
-    mul-same
-    element-copy-out-same
-    sub-same
-    sub-same-2
-    same-requires
-    told-requires
-    enum-known-u
-    returns-3
-    done-requires
-    returns-4
-    bind-requires
-    sub-result
-    returns-5
-    agree-requires
-    sub-failure
-    failure-requires
-    returns-6
-    operands-requires
-    sub-result-2
-    returns-7
-    sub-stopped
-    stopped-requires
-    returns-8
-    sub-filled
-    sub-filled-2
-    filled-requires
-    told-requires-2
-    enum-known-u-2
-    returns-9
-    done-requires-2
-    returns-10)
+    (λ c. search needs) (λ c κs. search needs) returns (λ c κs. search needs) returns-2 (λ c. search needs)
+    (λ c κs. search needs) (λ c κs. search needs) (λ c. search needs) bit-requires (λ c. search needs)
+    (λ c. search needs) element-copy-out-same (λ c. search needs) (λ c. search needs) (λ c κs. search needs)
+    (λ c κs. search needs) (λ c. search needs) returns-3 (λ c κs. search needs) returns-4 bind-requires
+    (λ c. search needs) returns-5 (λ c κs. search needs) (λ c. search needs) (λ c κs. search needs) returns-6
+    (λ c κs. search needs) (λ c. search needs) returns-7 (λ c. search needs) (λ c κs. search needs) returns-8
+    (λ c. search needs) (λ c. search needs) filled-requires (λ c κs. search needs) (λ c. search needs) returns-9
+    (λ c κs. search needs) returns-10)

@@ -5,21 +5,9 @@ use Rattle.engine.specs.Visits.{agreeing}
 use Rattle.engine.proofs.reading.agree.Statement.{statement}
 use Rattle.engine.proofs.reading.agree.Tie as tie
 
-entry-requires : tie.Need-entry-requires
-entry-requires c κs = search needs
-
-word-requires : tie.Need-word-requires
-word-requires c κs = search needs
-
 returns : tie.Need-returns
 unfolding agreeing
 returns c = rw (← (c .before .before .entry .ensures), ← (c .before .word .ensures), ne-eqb _ _ (c .if1 .taken))
-
-operands-requires : tie.Need-operands-requires
-operands-requires c κs = search needs
-
-count-requires : tie.Need-count-requires
-count-requires c κs = search needs
 
 returns-2 : tie.Need-returns-2
 unfolding agreeing
@@ -28,4 +16,4 @@ returns-2 c = rw (← (c .before .before .before .before .entry .ensures), ← (
 pub agree-spec : {M : Type 1} → statement M
 agree-spec =
     tie.close
-    (tie.spec entry-requires word-requires returns operands-requires count-requires returns-2)
+    (tie.spec (λ c κs. search needs) (λ c κs. search needs) returns (λ c κs. search needs) (λ c κs. search needs) returns-2)

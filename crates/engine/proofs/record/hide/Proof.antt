@@ -5,12 +5,9 @@ use Rattle.engine.specs.Record.{without}
 use Rattle.engine.proofs.record.hide.Statement.{statement}
 use Rattle.engine.proofs.record.hide.Tie as tie
 
-sub-result : tie.Need-sub-result
-sub-result c = search needs
-
 returns : tie.Need-returns
 unfolding without
 returns c = refl
 
 pub hide-spec : {M : Type 1} → statement M
-hide-spec = tie.close (tie.spec sub-result returns)
+hide-spec = tie.close (tie.spec (λ c. search needs) returns)

@@ -27,27 +27,6 @@ turn k rest outer st st′ l e =
     let n : 32 - k ≡ suc (32 - (k + 1)) = omega arith in
     rw (e, n)
 
-loop-holds : tie.Need-loop-holds Inv-loop μ-loop
-loop-holds c = search needs
-
-mul-st : tie.Need-mul-st Inv-loop μ-loop
-mul-st c = search needs
-
-array-read-st : tie.Need-array-read-st Inv-loop μ-loop
-array-read-st c = search needs
-
-mul-st-2 : tie.Need-mul-st-2 Inv-loop μ-loop
-mul-st-2 c = search needs
-
-element-write-st : tie.Need-element-write-st Inv-loop μ-loop
-element-write-st c = search needs
-
-add-k : tie.Need-add-k Inv-loop μ-loop
-add-k c = search needs
-
-loop-less : tie.Need-loop-less Inv-loop μ-loop
-loop-less c = search needs
-
 loop-again : tie.Need-loop-again Inv-loop μ-loop
 loop-again c = (
   omega arith,
@@ -65,14 +44,5 @@ pub put-back-spec : {M : Type 1} → statement M
 put-back-spec =
     tie.close
     (tie.spec
-    Inv-loop
-    μ-loop
-    loop-holds
-    mul-st
-    array-read-st
-    mul-st-2
-    element-write-st
-    add-k
-    loop-less
-    loop-again
-    returns)
+    Inv-loop μ-loop (λ c. search needs) (λ c. search needs) (λ c. search needs) (λ c. search needs) (λ c. search needs)
+    (λ c. search needs) (λ c. search needs) loop-again returns)

@@ -7,17 +7,8 @@ use borrow.Author.Needs.{needs}
 use Rattle.engine.proofs.skipping.skipped.Statement.{statement}
 use Rattle.engine.proofs.skipping.skipped.Tie as tie
 
-entry-requires : tie.Need-entry-requires
-entry-requires c κs = search needs
-
 returns : tie.Need-returns
 returns c = skips-none _
-
-entry-requires-2 : tie.Need-entry-requires-2
-entry-requires-2 c κs = search needs
-
-cast-agree : tie.Need-cast-agree
-cast-agree c = search needs
 
 agree-requires : tie.Need-agree-requires
 agree-requires c κs = rw (c .entry2 .ensures) (c .before .before .before .before .pre .2)
@@ -45,12 +36,5 @@ pub skipped-spec : {M : Type 1} → statement M
 skipped-spec =
     tie.close
     (tie.spec
-    entry-requires
-    returns
-    entry-requires-2
-    cast-agree
-    agree-requires
-    returns-2
-    returns-3
-    returns-4
-    returns-5)
+    (λ c κs. search needs) returns (λ c κs. search needs) (λ c. search needs) agree-requires returns-2 returns-3
+    returns-4 returns-5)

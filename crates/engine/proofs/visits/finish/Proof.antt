@@ -8,17 +8,11 @@ use Rattle.engine.proofs.visits.finish.Lts as lts
 use Rattle.engine.proofs.answers.failure.Reads as failure-reads
 use Rattle.engine.proofs.builder.node.Reads as node-reads
 
-failure-requires : tie.Need-failure-requires
-failure-requires c κs = search needs
-
 returns : tie.Need-returns
 returns c = finish-failed _ _ _ _ _ _ _ _ (c .before .before .if1 .taken) (c .before .if2 .taken) (c .failure .ensures) (c .before .before .before .before .fits .left .fits)
 
 node-requires : tie.Need-node-requires
 node-requires c κs = (c .before .before .before .before .before .pre .0, c .before .before .before .before .before .pre .1)
-
-same-length : tie.Need-same-length
-same-length c = search needs
 
 returns-2 : tie.Need-returns-2
 returns-2 c = finish-some _ _ _ _ _ _ _ _ (c .before .before .before .before .before .before .if1 .taken) (c .before .before .before .before .before .if2 .left) (c .before .before .node .ensures)
@@ -29,9 +23,6 @@ returns-3 c = finish-itself _ _ _ _ _ _ _ _ (c .before .if1 .left) (c .if3 .take
 node-requires-2 : tie.Need-node-requires-2
 node-requires-2 c κs = (c .before .before .before .before .before .pre .0, c .before .before .before .before .before .pre .1)
 
-same-length-2 : tie.Need-same-length-2
-same-length-2 c = search needs
-
 returns-4 : tie.Need-returns-4
 returns-4 c = finish-node _ _ _ _ _ _ _ _ (c .before .before .before .before .before .before .if1 .left) (c .before .before .before .before .before .if3 .left) (c .before .before .node2 .ensures)
 
@@ -39,12 +30,5 @@ pub finish-spec : {M : Type 1} → statement M
 finish-spec =
     tie.close
     (tie.spec
-    failure-requires
-    returns
-    node-requires
-    same-length
-    returns-2
-    returns-3
-    node-requires-2
-    same-length-2
-    returns-4)
+    (λ c κs. search needs) returns node-requires (λ c. search needs) returns-2 returns-3 node-requires-2
+    (λ c. search needs) returns-4)

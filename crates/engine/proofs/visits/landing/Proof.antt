@@ -4,17 +4,11 @@ use borrow.Author.Needs.{needs}
 use Rattle.engine.proofs.visits.landing.Statement.{statement}
 use Rattle.engine.proofs.visits.landing.Tie as tie
 
-entry-requires : tie.Need-entry-requires
-entry-requires c κs = search needs
-
 returns : tie.Need-returns
 returns c = rw (eq-eqb _ _ (c .before .if1 .taken)) (c .entry .ensures)
-
-entry-requires-2 : tie.Need-entry-requires-2
-entry-requires-2 c κs = search needs
 
 returns-2 : tie.Need-returns-2
 returns-2 c = rw (ne-eqb _ _ (c .before .if1 .left)) (c .entry2 .ensures)
 
 pub landing-spec : {M : Type 1} → statement M
-landing-spec = tie.close (tie.spec entry-requires returns entry-requires-2 returns-2)
+landing-spec = tie.close (tie.spec (λ c κs. search needs) returns (λ c κs. search needs) returns-2)

@@ -10,15 +10,6 @@ use Rattle.engine.proofs.visits.leap.Tie as tie
 returns : tie.Need-returns
 returns c = leaps-none
 
-kind-requires : tie.Need-kind-requires
-kind-requires c κs = search needs
-
-entry-requires : tie.Need-entry-requires
-entry-requires c κs = search needs
-
-entry-requires-2 : tie.Need-entry-requires-2
-entry-requires-2 c κs = search needs
-
 returns-2 : tie.Need-returns-2
 returns-2 c = leaps-hint (c .before .before .before .before .pre .0) (c .before .before .before .before .pre .1) (inl (sym (c .before .before .kind .ensures) ∙ c .before .match .keys1)) (omega (arith, c .before .before .before .if1 .left)) (c .entry .ensures)
 
@@ -31,4 +22,4 @@ returns-4 c = leaps-none
 pub leap-spec : {M : Type 1} → statement M
 leap-spec =
     tie.close
-    (tie.spec returns kind-requires entry-requires entry-requires-2 returns-2 returns-3 returns-4)
+    (tie.spec returns (λ c κs. search needs) (λ c κs. search needs) (λ c κs. search needs) returns-2 returns-3 returns-4)

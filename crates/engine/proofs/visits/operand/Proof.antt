@@ -4,12 +4,6 @@ use borrow.Author.Needs.{needs}
 use Rattle.engine.proofs.visits.operand.Statement.{statement}
 use Rattle.engine.proofs.visits.operand.Tie as tie
 
-add-entry : tie.Need-add-entry
-add-entry c = search needs
-
-entry-requires : tie.Need-entry-requires
-entry-requires c κs = search needs
-
 returns : tie.Need-returns
 returns c = rw (eq-eqb _ _ (c .before .if1 .taken)) (c .entry .ensures)
 
@@ -17,4 +11,4 @@ returns-2 : tie.Need-returns-2
 returns-2 c = rw (ne-eqb _ _ (c .if1 .left))
 
 pub operand-spec : {M : Type 1} → statement M
-operand-spec = tie.close (tie.spec add-entry entry-requires returns returns-2)
+operand-spec = tie.close (tie.spec (λ c. search needs) (λ c κs. search needs) returns returns-2)

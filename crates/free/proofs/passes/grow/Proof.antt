@@ -5,21 +5,6 @@ use borrow.Author.Needs.{needs}
 use Rattle.free.proofs.passes.grow.Statement.{statement}
 use Rattle.free.proofs.passes.grow.Tie as tie
 
-mask-at-requires : tie.Need-mask-at-requires
-mask-at-requires c κs = search needs
-
-rule-requires : tie.Need-rule-requires
-rule-requires c κs = search needs
-
-mul-masks : tie.Need-mul-masks
-mul-masks c = search needs
-
-slice-write-masks : tie.Need-slice-write-masks
-slice-write-masks c = search needs
-
-same-length : tie.Need-same-length
-same-length c = search needs
-
 returns : tie.Need-returns
 unfolding grows grown fuller
 returns c =
@@ -29,4 +14,4 @@ returns c =
 pub grow-spec : {M : Type 1} → statement M
 grow-spec =
     tie.close
-    (tie.spec mask-at-requires rule-requires mul-masks slice-write-masks same-length returns)
+    (tie.spec (λ c κs. search needs) (λ c κs. search needs) (λ c. search needs) (λ c. search needs) (λ c. search needs) returns)

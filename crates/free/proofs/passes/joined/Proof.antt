@@ -19,17 +19,11 @@ Inv-loop table masks e n all₀ i₀ all i =
 abbrev μ-loop : tie.MeasureT-loop
 μ-loop table masks e n all₀ i₀ all i = n - i
 
-operand-count-requires : tie.Need-operand-count-requires Inv-loop μ-loop
-operand-count-requires c κs = search needs
-
 loop-holds : tie.Need-loop-holds Inv-loop μ-loop
 loop-holds c = (omega arith, (c .operand-count .ensures, refl))
 
 held-requires : tie.Need-held-requires Inv-loop μ-loop
 held-requires c κs = omega arith
-
-mask-at-requires : tie.Need-mask-at-requires Inv-loop μ-loop
-mask-at-requires c κs = search needs
 
 add-i : tie.Need-add-i Inv-loop μ-loop
 add-i c = omega arith
@@ -60,13 +54,5 @@ pub joined-spec : {M : Type 1} → statement M
 joined-spec =
     tie.close
     (tie.spec
-    Inv-loop
-    μ-loop
-    operand-count-requires
-    loop-holds
-    held-requires
-    mask-at-requires
-    add-i
-    loop-less
-    loop-again
+    Inv-loop μ-loop (λ c κs. search needs) loop-holds held-requires (λ c κs. search needs) add-i loop-less loop-again
     returns)

@@ -6,19 +6,10 @@ use borrow.Author.Needs.{needs}
 use Rattle.free.proofs.passes.mask_of.Statement.{statement}
 use Rattle.free.proofs.passes.mask_of.Tie as tie
 
-slice-aggregate-settle : tie.Need-slice-aggregate-settle
-slice-aggregate-settle c = search needs
-
 settle-requires : tie.Need-settle-requires
 settle-requires c κs =
     let p = c .before .before .pre in
     (p .0, (omega (arith, p .0 .0 .most), zeros-sound _ 4096))
-
-slice-aggregate-mask-at : tie.Need-slice-aggregate-mask-at
-slice-aggregate-mask-at c = search needs
-
-mask-at-requires : tie.Need-mask-at-requires
-mask-at-requires c κs = search needs
 
 returns : tie.Need-returns
 returns c =
@@ -30,8 +21,4 @@ pub mask-of-spec : {M : Type 1} → statement M
 mask-of-spec =
     tie.close
     (tie.spec
-    slice-aggregate-settle
-    settle-requires
-    slice-aggregate-mask-at
-    mask-at-requires
-    returns)
+    (λ c. search needs) settle-requires (λ c. search needs) (λ c κs. search needs) returns)

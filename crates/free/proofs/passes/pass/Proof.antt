@@ -28,9 +28,6 @@ cast-e c = omega (arith, c .before .before .pre .0 .0 .most)
 loop-holds : tie.Need-loop-holds Inv-loop μ-loop
 loop-holds c = (omega arith, (refl, (refl, refl)))
 
-sub-e : tie.Need-sub-e Inv-loop μ-loop
-sub-e c = search needs
-
 grow-requires : tie.Need-grow-requires Inv-loop μ-loop
 grow-requires c κs =
     let p = c .before .before .before .before .before .pre in
@@ -74,9 +71,6 @@ loop-again-2 c =
       ),
     )
 
-same-length : tie.Need-same-length Inv-loop μ-loop
-same-length c = search needs
-
 returns : tie.Need-returns Inv-loop μ-loop
 returns c =
     let t = c .before .before .before .before .args .table .now in
@@ -90,15 +84,5 @@ pub pass-spec : {M : Type 1} → statement M
 pass-spec =
     tie.close
     (tie.spec
-    Inv-loop
-    μ-loop
-    cast-e
-    loop-holds
-    sub-e
-    grow-requires
-    loop-less
-    loop-again
-    loop-less-2
-    loop-again-2
-    same-length
-    returns)
+    Inv-loop μ-loop cast-e loop-holds (λ c. search needs) grow-requires loop-less loop-again loop-less-2 loop-again-2
+    (λ c. search needs) returns)

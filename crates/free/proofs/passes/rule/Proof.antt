@@ -19,20 +19,8 @@ is-18 c =
     let k = sym (c .before .before .kind-of .ensures) ∙ c .before .match .keys2 in
     (k, omega (arith, variable-below _ _ (c .before .before .before .before .before .pre) k, c .word2 .ensures))
 
-kind-of-requires : tie.Need-kind-of-requires
-kind-of-requires c κs = search needs
-
 joined-requires : tie.Need-joined-requires
 joined-requires c κs = operandCount-six _ _ (c .before .before .before .before .pre)
-
-word-requires : tie.Need-word-requires
-word-requires c κs = search needs
-
-sub-result : tie.Need-sub-result
-sub-result c = search needs
-
-word-requires-2 : tie.Need-word-requires-2
-word-requires-2 c κs = search needs
 
 shl-result : tie.Need-shl-result
 shl-result c = is-18 c .1
@@ -64,13 +52,5 @@ pub rule-spec : {M : Type 1} → statement M
 rule-spec =
     tie.close
     (tie.spec
-    kind-of-requires
-    joined-requires
-    word-requires
-    sub-result
-    word-requires-2
-    shl-result
-    joined-requires-2
-    returns
-    returns-2
-    returns-3)
+    (λ c κs. search needs) joined-requires (λ c κs. search needs) (λ c. search needs) (λ c κs. search needs) shl-result
+    joined-requires-2 returns returns-2 returns-3)

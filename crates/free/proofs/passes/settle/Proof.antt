@@ -49,13 +49,10 @@ loop-again c =
       ),
     )
 
-same-length : tie.Need-same-length Inv-loop μ-loop
-same-length c = search needs
-
 returns : tie.Need-returns Inv-loop μ-loop
 returns c = (c .before .loop .inv .1 .0 .sound, c .before .loop .inv .1 .1 (c .loop-test .left))
 
 pub settle-spec : {M : Type 1} → statement M
 settle-spec =
     tie.close
-    (tie.spec Inv-loop μ-loop loop-holds pass-requires loop-less loop-again same-length returns)
+    (tie.spec Inv-loop μ-loop loop-holds pass-requires loop-less loop-again (λ c. search needs) returns)

@@ -12,15 +12,6 @@ use Rattle.job.proofs.Answers.{answered-alone, answered-shown, length-a
 use Rattle.job.proofs.answer.answer.Statement.{statement}
 use Rattle.job.proofs.answer.answer.Tie as tie
 
-put-line-requires : tie.Need-put-line-requires
-put-line-requires c κs = search needs
-
-shows-requires : tie.Need-shows-requires
-shows-requires c κs = search needs
-
-same-length : tie.Need-same-length
-same-length c = search needs
-
 returns : tie.Need-returns
 returns c =
     let at-shows = c .before in
@@ -43,9 +34,6 @@ put-bindings-requires c κs =
       start .pre .2,
     )
 
-same-length-2 : tie.Need-same-length-2
-same-length-2 c = search needs
-
 returns-2 : tie.Need-returns-2
 returns-2 c =
     let at-put-bindings = c .before .before in
@@ -63,11 +51,5 @@ pub answer-spec : {M : Type 1} → statement M
 answer-spec =
     tie.close
     (tie.spec
-    put-line-requires
-    shows-requires
-    same-length
-    returns
-    put-nodes-requires
-    put-bindings-requires
-    same-length-2
-    returns-2)
+    (λ c κs. search needs) (λ c κs. search needs) (λ c. search needs) returns put-nodes-requires put-bindings-requires
+    (λ c. search needs) returns-2)

@@ -28,12 +28,6 @@ put-binding-requires c κs =
     let start = at-loop .before .before .before in
     (omega (arith, start .pre .0, at-loop .loop .inv .1, at-loop .loop .inv .2 .place, length-bindings (start .args .bindings .now) (at-loop .loop .v), at-loop-test .loop-test .taken), omega (arith, start .pre .1, at-loop-test .loop-test .taken))
 
-add-v : tie.Need-add-v Inv-loop μ-loop
-add-v c = search needs
-
-loop-less : tie.Need-loop-less Inv-loop μ-loop
-loop-less c = search needs
-
 loop-again : tie.Need-loop-again Inv-loop μ-loop
 loop-again c =
     let at-put-binding = c .before .before in
@@ -41,9 +35,6 @@ loop-again c =
     let at-loop = at-loop-test .before in
     let start = at-loop .before .before .before in
     (omega arith, at-put-binding .put-binding .kept .0 ∙ at-loop .loop .inv .1, bindings-more (start .args .bindings .now) (at-loop .loop .v) (omega (arith, start .pre .0, at-loop-test .loop-test .taken)) (at-loop .loop .inv .2) (at-put-binding .put-binding .ensures))
-
-same-length : tie.Need-same-length Inv-loop μ-loop
-same-length c = search needs
 
 returns : tie.Need-returns Inv-loop μ-loop
 returns c =
@@ -54,12 +45,5 @@ pub put-bindings-spec : {M : Type 1} → statement M
 put-bindings-spec =
     tie.close
     (tie.spec
-    Inv-loop
-    μ-loop
-    loop-holds
-    put-binding-requires
-    add-v
-    loop-less
-    loop-again
-    same-length
-    returns)
+    Inv-loop μ-loop loop-holds put-binding-requires (λ c. search needs) (λ c. search needs) loop-again
+    (λ c. search needs) returns)

@@ -6,18 +6,12 @@ use Rattle.job.specs.Answer.{answerLine}
 use Rattle.job.proofs.answer.put_line.Statement.{statement}
 use Rattle.job.proofs.answer.put_line.Tie as tie
 
-put-name-requires : tie.Need-put-name-requires
-put-name-requires c κs = search needs
-
 put-rest-requires : tie.Need-put-rest-requires
 put-rest-requires c κs = (omega arith, omega (arith, c .before .before .before .before .before .before .pre, c .before .before .before .put-name .ensures .place, c .before .before .before .put-name .kept .0))
-
-same-length : tie.Need-same-length
-same-length c = search needs
 
 returns : tie.Need-returns
 unfolding answerLine
 returns c = put-more (omega (arith, c .before .before .before .before .before .before .before .before .before .pre)) (c .before .before .before .before .before .before .put-name .ensures) (c .before .before .put-rest .ensures)
 
 pub put-line-spec : {M : Type 1} → statement M
-put-line-spec = tie.close (tie.spec put-name-requires put-rest-requires same-length returns)
+put-line-spec = tie.close (tie.spec (λ c κs. search needs) put-rest-requires (λ c. search needs) returns)

@@ -5,9 +5,6 @@ use Rattle.job.proofs.Put.{put-more}
 use Rattle.job.proofs.answer.put_name.Statement.{statement}
 use Rattle.job.proofs.answer.put_name.Tie as tie
 
-put-byte-requires : tie.Need-put-byte-requires
-put-byte-requires c κs = search needs
-
 put-byte-requires-2 : tie.Need-put-byte-requires-2
 put-byte-requires-2 c κs = omega (arith, c .before .before .before .before .before .before .pre, c .before .before .before .put-byte .ensures .place, c .before .before .before .put-byte .kept .0)
 
@@ -45,9 +42,6 @@ put-byte-requires-6 c κs =
     let start = at-put-byte .before .before .before in
     omega (arith, start .pre, at-put-byte .put-byte .ensures .place, at-put-byte .put-byte .kept .0, at-put-byte2 .put-byte2 .ensures .place, at-put-byte2 .put-byte2 .kept .0, at-put-byte3 .put-byte3 .ensures .place, at-put-byte3 .put-byte3 .kept .0, at-put-byte4 .put-byte4 .ensures .place, at-put-byte4 .put-byte4 .kept .0, at-put-byte5 .put-byte5 .ensures .place, at-put-byte5 .put-byte5 .kept .0)
 
-same-length : tie.Need-same-length
-same-length c = search needs
-
 returns : tie.Need-returns
 returns c =
     let at-put-byte6 = c .before .before in
@@ -62,11 +56,5 @@ pub put-name-spec : {M : Type 1} → statement M
 put-name-spec =
     tie.close
     (tie.spec
-    put-byte-requires
-    put-byte-requires-2
-    put-byte-requires-3
-    put-byte-requires-4
-    put-byte-requires-5
-    put-byte-requires-6
-    same-length
-    returns)
+    (λ c κs. search needs) put-byte-requires-2 put-byte-requires-3 put-byte-requires-4 put-byte-requires-5
+    put-byte-requires-6 (λ c. search needs) returns)

@@ -6,20 +6,8 @@ use Rattle.job.proofs.Answers.{node-put}
 use Rattle.job.proofs.answer.put_node.Statement.{statement}
 use Rattle.job.proofs.answer.put_node.Tie as tie
 
-word-requires : tie.Need-word-requires
-word-requires c κs = search needs
-
-node-shown-requires : tie.Need-node-shown-requires
-node-shown-requires c κs = search needs
-
-put-byte-requires : tie.Need-put-byte-requires
-put-byte-requires c κs = search needs
-
 put-rest-requires : tie.Need-put-rest-requires
 put-rest-requires c κs = (omega arith, omega (arith, c .before .before .before .before .before .before .before .before .before .before .pre, c .before .before .before .before .put-byte .ensures .place, c .before .before .before .before .put-byte .kept .0))
-
-same-length : tie.Need-same-length
-same-length c = search needs
 
 returns : tie.Need-returns
 returns c =
@@ -31,17 +19,8 @@ returns c =
     let start = at-word .before .before .before in
     node-put (start .args .store .now) (start .args .k) 7 (at-node-shown .node-shown .result) (omega (arith, start .pre)) (at-node-shown .node-shown .ensures) (omega (arith, at-word .word .ensures, at-if1 .if1 .taken)) (at-put-byte .put-byte .ensures) (at-put-rest .put-rest .ensures)
 
-cast-put-rest : tie.Need-cast-put-rest
-cast-put-rest c = search needs
-
-add-put-rest : tie.Need-add-put-rest
-add-put-rest c = search needs
-
 put-rest-requires-2 : tie.Need-put-rest-requires-2
 put-rest-requires-2 c κs = (omega arith, omega (arith, c .before .before .before .before .before .before .before .before .before .before .pre, c .before .if1 .left, c .before .before .before .before .put-byte .ensures .place, c .before .before .before .before .put-byte .kept .0))
-
-same-length-2 : tie.Need-same-length-2
-same-length-2 c = search needs
 
 returns-2 : tie.Need-returns-2
 returns-2 c =
@@ -57,14 +36,5 @@ pub put-node-spec : {M : Type 1} → statement M
 put-node-spec =
     tie.close
     (tie.spec
-    word-requires
-    node-shown-requires
-    put-byte-requires
-    put-rest-requires
-    same-length
-    returns
-    cast-put-rest
-    add-put-rest
-    put-rest-requires-2
-    same-length-2
-    returns-2)
+    (λ c κs. search needs) (λ c κs. search needs) (λ c κs. search needs) put-rest-requires (λ c. search needs) returns
+    (λ c. search needs) (λ c. search needs) put-rest-requires-2 (λ c. search needs) returns-2)

@@ -24,12 +24,6 @@ loop-holds c = (omega arith, refl, nodes-none (c .before .before .args .buf .now
 put-node-requires : tie.Need-put-node-requires Inv-loop μ-loop
 put-node-requires c κs = omega (arith, c .before .before .before .before .before .pre, c .before .before .loop .inv .1, c .before .before .loop .inv .2 .place, length-nodes (c .before .before .before .before .before .args .store .now) (c .before .before .loop .k), c .before .loop-test .taken)
 
-add-k : tie.Need-add-k Inv-loop μ-loop
-add-k c = search needs
-
-loop-less : tie.Need-loop-less Inv-loop μ-loop
-loop-less c = search needs
-
 loop-again : tie.Need-loop-again Inv-loop μ-loop
 loop-again c =
     let at-put-node = c .before .before in
@@ -37,9 +31,6 @@ loop-again c =
     let at-loop = at-loop-test .before in
     let start = at-loop .before .before .before in
     (omega arith, at-put-node .put-node .kept .0 ∙ at-loop .loop .inv .1, nodes-more (start .args .store .now) (at-loop .loop .k) (omega (arith, start .pre, at-loop-test .loop-test .taken)) (at-loop .loop .inv .2) (at-put-node .put-node .ensures))
-
-same-length : tie.Need-same-length Inv-loop μ-loop
-same-length c = search needs
 
 returns : tie.Need-returns Inv-loop μ-loop
 returns c =
@@ -50,12 +41,5 @@ pub put-nodes-spec : {M : Type 1} → statement M
 put-nodes-spec =
     tie.close
     (tie.spec
-    Inv-loop
-    μ-loop
-    loop-holds
-    put-node-requires
-    add-k
-    loop-less
-    loop-again
-    same-length
+    Inv-loop μ-loop loop-holds put-node-requires (λ c. search needs) (λ c. search needs) loop-again (λ c. search needs)
     returns)

@@ -9,15 +9,9 @@ returns : tie.Need-returns
 unfolding bindingFits
 returns c = rw (ne-eqb _ _ (c .if1 .taken))
 
-array-read-if2 : tie.Need-array-read-if2
-array-read-if2 c = search needs
-
 returns-2 : tie.Need-returns-2
 unfolding bindingFits
 returns-2 c = rw (eq-eqb _ _ (c .before .if1 .left), le-ltb _ _ (c .if2 .taken))
-
-array-read-result : tie.Need-array-read-result
-array-read-result c = search needs
 
 returns-3 : tie.Need-returns-3
 unfolding bindingFits
@@ -25,4 +19,4 @@ returns-3 c = rw (eq-eqb _ _ (c .before .if1 .left), lt-ltb _ _ (c .if2 .left))
 
 pub binding-fits-spec : {M : Type 1} → statement M
 binding-fits-spec =
-    tie.close (tie.spec returns array-read-if2 returns-2 array-read-result returns-3)
+    tie.close (tie.spec returns (λ c. search needs) returns-2 (λ c. search needs) returns-3)

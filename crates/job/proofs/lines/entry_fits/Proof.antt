@@ -13,12 +13,9 @@ returns-2 : tie.Need-returns-2
 unfolding entryFits
 returns-2 c = rw (le-leb _ _ (c .before .if1 .left), lt-leb _ _ (c .if2 .taken))
 
-array-read-result : tie.Need-array-read-result
-array-read-result c = search needs
-
 returns-3 : tie.Need-returns-3
 unfolding entryFits
 returns-3 c = rw (le-leb _ _ (c .before .if1 .left), le-leb _ _ (c .if2 .left))
 
 pub entry-fits-spec : {M : Type 1} → statement M
-entry-fits-spec = tie.close (tie.spec returns returns-2 array-read-result returns-3)
+entry-fits-spec = tie.close (tie.spec returns returns-2 (λ c. search needs) returns-3)

@@ -5,29 +5,17 @@ use Rattle.job.specs.Lines.{fits}
 use Rattle.job.proofs.lines.fits.Statement.{statement}
 use Rattle.job.proofs.lines.fits.Tie as tie
 
-job-fits-requires : tie.Need-job-fits-requires
-job-fits-requires c κs = search needs
-
 returns : tie.Need-returns
 unfolding fits
 returns c = rw (eq-eqb _ _ (c .before .if1 .taken)) (c .job-fits .ensures)
-
-entry-fits-requires : tie.Need-entry-fits-requires
-entry-fits-requires c κs = search needs
 
 returns-2 : tie.Need-returns-2
 unfolding fits
 returns-2 c = rw (ne-eqb _ _ (c .before .before .if1 .left), eq-eqb _ _ (c .before .if2 .taken)) (c .entry-fits .ensures)
 
-node-fits-requires : tie.Need-node-fits-requires
-node-fits-requires c κs = search needs
-
 returns-3 : tie.Need-returns-3
 unfolding fits
 returns-3 c = rw (ne-eqb _ _ (c .before .before .before .if1 .left), ne-eqb _ _ (c .before .before .if2 .left), eq-eqb _ _ (c .before .if3 .taken)) (c .node-fits .ensures)
-
-binding-fits-requires : tie.Need-binding-fits-requires
-binding-fits-requires c κs = search needs
 
 returns-4 : tie.Need-returns-4
 unfolding fits
@@ -41,12 +29,5 @@ pub fits-spec : {M : Type 1} → statement M
 fits-spec =
     tie.close
     (tie.spec
-    job-fits-requires
-    returns
-    entry-fits-requires
-    returns-2
-    node-fits-requires
-    returns-3
-    binding-fits-requires
-    returns-4
-    returns-5)
+    (λ c κs. search needs) returns (λ c κs. search needs) returns-2 (λ c κs. search needs) returns-3
+    (λ c κs. search needs) returns-4 returns-5)

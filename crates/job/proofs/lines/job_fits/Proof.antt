@@ -9,12 +9,9 @@ returns : tie.Need-returns
 unfolding jobFits
 returns c = rw (ne-eqb _ _ (c .if1 .taken))
 
-array-read-result : tie.Need-array-read-result
-array-read-result c = search needs
-
 returns-2 : tie.Need-returns-2
 unfolding jobFits
 returns-2 c = rw (eq-eqb _ _ (c .if1 .left))
 
 pub job-fits-spec : {M : Type 1} → statement M
-job-fits-spec = tie.close (tie.spec returns array-read-result returns-2)
+job-fits-spec = tie.close (tie.spec returns (λ c. search needs) returns-2)

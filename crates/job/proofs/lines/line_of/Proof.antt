@@ -7,20 +7,11 @@ use Rattle.job.proofs.Shapes.{name-end, bad-line, good-line}
 use Rattle.job.proofs.lines.line_of.Statement.{statement}
 use Rattle.job.proofs.lines.line_of.Tie as tie
 
-next-at-requires : tie.Need-next-at-requires
-next-at-requires c κs = search needs
-
 numbers-requires : tie.Need-numbers-requires
 numbers-requires c κs = name-end (c .before .before .args .line .now) (c .next-at .result) (c .next-at .ensures)
 
 slice-aggregate-name : tie.Need-slice-aggregate-name
 slice-aggregate-name c = sym (length-take-le (c .before .before .before .next-at .result) (c .before .before .before .before .before .args .line .now) (name-end (c .before .before .before .before .before .args .line .now) (c .before .before .before .next-at .result) (c .before .before .before .next-at .ensures) .0))
-
-name-requires : tie.Need-name-requires
-name-requires c κs = search needs
-
-fits-requires : tie.Need-fits-requires
-fits-requires c κs = search needs
 
 returns : tie.Need-returns
 returns c =
@@ -44,10 +35,5 @@ pub line-of-spec : {M : Type 1} → statement M
 line-of-spec =
     tie.close
     (tie.spec
-    next-at-requires
-    numbers-requires
-    slice-aggregate-name
-    name-requires
-    fits-requires
-    returns
+    (λ c κs. search needs) numbers-requires slice-aggregate-name (λ c κs. search needs) (λ c κs. search needs) returns
     returns-2)

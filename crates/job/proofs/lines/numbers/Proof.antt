@@ -31,12 +31,6 @@ loop-holds c = (omega arith, c .before .pre .0, c .before .pre .1, filled-none, 
 returns : tie.Need-returns Inv-loop μ-loop
 returns c = sym (ap numbersHeld (sym (c .before .before .loop .inv .4) ∙ numbers-over (c .before .before .before .before .args .line .now) (c .before .before .loop .i) (c .before .loop-test .taken) (c .before .before .loop .inv .2 (c .before .loop-test .taken)) _ (c .before .before .loop .count) _ refl (c .if1 .taken)))
 
-add-start : tie.Need-add-start Inv-loop μ-loop
-add-start c = search needs
-
-next-at-requires : tie.Need-next-at-requires Inv-loop μ-loop
-next-at-requires c κs = search needs
-
 sub-number : tie.Need-sub-number Inv-loop μ-loop
 sub-number c = let h : _ = field-end (c .before .before .before .before .before .args .line .now) (c .before .before .before .loop .i) (c .before .before .loop-test .taken) (c .before .before .before .loop .inv .2 (c .before .before .loop-test .taken)) (c .next-at .result) (c .next-at .ensures) in omega arith
 
@@ -45,15 +39,6 @@ part-number-start c = let h : _ = field-end (c .before .before .before .before .
 
 part-number-end : tie.Need-part-number-end Inv-loop μ-loop
 part-number-end c = let h : _ = field-end (c .before .before .before .before .before .args .line .now) (c .before .before .before .loop .i) (c .before .before .loop-test .taken) (c .before .before .before .loop .inv .2 (c .before .before .loop-test .taken)) (c .next-at .result) (c .next-at .ensures) in omega arith
-
-number-requires : tie.Need-number-requires Inv-loop μ-loop
-number-requires c κs = search needs
-
-enum-known-field : tie.Need-enum-known-field Inv-loop μ-loop
-enum-known-field c = search needs
-
-enum-told : tie.Need-enum-told Inv-loop μ-loop
-enum-told c = search needs
 
 returns-2 : tie.Need-returns-2 Inv-loop μ-loop
 returns-2 c =
@@ -66,18 +51,6 @@ returns-2 c =
     sym (ap numbersHeld
     (sym (at-loop .loop .inv .4)
     ∙ numbers-bad (start .args .line .now) (at-loop .loop .i) (at-loop-test .loop-test .taken) (at-loop .loop .inv .2 (at-loop-test .loop-test .taken)) _ (at-loop .loop .count) (at-next-at .next-at .result) (at-next-at .next-at .ensures) (at-if1 .if1 .left) (sym (ap valueOf (c .enum-told .given .1)) ∙ at-number .number .ensures)))
-
-cast-at : tie.Need-cast-at Inv-loop μ-loop
-cast-at c = search needs
-
-mul-at : tie.Need-mul-at Inv-loop μ-loop
-mul-at c = search needs
-
-array-write-at : tie.Need-array-write-at Inv-loop μ-loop
-array-write-at c = search needs
-
-add-count : tie.Need-add-count Inv-loop μ-loop
-add-count c = search needs
 
 loop-less : tie.Need-loop-less Inv-loop μ-loop
 loop-less c =
@@ -115,23 +88,6 @@ pub numbers-spec : {M : Type 1} → statement M
 numbers-spec =
     tie.close
     (tie.spec
-    Inv-loop
-    μ-loop
-    loop-holds
-    returns
-    add-start
-    next-at-requires
-    sub-number
-    part-number-start
-    part-number-end
-    number-requires
-    enum-known-field
-    enum-told
-    returns-2
-    cast-at
-    mul-at
-    array-write-at
-    add-count
-    loop-less
-    loop-again
-    returns-3)
+    Inv-loop μ-loop loop-holds returns (λ c. search needs) (λ c κs. search needs) sub-number part-number-start
+    part-number-end (λ c κs. search needs) (λ c. search needs) (λ c. search needs) returns-2 (λ c. search needs)
+    (λ c. search needs) (λ c. search needs) (λ c. search needs) loop-less loop-again returns-3)

@@ -5,24 +5,6 @@ use Rattle.job.proofs.Readings.{cleared-zeros}
 use Rattle.job.proofs.read.clear_all.Statement.{statement}
 use Rattle.job.proofs.read.clear_all.Tie as tie
 
-clear-from-requires : tie.Need-clear-from-requires
-clear-from-requires c κs = search needs
-
-clear-from-requires-2 : tie.Need-clear-from-requires-2
-clear-from-requires-2 c κs = search needs
-
-clear-from-requires-3 : tie.Need-clear-from-requires-3
-clear-from-requires-3 c κs = search needs
-
-same-length : tie.Need-same-length
-same-length c = search needs
-
-same-length-2 : tie.Need-same-length-2
-same-length-2 c = search needs
-
-same-length-3 : tie.Need-same-length-3
-same-length-3 c = search needs
-
 returns : tie.Need-returns
 returns c =
     let at-clear-from3 = c .before .before in
@@ -38,10 +20,5 @@ pub clear-all-spec : {M : Type 1} → statement M
 clear-all-spec =
     tie.close
     (tie.spec
-    clear-from-requires
-    clear-from-requires-2
-    clear-from-requires-3
-    same-length
-    same-length-2
-    same-length-3
-    returns)
+    (λ c κs. search needs) (λ c κs. search needs) (λ c κs. search needs) (λ c. search needs) (λ c. search needs)
+    (λ c. search needs) returns)

@@ -14,9 +14,6 @@ entry-row-requires c κs = let h : _ = c .before .before .pre .1 (c .if1 .taken)
 put-row-requires : tie.Need-put-row-requires
 put-row-requires c κs = let h : _ = c .before .before .before .before .pre .1 (c .before .before .if1 .taken) in omega arith
 
-same-length : tie.Need-same-length
-same-length c = search needs
-
 returns : tie.Need-returns
 unfolding tableWith
 returns c =
@@ -32,4 +29,4 @@ returns-2 c = rw (ne-eqb _ _ (c .if1 .left))
 
 pub put-entry-spec : {M : Type 1} → statement M
 put-entry-spec =
-    tie.close (tie.spec entry-row-requires put-row-requires same-length returns returns-2)
+    tie.close (tie.spec entry-row-requires put-row-requires (λ c. search needs) returns returns-2)

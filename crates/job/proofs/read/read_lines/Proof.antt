@@ -30,18 +30,6 @@ abbrev μ-loop : tie.MeasureT-loop
 loop-holds : tie.Need-loop-holds Inv-loop μ-loop
 loop-holds c = (omega arith, omega arith, c .before .before .before .before .pre .1, c .before .before .before .before .pre .2, c .before .before .before .before .pre .3, omega arith, omega arith, refl)
 
-line-from-requires : tie.Need-line-from-requires Inv-loop μ-loop
-line-from-requires c κs = search needs
-
-same-length : tie.Need-same-length Inv-loop μ-loop
-same-length c = search needs
-
-same-length-2 : tie.Need-same-length-2 Inv-loop μ-loop
-same-length-2 c = search needs
-
-same-length-3 : tie.Need-same-length-3 Inv-loop μ-loop
-same-length-3 c = search needs
-
 returns : tie.Need-returns Inv-loop μ-loop
 returns c =
     let at-line-from = c .before in
@@ -49,21 +37,6 @@ returns c =
     let at-loop = at-loop-test .before in
     let start = at-loop .before .before .before .before .before in
     stopped _ (at-loop .loop .n) (at-loop .loop .table) (at-loop .loop .store) (at-loop .loop .bindings) (sym (at-loop .loop .inv .7) ∙ reads-bad (start .args .text .now) (at-loop .loop .at) (at-line-from .line-from .result) (at-line-from .line-from .ensures) (at-loop-test .loop-test .taken) (record { heading = at-loop .loop .h; table = at-loop .loop .table; store = at-loop .loop .store; bindings = at-loop .loop .bindings }) (at-loop .loop .n) (c .if1 .taken))
-
-array-read-admits : tie.Need-array-read-admits Inv-loop μ-loop
-array-read-admits c = search needs
-
-admits-requires : tie.Need-admits-requires Inv-loop μ-loop
-admits-requires c κs = search needs
-
-same-length-4 : tie.Need-same-length-4 Inv-loop μ-loop
-same-length-4 c = search needs
-
-same-length-5 : tie.Need-same-length-5 Inv-loop μ-loop
-same-length-5 c = search needs
-
-same-length-6 : tie.Need-same-length-6 Inv-loop μ-loop
-same-length-6 c = search needs
 
 returns-2 : tie.Need-returns-2 Inv-loop μ-loop
 returns-2 c =
@@ -153,30 +126,12 @@ loop-again c =
           ∙ at-loop .loop .inv .7,
     )
 
-same-length-7 : tie.Need-same-length-7 Inv-loop μ-loop
-same-length-7 c = search needs
-
-same-length-8 : tie.Need-same-length-8 Inv-loop μ-loop
-same-length-8 c = search needs
-
-same-length-9 : tie.Need-same-length-9 Inv-loop μ-loop
-same-length-9 c = search needs
-
 returns-3 : tie.Need-returns-3 Inv-loop μ-loop
 returns-3 c =
     let at-loop-test = c .before .before in
     let at-loop = at-loop-test .before in
     let start = at-loop .before .before .before .before .before in
     stopped _ (at-loop .loop .n) (at-loop .loop .table) (at-loop .loop .store) (at-loop .loop .bindings) (sym (at-loop .loop .inv .7) ∙ reads-none (start .args .text .now) (at-loop .loop .at) (record { heading = at-loop .loop .h; table = at-loop .loop .table; store = at-loop .loop .store; bindings = at-loop .loop .bindings }) (at-loop .loop .n) (at-loop-test .loop-test .left) (c .if3 .taken))
-
-same-length-10 : tie.Need-same-length-10 Inv-loop μ-loop
-same-length-10 c = search needs
-
-same-length-11 : tie.Need-same-length-11 Inv-loop μ-loop
-same-length-11 c = search needs
-
-same-length-12 : tie.Need-same-length-12 Inv-loop μ-loop
-same-length-12 c = search needs
 
 returns-4 : tie.Need-returns-4 Inv-loop μ-loop
 returns-4 c =
@@ -189,32 +144,8 @@ pub read-lines-spec : {M : Type 1} → statement M
 read-lines-spec =
     tie.close
     (tie.spec
-    Inv-loop
-    μ-loop
-    loop-holds
-    line-from-requires
-    same-length
-    same-length-2
-    same-length-3
-    returns
-    array-read-admits
-    admits-requires
-    same-length-4
-    same-length-5
-    same-length-6
-    returns-2
-    put-entry-requires
-    put-node-requires
-    put-binding-requires
-    advanced-requires
-    add-n
-    loop-less
-    loop-again
-    same-length-7
-    same-length-8
-    same-length-9
-    returns-3
-    same-length-10
-    same-length-11
-    same-length-12
-    returns-4)
+    Inv-loop μ-loop loop-holds (λ c κs. search needs) (λ c. search needs) (λ c. search needs) (λ c. search needs)
+    returns (λ c. search needs) (λ c κs. search needs) (λ c. search needs) (λ c. search needs) (λ c. search needs)
+    returns-2 put-entry-requires put-node-requires put-binding-requires advanced-requires add-n loop-less loop-again
+    (λ c. search needs) (λ c. search needs) (λ c. search needs) returns-3 (λ c. search needs) (λ c. search needs)
+    (λ c. search needs) returns-4)

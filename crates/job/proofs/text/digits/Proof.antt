@@ -18,23 +18,11 @@ abbrev μ-loop : tie.MeasureT-loop
 loop-holds : tie.Need-loop-holds Inv-loop μ-loop
 loop-holds c = (omega arith, omega arith, refl)
 
-shared-slice-read-b : tie.Need-shared-slice-read-b Inv-loop μ-loop
-shared-slice-read-b c = search needs
-
 returns : tie.Need-returns Inv-loop μ-loop
 returns c = sym (valued-low (c .before .before .before .before .args .field .now) (c .before .before .before .loop .i) (c .before .before .before .loop .value) (c .before .before .loop-test .taken) (c .if1 .taken)) ∙ c .before .before .before .loop .inv .2
 
 returns-2 : tie.Need-returns-2 Inv-loop μ-loop
 returns-2 c = sym (valued-high (c .before .before .before .before .before .args .field .now) (c .before .before .before .before .loop .i) (c .before .before .before .before .loop .value) (c .before .before .before .loop-test .taken) (c .before .if1 .left) (c .if2 .taken)) ∙ c .before .before .before .before .loop .inv .2
-
-mul-value : tie.Need-mul-value Inv-loop μ-loop
-mul-value c = search needs
-
-cast-value : tie.Need-cast-value Inv-loop μ-loop
-cast-value c = search needs
-
-add-value : tie.Need-add-value Inv-loop μ-loop
-add-value c = search needs
 
 returns-3 : tie.Need-returns-3 Inv-loop μ-loop
 returns-3 c =
@@ -45,12 +33,6 @@ returns-3 c =
     let start = at-loop .before in
     sym (valued-over (start .args .field .now) (at-loop .loop .i) (at-loop .loop .value) (at-loop-test .loop-test .taken) (at-if1 .if1 .left) (at-if2 .if2 .left) (c .if3 .taken)) ∙ at-loop .loop .inv .2
 
-add-i : tie.Need-add-i Inv-loop μ-loop
-add-i c = search needs
-
-loop-less : tie.Need-loop-less Inv-loop μ-loop
-loop-less c = search needs
-
 loop-again : tie.Need-loop-again Inv-loop μ-loop
 loop-again c =
     let at-if2 = c .before in
@@ -60,9 +42,6 @@ loop-again c =
     let start = at-loop .before in
     (omega arith, c .if3 .left, sym (valued-on (start .args .field .now) (at-loop .loop .i) (at-loop .loop .value) (at-loop-test .loop-test .taken) (at-if1 .if1 .left) (at-if2 .if2 .left) (c .if3 .left)) ∙ at-loop .loop .inv .2)
 
-cast-t11 : tie.Need-cast-t11 Inv-loop μ-loop
-cast-t11 c = search needs
-
 returns-4 : tie.Need-returns-4 Inv-loop μ-loop
 returns-4 c = sym (valued-end (c .before .before .args .field .now) (c .before .loop .i) (c .before .loop .value) (c .loop-test .left)) ∙ c .before .loop .inv .2
 
@@ -70,18 +49,5 @@ pub digits-spec : {M : Type 1} → statement M
 digits-spec =
     tie.close
     (tie.spec
-    Inv-loop
-    μ-loop
-    loop-holds
-    shared-slice-read-b
-    returns
-    returns-2
-    mul-value
-    cast-value
-    add-value
-    returns-3
-    add-i
-    loop-less
-    loop-again
-    cast-t11
-    returns-4)
+    Inv-loop μ-loop loop-holds (λ c. search needs) returns returns-2 (λ c. search needs) (λ c. search needs)
+    (λ c. search needs) returns-3 (λ c. search needs) (λ c. search needs) loop-again (λ c. search needs) returns-4)

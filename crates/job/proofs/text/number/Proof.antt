@@ -8,12 +8,6 @@ use Rattle.job.proofs.text.number.Tie as tie
 returns : tie.Need-returns
 returns c = sym (number-none (c .before .before .args .field .now) (c .if1 .taken))
 
-shared-slice-read-if2 : tie.Need-shared-slice-read-if2
-shared-slice-read-if2 c = search needs
-
-digits-requires : tie.Need-digits-requires
-digits-requires c κs = search needs
-
 returns-2 : tie.Need-returns-2
 returns-2 c = c .digits .ensures ∙ sym (number-digits (c .before .before .before .before .before .args .field .now) (c .before .before .before .if1 .left) (c .before .if2 .taken))
 
@@ -26,4 +20,4 @@ returns-4 c = sym (number-leading (c .before .before .before .before .before .ar
 pub number-spec : {M : Type 1} → statement M
 number-spec =
     tie.close
-    (tie.spec returns shared-slice-read-if2 digits-requires returns-2 returns-3 returns-4)
+    (tie.spec returns (λ c. search needs) (λ c κs. search needs) returns-2 returns-3 returns-4)

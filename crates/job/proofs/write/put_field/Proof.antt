@@ -5,17 +5,11 @@ use Rattle.job.proofs.Put.{put-more}
 use Rattle.job.proofs.write.put_field.Statement.{statement}
 use Rattle.job.proofs.write.put_field.Tie as tie
 
-put-byte-requires : tie.Need-put-byte-requires
-put-byte-requires c κs = search needs
-
 put-digits-requires : tie.Need-put-digits-requires
 put-digits-requires c κs = omega (arith, c .before .before .before .before .before .before .pre, c .before .before .before .put-byte .ensures .place, c .before .before .before .put-byte .kept .0)
-
-same-length : tie.Need-same-length
-same-length c = search needs
 
 returns : tie.Need-returns
 returns c = put-more (omega (arith, c .before .before .before .before .before .before .before .before .before .pre)) (c .before .before .before .before .before .before .put-byte .ensures) (c .before .before .put-digits .ensures)
 
 pub put-field-spec : {M : Type 1} → statement M
-put-field-spec = tie.close (tie.spec put-byte-requires put-digits-requires same-length returns)
+put-field-spec = tie.close (tie.spec (λ c κs. search needs) put-digits-requires (λ c. search needs) returns)

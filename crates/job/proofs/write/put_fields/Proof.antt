@@ -23,20 +23,8 @@ loop-holds : tie.Need-loop-holds Inv-loop μ-loop
 unfolding numbersText
 loop-holds c = (omega arith, search needs, refl, put-none (c .before .args .buf .now) (c .before .args .start))
 
-mul-put-field : tie.Need-mul-put-field Inv-loop μ-loop
-mul-put-field c = search needs
-
-array-read-put-field : tie.Need-array-read-put-field Inv-loop μ-loop
-array-read-put-field c = search needs
-
 put-field-requires : tie.Need-put-field-requires Inv-loop μ-loop
 put-field-requires c κs = omega (arith, c .before .before .before .before .pre .1, c .before .before .loop .inv .2, c .before .before .loop .inv .3 .place, length-fields (c .before .before .before .before .args .t4) (c .before .before .loop .i), c .before .loop-test .taken)
-
-add-i : tie.Need-add-i Inv-loop μ-loop
-add-i c = search needs
-
-loop-less : tie.Need-loop-less Inv-loop μ-loop
-loop-less c = search needs
 
 loop-again : tie.Need-loop-again Inv-loop μ-loop
 loop-again c =
@@ -49,9 +37,6 @@ loop-again c =
       fields-more (start .args .t4) (at-loop .loop .i) (omega (arith, start .pre .0, at-loop .loop .inv .1)) (omega (arith, start .pre .1, length-fields (start .args .t4) (at-loop .loop .i))) (at-loop .loop .inv .3) (at-put-field .put-field .ensures),
     )
 
-same-length : tie.Need-same-length Inv-loop μ-loop
-same-length c = search needs
-
 returns : tie.Need-returns Inv-loop μ-loop
 returns c =
     let e : c .before .loop .i ≡ c .before .before .before .args .n = omega arith in
@@ -61,14 +46,5 @@ pub put-fields-spec : {M : Type 1} → statement M
 put-fields-spec =
     tie.close
     (tie.spec
-    Inv-loop
-    μ-loop
-    loop-holds
-    mul-put-field
-    array-read-put-field
-    put-field-requires
-    add-i
-    loop-less
-    loop-again
-    same-length
-    returns)
+    Inv-loop μ-loop loop-holds (λ c. search needs) (λ c. search needs) put-field-requires (λ c. search needs)
+    (λ c. search needs) loop-again (λ c. search needs) returns)

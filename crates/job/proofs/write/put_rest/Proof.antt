@@ -5,17 +5,11 @@ use Rattle.job.proofs.Put.{put-more, length-fields}
 use Rattle.job.proofs.write.put_rest.Statement.{statement}
 use Rattle.job.proofs.write.put_rest.Tie as tie
 
-put-fields-requires : tie.Need-put-fields-requires
-put-fields-requires c κs = search needs
-
 put-byte-requires : tie.Need-put-byte-requires
 put-byte-requires c κs =
     let at-put-fields = c .before .before .before in
     let start = at-put-fields .before .before .before in
     omega (arith, start .pre .1, at-put-fields .put-fields .ensures .place, at-put-fields .put-fields .kept .0, length-fields (start .args .numbers) (start .args .n))
-
-same-length : tie.Need-same-length
-same-length c = search needs
 
 returns : tie.Need-returns
 returns c =
@@ -25,4 +19,4 @@ returns c =
     put-more (omega (arith, start .pre .1, length-fields (start .args .numbers) (start .args .n))) (at-put-fields .put-fields .ensures) (at-put-byte .put-byte .ensures)
 
 pub put-rest-spec : {M : Type 1} → statement M
-put-rest-spec = tie.close (tie.spec put-fields-requires put-byte-requires same-length returns)
+put-rest-spec = tie.close (tie.spec (λ c κs. search needs) put-byte-requires (λ c. search needs) returns)

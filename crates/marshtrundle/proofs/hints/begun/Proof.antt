@@ -5,26 +5,8 @@ use borrow.Author.Needs.{needs}
 use Rattle.marshtrundle.proofs.hints.begun.Statement.{statement}
 use Rattle.marshtrundle.proofs.hints.begun.Tie as tie
 
-kind-of-requires : tie.Need-kind-of-requires
-kind-of-requires c κs = search needs
-
-first-requires : tie.Need-first-requires
-first-requires c κs = search needs
-
-returns : tie.Need-returns
-returns c = search needs
-
-word-requires : tie.Need-word-requires
-word-requires c κs = search needs
-
-first-requires-2 : tie.Need-first-requires-2
-first-requires-2 c κs = search needs
-
 returns-2 : tie.Need-returns-2
 returns-2 c = begun-none (c .if2 .taken)
-
-add-t4 : tie.Need-add-t4
-add-t4 c = search needs
 
 returns-3 : tie.Need-returns-3
 returns-3 c = begun-scope (c .before .before .before .before .word .ensures) (c .before .before .before .first2 .ensures) (c .before .if2 .left) (sym (c .before .before .before .before .before .before .kind-of .ensures) ∙ c .before .before .before .before .before .if1 .left)
@@ -33,11 +15,5 @@ pub begun-spec : {M : Type 1} → statement M
 begun-spec =
     tie.close
     (tie.spec
-    kind-of-requires
-    first-requires
-    returns
-    word-requires
-    first-requires-2
-    returns-2
-    add-t4
-    returns-3)
+    (λ c κs. search needs) (λ c κs. search needs) (λ c. search needs) (λ c κs. search needs) (λ c κs. search needs)
+    returns-2 (λ c. search needs) returns-3)

@@ -6,32 +6,14 @@ use borrow.Author.Needs.{needs}
 use Rattle.marshtrundle.proofs.hints.known.Statement.{statement}
 use Rattle.marshtrundle.proofs.hints.known.Tie as tie
 
-kind-of-requires : tie.Need-kind-of-requires
-kind-of-requires c κs = search needs
-
-word-requires : tie.Need-word-requires
-word-requires c κs = search needs
-
-begun-requires : tie.Need-begun-requires
-begun-requires c κs = search needs
-
 returns : tie.Need-returns
 returns c = noted-choice (c .before .before .word .ensures) (inl (sym (c .before .before .before .kind-of .ensures) ∙ c .before .if1 .taken)) (c .begun .ensures)
-
-begun-requires-2 : tie.Need-begun-requires-2
-begun-requires-2 c κs = search needs
 
 returns-2 : tie.Need-returns-2
 returns-2 c = noted-choice (c .before .before .before .word .ensures) (inr (sym (c .before .before .before .before .kind-of .ensures) ∙ c .before .if2 .taken)) (c .begun2 .ensures)
 
-called-requires : tie.Need-called-requires
-called-requires c κs = search needs
-
 returns-3 : tie.Need-returns-3
 returns-3 c = noted-all (c .before .before .before .before .word .ensures) (inl (sym (c .before .before .before .before .before .kind-of .ensures) ∙ c .before .if3 .taken)) (c .called .ensures)
-
-called-requires-2 : tie.Need-called-requires-2
-called-requires-2 c κs = search needs
 
 returns-4 : tie.Need-returns-4
 returns-4 c = noted-all (c .before .before .before .before .before .word .ensures) (inr (sym (c .before .before .before .before .before .before .kind-of .ensures) ∙ c .before .if4 .taken)) (c .called2 .ensures)
@@ -43,14 +25,5 @@ pub known-spec : {M : Type 1} → statement M
 known-spec =
     tie.close
     (tie.spec
-    kind-of-requires
-    word-requires
-    begun-requires
-    returns
-    begun-requires-2
-    returns-2
-    called-requires
-    returns-3
-    called-requires-2
-    returns-4
-    returns-5)
+    (λ c κs. search needs) (λ c κs. search needs) (λ c κs. search needs) returns (λ c κs. search needs) returns-2
+    (λ c κs. search needs) returns-3 (λ c κs. search needs) returns-4 returns-5)

@@ -5,17 +5,8 @@ use borrow.Author.Needs.{needs}
 use Rattle.marshtrundle.proofs.hints.matched.Statement.{statement}
 use Rattle.marshtrundle.proofs.hints.matched.Tie as tie
 
-kind-of-requires : tie.Need-kind-of-requires
-kind-of-requires c κs = search needs
-
 returns : tie.Need-returns
 returns c = begun-none refl
-
-word-requires : tie.Need-word-requires
-word-requires c κs = search needs
-
-kind-of-requires-2 : tie.Need-kind-of-requires-2
-kind-of-requires-2 c κs = search needs
 
 returns-2 : tie.Need-returns-2
 returns-2 c = begun-none refl
@@ -25,4 +16,4 @@ returns-3 c = begun-match (sym (c .before .before .before .before .kind-of .ensu
 
 pub matched-spec : {M : Type 1} → statement M
 matched-spec =
-    tie.close (tie.spec kind-of-requires returns word-requires kind-of-requires-2 returns-2 returns-3)
+    tie.close (tie.spec (λ c κs. search needs) returns (λ c κs. search needs) (λ c κs. search needs) returns-2 returns-3)

@@ -19,23 +19,8 @@ Inv-loop bindings₀ st mask v₀ bindings v = (v ≤ 32) × Written (held st) b
 abbrev μ-loop : tie.MeasureT-loop
 μ-loop bindings₀ st mask v₀ bindings v = 32 - v
 
-array-read-mask : tie.Need-array-read-mask Inv-loop μ-loop
-array-read-mask c = search needs
-
 loop-holds : tie.Need-loop-holds Inv-loop μ-loop
 loop-holds c = (omega arith, written-none (held (c .before .args .t2)) (c .before .args .bindings .now) (c .before .pre .0))
-
-cast-k : tie.Need-cast-k Inv-loop μ-loop
-cast-k c = search needs
-
-bit-requires : tie.Need-bit-requires Inv-loop μ-loop
-bit-requires c κs = search needs
-
-mul-bindings : tie.Need-mul-bindings Inv-loop μ-loop
-mul-bindings c = search needs
-
-array-read-bindings : tie.Need-array-read-bindings Inv-loop μ-loop
-array-read-bindings c = search needs
 
 add-bindings : tie.Need-add-bindings Inv-loop μ-loop
 add-bindings c =
@@ -48,24 +33,6 @@ add-bindings c =
           (omega arith)
           (sym (c .before .bit .ensures) ∙ c .if1 .taken)),
     )
-
-mul-bindings-2 : tie.Need-mul-bindings-2 Inv-loop μ-loop
-mul-bindings-2 c = search needs
-
-slice-write-bindings : tie.Need-slice-write-bindings Inv-loop μ-loop
-slice-write-bindings c = search needs
-
-mul-bindings-3 : tie.Need-mul-bindings-3 Inv-loop μ-loop
-mul-bindings-3 c = search needs
-
-slice-write-bindings-2 : tie.Need-slice-write-bindings-2 Inv-loop μ-loop
-slice-write-bindings-2 c = search needs
-
-add-v : tie.Need-add-v Inv-loop μ-loop
-add-v c = search needs
-
-loop-less : tie.Need-loop-less Inv-loop μ-loop
-loop-less c = search needs
 
 loop-again : tie.Need-loop-again Inv-loop μ-loop
 loop-again c =
@@ -96,9 +63,6 @@ loop-again c =
           (c .if1 .came),
     )
 
-same-length : tie.Need-same-length Inv-loop μ-loop
-same-length c = search needs
-
 returns : tie.Need-returns Inv-loop μ-loop
 returns c = written-all _ _ _ (c .before .loop .inv .1) (omega arith)
 
@@ -106,21 +70,6 @@ pub closed-spec : {M : Type 1} → statement M
 closed-spec =
     tie.close
     (tie.spec
-    Inv-loop
-    μ-loop
-    array-read-mask
-    loop-holds
-    cast-k
-    bit-requires
-    mul-bindings
-    array-read-bindings
-    add-bindings
-    mul-bindings-2
-    slice-write-bindings
-    mul-bindings-3
-    slice-write-bindings-2
-    add-v
-    loop-less
-    loop-again
-    same-length
-    returns)
+    Inv-loop μ-loop (λ c. search needs) loop-holds (λ c. search needs) (λ c κs. search needs) (λ c. search needs)
+    (λ c. search needs) add-bindings (λ c. search needs) (λ c. search needs) (λ c. search needs) (λ c. search needs)
+    (λ c. search needs) (λ c. search needs) loop-again (λ c. search needs) returns)

@@ -16,32 +16,8 @@ Inv-loop bindings mark words₀ v₀ words v = (v ≤ 32) × Filled bindings mar
 abbrev μ-loop : tie.MeasureT-loop
 μ-loop bindings mark words₀ v₀ words v = 32 - v
 
-array-write-words : tie.Need-array-write-words Inv-loop μ-loop
-array-write-words c = search needs
-
 loop-holds : tie.Need-loop-holds Inv-loop μ-loop
 loop-holds c = (omega arith, filled-none (c .before .args .bindings .now) (c .before .args .mark))
-
-cast-w : tie.Need-cast-w Inv-loop μ-loop
-cast-w c = search needs
-
-mul-w : tie.Need-mul-w Inv-loop μ-loop
-mul-w c = search needs
-
-shared-slice-read-w : tie.Need-shared-slice-read-w Inv-loop μ-loop
-shared-slice-read-w c = search needs
-
-sub-bind : tie.Need-sub-bind Inv-loop μ-loop
-sub-bind c = search needs
-
-bind-requires : tie.Need-bind-requires Inv-loop μ-loop
-bind-requires c κs = search needs
-
-add-v : tie.Need-add-v Inv-loop μ-loop
-add-v c = search needs
-
-loop-less : tie.Need-loop-less Inv-loop μ-loop
-loop-less c = search needs
 
 loop-again : tie.Need-loop-again Inv-loop μ-loop
 loop-again c = (
@@ -61,16 +37,5 @@ pub opened-spec : {M : Type 1} → statement M
 opened-spec =
     tie.close
     (tie.spec
-    Inv-loop
-    μ-loop
-    array-write-words
-    loop-holds
-    cast-w
-    mul-w
-    shared-slice-read-w
-    sub-bind
-    bind-requires
-    add-v
-    loop-less
-    loop-again
-    returns)
+    Inv-loop μ-loop (λ c. search needs) loop-holds (λ c. search needs) (λ c. search needs) (λ c. search needs)
+    (λ c. search needs) (λ c κs. search needs) (λ c. search needs) (λ c. search needs) loop-again returns)

@@ -11,27 +11,18 @@ use Rattle.marshtrundle.proofs.refusals.sizes_fit.Reads as sizes-fit-re
 use Rattle.marshtrundle.proofs.refusals.start_fits.Reads as start-fits-reads
 
 -- src/refusals.rt:60:9
-sizes-fit-requires : tie.Need-sizes-fit-requires
-sizes-fit-requires c κs = search needs
-
 -- src/refusals.rt:61:9
 returns : tie.Need-returns
 unfolding refused
 returns c = rw (← c .before .sizes-fit .ensures, not-true (c .before .sizes-fit .result) (c .if1 .taken))
 
 -- src/refusals.rt:66:9
-check-table-requires : tie.Need-check-table-requires
-check-table-requires c κs = search needs
-
 -- src/refusals.rt:68:9
 returns-2 : tie.Need-returns-2
 unfolding refused
 returns-2 c = rw (← c .before .before .before .before .sizes-fit .ensures, not-false (c .before .before .before .before .sizes-fit .result) (c .before .before .before .if1 .left), ← c .before .before .check-table .ensures, ne-eqb _ _ (c .if2 .taken))
 
 -- src/refusals.rt:70:9
-check-store-requires : tie.Need-check-store-requires
-check-store-requires c κs = search needs
-
 -- src/refusals.rt:72:9
 returns-3 : tie.Need-returns-3
 unfolding refused
@@ -44,9 +35,6 @@ returns-3 c =
     rw (← at-sizes-fit .sizes-fit .ensures, not-false (at-sizes-fit .sizes-fit .result) (at-if1 .if1 .left), ← at-check-table .check-table .ensures, eq-eqb _ _ (at-if2 .if2 .left), ← at-check-store .check-store .ensures, ne-eqb _ 0 (c .if3 .taken))
 
 -- src/refusals.rt:74:9
-start-fits-requires : tie.Need-start-fits-requires
-start-fits-requires c κs = search needs
-
 -- src/refusals.rt:75:9
 returns-4 : tie.Need-returns-4
 unfolding refused
@@ -77,12 +65,5 @@ pub refusal-spec : {M : Type 1} → statement M
 refusal-spec =
     tie.close
     (tie.spec
-    sizes-fit-requires
-    returns
-    check-table-requires
-    returns-2
-    check-store-requires
-    returns-3
-    start-fits-requires
-    returns-4
-    returns-5)
+    (λ c κs. search needs) returns (λ c κs. search needs) returns-2 (λ c κs. search needs) returns-3
+    (λ c κs. search needs) returns-4 returns-5)

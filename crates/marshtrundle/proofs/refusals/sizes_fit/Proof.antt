@@ -5,16 +5,10 @@ use Rattle.marshtrundle.specs.Refused.{sizesFit}
 use Rattle.marshtrundle.proofs.refusals.sizes_fit.Statement.{statement}
 use Rattle.marshtrundle.proofs.refusals.sizes_fit.Tie as tie
 
-table-length-fits-requires : tie.Need-table-length-fits-requires
-table-length-fits-requires c κs = search needs
-
 returns : tie.Need-returns
 unfolding sizesFit
 returns c =
     rw (← c .before .table-length-fits .ensures, not-true (c .before .table-length-fits .result) (c .if1 .taken))
-
-store-length-fits-requires : tie.Need-store-length-fits-requires
-store-length-fits-requires c κs = search needs
 
 returns-2 : tie.Need-returns-2
 unfolding sizesFit
@@ -60,9 +54,4 @@ pub sizes-fit-spec : {M : Type 1} → statement M
 sizes-fit-spec =
     tie.close
     (tie.spec
-    table-length-fits-requires
-    returns
-    store-length-fits-requires
-    returns-2
-    returns-3
-    returns-4)
+    (λ c κs. search needs) returns (λ c κs. search needs) returns-2 returns-3 returns-4)

@@ -30,16 +30,7 @@ unfolding startFits
 returns c = rw (le-ltb _ _ (c .if1 .taken))
 
 -- src/refusals.rt:46:24
-kind-of-requires : tie.Need-kind-of-requires
-kind-of-requires c κs = search needs
-
 -- src/refusals.rt:46:9
-sort-of-requires : tie.Need-sort-of-requires
-sort-of-requires c κs = search needs
-
-enum-told : tie.Need-enum-told
-enum-told c = search needs
-
 -- src/refusals.rt:48:9
 returns-2 : tie.Need-returns-2
 unfolding startFits
@@ -51,9 +42,6 @@ unfolding startFits
 returns-3 c = let a = c .before .before .before .before .before .before .before .before .args in rw (lt-ltb _ _ (c .before .before .before .before .before .if1 .left), ← c .before .before .before .before .kind-of .ensures, ← c .before .before .before .sort-of .ensures, c .before .enum-told .given .1, le-ltb (a .subject) (a .mark) (omega (arith, c .if2 .taken)))
 
 -- src/refusals.rt:53:5
-bindings-below-requires : tie.Need-bindings-below-requires
-bindings-below-requires c κs = search needs
-
 -- src/refusals.rt:40:1
 returns-4 : tie.Need-returns-4
 unfolding startFits
@@ -63,11 +51,5 @@ pub start-fits-spec : {M : Type 1} → statement M
 start-fits-spec =
     tie.close
     (tie.spec
-    returns
-    kind-of-requires
-    sort-of-requires
-    enum-told
-    returns-2
-    returns-3
-    bindings-below-requires
+    returns (λ c κs. search needs) (λ c κs. search needs) (λ c. search needs) returns-2 returns-3 (λ c κs. search needs)
     returns-4)

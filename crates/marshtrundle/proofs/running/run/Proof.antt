@@ -13,15 +13,6 @@ use Rattle.marshtrundle.proofs.running.run.Tie as tie
 use Rattle.marshtrundle.proofs.running.run.Reads as reads
 use Rattle.marshtrundle.proofs.running.run.Lts as lts
 
-refusal-requires : tie.Need-refusal-requires
-refusal-requires c κs = search needs
-
-same-length : tie.Need-same-length
-same-length c = search needs
-
-same-length-2 : tie.Need-same-length-2
-same-length-2 c = search needs
-
 returns : tie.Need-returns
 returns c =
     let a = c .before .before .before .before .before .before .before .before .args in
@@ -42,9 +33,6 @@ opened-requires c κs =
     let h = accepted-answer (a .table .now) (a .store .now) (a .bindings .now) (a .mark) (a .start) (a .subject) (a .units) (eq-eqb _ 0 (ap (λ (c : Checked). c .answer) (sym (c .before .before .before .before .refusal .ensures)) ∙ c .before .before .if1 .left)) in
     h .bindings
 
-done-requires : tie.Need-done-requires
-done-requires c κs = search needs
-
 apply-requires : tie.Need-apply-requires
 apply-requires c κs =
     let at-opened = c .before .before .before .before in
@@ -57,15 +45,6 @@ apply-requires c κs =
     let h = accepted-answer (a .table .now) (a .store .now) (a .bindings .now) (a .mark) (a .start) (a .subject) (a .units) (eq-eqb _ 0 (ap (λ (c : Checked). c .answer) (sym (at-refusal .refusal .ensures)) ∙ at-if1 .if1 .left)) in
     let l = at-loaded .loaded .ensures in
     ready i h _ _ _ (table-loaded l) (entries-loaded (h .table) l) (hints-loaded (h .table) l) (at-opened .opened .ensures) (start .fits .units .fits) (c .done .ensures)
-
-told-requires : tie.Need-told-requires
-told-requires c κs = search needs
-
-enum-known-a : tie.Need-enum-known-a
-enum-known-a c = search needs
-
-array-read-m : tie.Need-array-read-m
-array-read-m c = search needs
 
 closed-requires : tie.Need-closed-requires
 closed-requires c κs =
@@ -118,9 +97,6 @@ mul-clear-from c =
     let l = at-loaded .loaded .ensures in
     omega (arith, done-mark i h _ _ _ (table-loaded l) (entries-loaded (h .table) l) (hints-loaded (h .table) l) (at-opened .opened .ensures) (start .fits .units .fits) (at-done .done .ensures) _ _ _ (at-apply .apply .ensures) _ (at-told .told .ensures) _ _ (at-a .a .given .1))
 
-clear-from-requires : tie.Need-clear-from-requires
-clear-from-requires c κs = search needs
-
 sub-t35 : tie.Need-sub-t35
 sub-t35 c =
     let at-a = c .before .before .before .before .before .before .before .before .before in
@@ -138,9 +114,6 @@ sub-t35 c =
     let l = at-loaded .loaded .ensures in
     omega (arith, done-left i h _ _ _ (table-loaded l) (entries-loaded (h .table) l) (hints-loaded (h .table) l) (at-opened .opened .ensures) (start .fits .units .fits) (at-done .done .ensures) _ _ _ (at-apply .apply .ensures) _ (at-told .told .ensures) _ _ (at-a .a .given .1))
 
-enum-known-a-2 : tie.Need-enum-known-a-2
-enum-known-a-2 c = search needs
-
 mul-clear-from-2 : tie.Need-mul-clear-from-2
 mul-clear-from-2 c =
     let at-if1 = c .before .before .before .before .before .before .before .before .before .before .before .before .before .before .before in
@@ -150,9 +123,6 @@ mul-clear-from-2 c =
     let i = input (a .table .now) (a .store .now) (a .bindings .now) (a .mark) (a .start) (a .subject) (a .units) in
     let h = accepted-answer (a .table .now) (a .store .now) (a .bindings .now) (a .mark) (a .start) (a .subject) (a .units) (eq-eqb _ 0 (ap (λ (c : Checked). c .answer) (sym (at-refusal .refusal .ensures)) ∙ at-if1 .if1 .left)) in
     omega (arith, mark-fits i h)
-
-clear-from-requires-2 : tie.Need-clear-from-requires-2
-clear-from-requires-2 c κs = search needs
 
 sub-t49 : tie.Need-sub-t49
 sub-t49 c =
@@ -171,9 +141,6 @@ sub-t49 c =
     let l = at-loaded .loaded .ensures in
     omega (arith, failed-left i h _ _ _ (table-loaded l) (entries-loaded (h .table) l) (hints-loaded (h .table) l) (at-opened .opened .ensures) (start .fits .units .fits) (at-done .done .ensures) _ _ _ (at-apply .apply .ensures) _ (at-told .told .ensures) _ (at-a2 .a2 .given .1))
 
-enum-known-a-3 : tie.Need-enum-known-a-3
-enum-known-a-3 c = search needs
-
 mul-clear-from-3 : tie.Need-mul-clear-from-3
 mul-clear-from-3 c =
     let at-if1 = c .before .before .before .before .before .before .before .before .before .before .before .before .before .before .before in
@@ -183,15 +150,6 @@ mul-clear-from-3 c =
     let i = input (a .table .now) (a .store .now) (a .bindings .now) (a .mark) (a .start) (a .subject) (a .units) in
     let h = accepted-answer (a .table .now) (a .store .now) (a .bindings .now) (a .mark) (a .start) (a .subject) (a .units) (eq-eqb _ 0 (ap (λ (c : Checked). c .answer) (sym (at-refusal .refusal .ensures)) ∙ at-if1 .if1 .left)) in
     omega (arith, mark-fits i h)
-
-clear-from-requires-3 : tie.Need-clear-from-requires-3
-clear-from-requires-3 c κs = search needs
-
-cut-answer-requires : tie.Need-cut-answer-requires
-cut-answer-requires c κs = search needs
-
-cast-t57 : tie.Need-cast-t57
-cast-t57 c = search needs
 
 sub-t58 : tie.Need-sub-t58
 sub-t58 c =
@@ -209,12 +167,6 @@ sub-t58 c =
     let h = accepted-answer (a .table .now) (a .store .now) (a .bindings .now) (a .mark) (a .start) (a .subject) (a .units) (eq-eqb _ 0 (ap (λ (c : Checked). c .answer) (sym (at-refusal .refusal .ensures)) ∙ at-if1 .if1 .left)) in
     let l = at-loaded .loaded .ensures in
     omega (arith, cut-left i h _ _ _ (table-loaded l) (entries-loaded (h .table) l) (hints-loaded (h .table) l) (at-opened .opened .ensures) (start .fits .units .fits) (at-done .done .ensures) _ _ _ (at-apply .apply .ensures) _ (at-told .told .ensures) _ (at-a3 .a3 .given .1))
-
-same-length-3 : tie.Need-same-length-3
-same-length-3 c = search needs
-
-same-length-4 : tie.Need-same-length-4
-same-length-4 c = search needs
 
 returns-2 : tie.Need-returns-2
 returns-2 c =
@@ -236,12 +188,6 @@ returns-2 c =
     let r = done-returns i h _ _ _ (table-loaded l) (entries-loaded (h .table) l) (hints-loaded (h .table) l) (at-opened .opened .ensures) (start .fits .units .fits) (at-done .done .ensures) _ _ _ (at-apply .apply .ensures) _ (at-told .told .ensures) _ _ (at-a .a .given .1) in
     back-is i _ _ _ _ (sym r ∙ run-ran i _ (at-refusal .refusal .ensures) (at-if1 .if1 .left)) refl refl refl refl refl (at-clear-from .clear-from .ensures) (at-closed .closed .ensures)
 
-same-length-5 : tie.Need-same-length-5
-same-length-5 c = search needs
-
-same-length-6 : tie.Need-same-length-6
-same-length-6 c = search needs
-
 returns-3 : tie.Need-returns-3
 returns-3 c =
     let at-clear-from2 = c .before .before in
@@ -260,12 +206,6 @@ returns-3 c =
     let l = at-loaded .loaded .ensures in
     let r = failed-returns i h _ _ _ (table-loaded l) (entries-loaded (h .table) l) (hints-loaded (h .table) l) (at-opened .opened .ensures) (start .fits .units .fits) (at-done .done .ensures) _ _ _ (at-apply .apply .ensures) _ (at-told .told .ensures) _ (at-a2 .a2 .given .1) in
     back-is i _ _ _ _ (sym r ∙ run-ran i _ (at-refusal .refusal .ensures) (at-if1 .if1 .left)) refl refl refl refl refl (at-clear-from2 .clear-from2 .ensures) refl
-
-same-length-7 : tie.Need-same-length-7
-same-length-7 c = search needs
-
-same-length-8 : tie.Need-same-length-8
-same-length-8 c = search needs
 
 returns-4 : tie.Need-returns-4
 returns-4 c =
@@ -290,38 +230,9 @@ pub run-spec : {M : Type 1} → statement M
 run-spec =
     tie.close
     (tie.spec
-    refusal-requires
-    same-length
-    same-length-2
-    returns
-    loaded-requires
-    opened-requires
-    done-requires
-    apply-requires
-    told-requires
-    enum-known-a
-    array-read-m
-    closed-requires
-    cast-clear-from
-    mul-clear-from
-    clear-from-requires
-    sub-t35
-    enum-known-a-2
-    mul-clear-from-2
-    clear-from-requires-2
-    sub-t49
-    enum-known-a-3
-    mul-clear-from-3
-    clear-from-requires-3
-    cut-answer-requires
-    cast-t57
-    sub-t58
-    same-length-3
-    same-length-4
-    returns-2
-    same-length-5
-    same-length-6
-    returns-3
-    same-length-7
-    same-length-8
-    returns-4)
+    (λ c κs. search needs) (λ c. search needs) (λ c. search needs) returns loaded-requires opened-requires
+    (λ c κs. search needs) apply-requires (λ c κs. search needs) (λ c. search needs) (λ c. search needs) closed-requires
+    cast-clear-from mul-clear-from (λ c κs. search needs) sub-t35 (λ c. search needs) mul-clear-from-2
+    (λ c κs. search needs) sub-t49 (λ c. search needs) mul-clear-from-3 (λ c κs. search needs) (λ c κs. search needs)
+    (λ c. search needs) sub-t58 (λ c. search needs) (λ c. search needs) returns-2 (λ c. search needs)
+    (λ c. search needs) returns-3 (λ c. search needs) (λ c. search needs) returns-4)

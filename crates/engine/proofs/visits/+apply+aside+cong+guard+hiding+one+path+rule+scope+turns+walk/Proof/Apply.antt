@@ -22,32 +22,14 @@ apply-same-length t c = c .before .before .turns .kept .1 .0
 pub apply-returns : (t : ℕ) → apply-lts.Need-returns (apply-calls t) (apply-at t) apply.Post
 apply-returns t c = c .before .before .turns .ensures
 
-pub apply-cast-left : (t : ℕ) → apply-lts.Need-cast-left (apply-calls t) (apply-at t) apply.Post
-apply-cast-left t c = search needs
-
-pub apply-no-units-requires : (t : ℕ) → apply-lts.Need-no-units-requires (apply-calls t) (apply-at t) apply.Post
-apply-no-units-requires t c κs = search needs
-
 pub apply-returns-2 : (t : ℕ) → apply-lts.Need-returns-2 (apply-calls t) (apply-at t) apply.Post
 apply-returns-2 t c = ends-units (first-turn _ (c .before .before .before .before .before .pre .1) (c .before .before .before .before .before .fits .given .fits)) _ (c .no-units .ensures) (c .before .if2 .taken)
-
-pub apply-no-nesting-requires : (t : ℕ) → apply-lts.Need-no-nesting-requires (apply-calls t) (apply-at t) apply.Post
-apply-no-nesting-requires t c κs = search needs
 
 pub apply-returns-3 : (t : ℕ) → apply-lts.Need-returns-3 (apply-calls t) (apply-at t) apply.Post
 apply-returns-3 t c = ends-nesting (first-turn _ (c .before .before .before .before .before .before .pre .1) (c .before .before .before .before .before .before .fits .given .fits)) _ (c .no-nesting .ensures) (c .before .before .if2 .left) (c .before .if3 .taken)
 
-pub apply-cast-count : (t : ℕ) → apply-lts.Need-cast-count (apply-calls t) (apply-at t) apply.Post
-apply-cast-count t c = search needs
-
-pub apply-count-requires : (t : ℕ) → apply-lts.Need-count-requires (apply-calls t) (apply-at t) apply.Post
-apply-count-requires t c κs = search needs
-
 pub apply-sub-result : (t : ℕ) → apply-lts.Need-sub-result (apply-calls t) (apply-at t) apply.Post
 apply-sub-result t c = omega (arith, pos _ (c .before .before .before .before .if2 .left))
-
-pub apply-same-length-2 : (t : ℕ) → apply-lts.Need-same-length-2 (apply-calls t) (apply-at t) apply.Post
-apply-same-length-2 t c = search needs
 
 pub apply-returns-4 : (t : ℕ) → apply-lts.Need-returns-4 (apply-calls t) (apply-at t) apply.Post
 apply-returns-4 t c =
@@ -86,3 +68,11 @@ apply-returns-5 t c =
     let at-kind = at-if1 .before in
     let start = at-kind .before .before in
     whole (first-turn _ (start .pre .1) (start .fits .given .fits)) (at-if2 .if2 .left) (at-if3 .if3 .left) (renamed (at-walk .walk .ensures) (sym (ruled-all _ _ _ _ _ _ _ _ (sym (at-kind .kind .ensures) ∙ at-if1 .if1 .left))))
+
+pub apply-closed : {M : Type 1} (t : ℕ) → apply-lts.Closed (apply-calls t) (apply-at t) apply.Post M
+apply-closed t =
+    apply-lts.spec (apply-calls t) (apply-at t) apply.Post
+    (apply-kind-requires t) (apply-turns-requires t) (apply-same-length t) (apply-returns t) (λ c. search needs)
+    (λ c κs. search needs) (apply-returns-2 t) (λ c κs. search needs) (apply-returns-3 t) (λ c. search needs)
+    (λ c κs. search needs) (apply-sub-result t) (λ c. search needs) (apply-returns-4 t) (apply-sub-walk t)
+    (apply-sub-walk-2 t) (apply-walk-requires t) (apply-same-length-3 t) (apply-returns-5 t)

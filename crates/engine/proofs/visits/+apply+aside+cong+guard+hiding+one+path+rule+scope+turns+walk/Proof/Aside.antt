@@ -14,15 +14,6 @@ aside-entry-requires t c κs = ((c .before .before .before .pre .1 .0) .inside, 
 pub aside-apply-requires : (t : ℕ) → aside-lts.Need-apply-requires (aside-calls t) (aside-at t) aside.Post
 aside-apply-requires t c κs = (omega arith, ready-operand (c .before .before .before .before .pre .1 .0) 0 _ _ (omega arith) (c .entry .ensures) ((c .before .before .before .before .pre .1 .0) .subject))
 
-pub aside-told-requires : (t : ℕ) → aside-lts.Need-told-requires (aside-calls t) (aside-at t) aside.Post
-aside-told-requires t c κs = search needs
-
-pub aside-enum-known-u : (t : ℕ) → aside-lts.Need-enum-known-u (aside-calls t) (aside-at t) aside.Post
-aside-enum-known-u t c = search needs
-
-pub aside-same-length : (t : ℕ) → aside-lts.Need-same-length (aside-calls t) (aside-at t) aside.Post
-aside-same-length t c = search needs
-
 pub aside-returns : (t : ℕ) → aside-lts.Need-returns (aside-calls t) (aside-at t) aside.Post
 aside-returns t c =
     let at-told = c .before in
@@ -30,15 +21,6 @@ aside-returns t c =
     let at-entry = at-apply .before in
     let start = at-entry .before .before .before .before in
     gives-where-stops _ (start .pre .1 .0) (at-entry .entry .ensures) (at-apply .apply .ensures) (at-told .told .ensures) (start .pre .1 .1) (c .match .keys2)
-
-pub aside-cast-done : (t : ℕ) → aside-lts.Need-cast-done (aside-calls t) (aside-at t) aside.Post
-aside-cast-done t c = search needs
-
-pub aside-done-requires : (t : ℕ) → aside-lts.Need-done-requires (aside-calls t) (aside-at t) aside.Post
-aside-done-requires t c κs = search needs
-
-pub aside-same-length-2 : (t : ℕ) → aside-lts.Need-same-length-2 (aside-calls t) (aside-at t) aside.Post
-aside-same-length-2 t c = search needs
 
 pub aside-returns-2 : (t : ℕ) → aside-lts.Need-returns-2 (aside-calls t) (aside-at t) aside.Post
 aside-returns-2 t c =
@@ -48,3 +30,9 @@ aside-returns-2 t c =
     let at-entry = at-apply .before in
     let start = at-entry .before .before .before .before in
     gives-where _ (start .pre .1 .0) (at-entry .entry .ensures) (at-apply .apply .ensures) (at-told .told .ensures) (start .pre .1 .1) (at-u .u .given .1) (c .done .ensures)
+
+pub aside-closed : {M : Type 1} (t : ℕ) → aside-lts.Closed (aside-calls t) (aside-at t) aside.Post M
+aside-closed t =
+    aside-lts.spec (aside-calls t) (aside-at t) aside.Post
+    (aside-entry-requires t) (aside-apply-requires t) (λ c κs. search needs) (λ c. search needs) (λ c. search needs)
+    (aside-returns t) (λ c. search needs) (λ c κs. search needs) (λ c. search needs) (aside-returns-2 t)

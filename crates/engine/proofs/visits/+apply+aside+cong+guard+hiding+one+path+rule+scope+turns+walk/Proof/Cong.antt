@@ -7,29 +7,14 @@ use Rattle.engine.proofs.visits.cong.Reads as cong
 use Rattle.engine.proofs.visits.+apply+aside+cong+guard+hiding+one+path+rule+scope+turns+walk.Lts-cong as cong-lts
 use Rattle.engine.proofs.visits.+apply+aside+cong+guard+hiding+one+path+rule+scope+turns+walk.Proof.Common.{cong-at, cong-calls}
 
-pub cong-cast-t : (t : ℕ) → cong-lts.Need-cast-t (cong-calls t) (cong-at t) cong.Post
-cong-cast-t t c = search needs
-
 pub cong-agree-requires : (t : ℕ) → cong-lts.Need-agree-requires (cong-calls t) (cong-at t) cong.Post
 cong-agree-requires t c κs = (c .before .before .pre .1 .0) .inside
-
-pub cong-cast-failure : (t : ℕ) → cong-lts.Need-cast-failure (cong-calls t) (cong-at t) cong.Post
-cong-cast-failure t c = search needs
-
-pub cong-failure-requires : (t : ℕ) → cong-lts.Need-failure-requires (cong-calls t) (cong-at t) cong.Post
-cong-failure-requires t c κs = search needs
-
-pub cong-same-length : (t : ℕ) → cong-lts.Need-same-length (cong-calls t) (cong-at t) cong.Post
-cong-same-length t c = search needs
 
 pub cong-returns : (t : ℕ) → cong-lts.Need-returns (cong-calls t) (cong-at t) cong.Post
 cong-returns t c = gives-cong-failed _ (c .before .before .before .before .before .pre .1 .0) (c .before .before .before .before .before .pre .1 .1) (c .before .before .agree .ensures) (c .before .if1 .taken) (c .failure .ensures)
 
 pub cong-walk-requires : (t : ℕ) → cong-lts.Need-walk-requires (cong-calls t) (cong-at t) cong.Post
 cong-walk-requires t c κs = (omega arith, (c .before .before .before .before .before .before .pre .1 .0, cong-counted 0 (c .before .before .before .before .before .before .pre .1 .0) (c .before .before .before .before .before .before .pre .1 .1) (c .before .before .before .agree .ensures) (c .before .before .if1 .left)))
-
-pub cong-same-length-2 : (t : ℕ) → cong-lts.Need-same-length-2 (cong-calls t) (cong-at t) cong.Post
-cong-same-length-2 t c = search needs
 
 pub cong-returns-2 : (t : ℕ) → cong-lts.Need-returns-2 (cong-calls t) (cong-at t) cong.Post
 cong-returns-2 t c =
@@ -38,3 +23,9 @@ cong-returns-2 t c =
     let at-agree = at-if1 .before in
     let start = at-agree .before .before .before in
     gives-cong _ (start .pre .1 .0) (start .pre .1 .1) (at-agree .agree .ensures) (at-if1 .if1 .left) (at-walk .walk .ensures)
+
+pub cong-closed : {M : Type 1} (t : ℕ) → cong-lts.Closed (cong-calls t) (cong-at t) cong.Post M
+cong-closed t =
+    cong-lts.spec (cong-calls t) (cong-at t) cong.Post
+    (λ c. search needs) (cong-agree-requires t) (λ c. search needs) (λ c κs. search needs) (λ c. search needs)
+    (cong-returns t) (cong-walk-requires t) (λ c. search needs) (cong-returns-2 t)

@@ -10,18 +10,6 @@ use Rattle.engine.proofs.visits.+apply+aside+cong+guard+hiding+one+path
 pub hiding-entry-requires : (t : ℕ) → hiding-lts.Need-entry-requires (hiding-calls t) (hiding-at t) hiding.Post
 hiding-entry-requires t c κs = ((c .before .pre .1 .0) .inside, omega arith)
 
-pub hiding-element-copy-out-hidden : (t : ℕ) → hiding-lts.Need-element-copy-out-hidden (hiding-calls t) (hiding-at t) hiding.Post
-hiding-element-copy-out-hidden t c = search needs
-
-pub hiding-element-copy-out-hide : (t : ℕ) → hiding-lts.Need-element-copy-out-hide (hiding-calls t) (hiding-at t) hiding.Post
-hiding-element-copy-out-hide t c = search needs
-
-pub hiding-hide-requires : (t : ℕ) → hiding-lts.Need-hide-requires (hiding-calls t) (hiding-at t) hiding.Post
-hiding-hide-requires t c κs = search needs
-
-pub hiding-element-write-st : (t : ℕ) → hiding-lts.Need-element-write-st (hiding-calls t) (hiding-at t) hiding.Post
-hiding-element-write-st t c = search needs
-
 pub hiding-entry-requires-2 : (t : ℕ) → hiding-lts.Need-entry-requires-2 (hiding-calls t) (hiding-at t) hiding.Post
 hiding-entry-requires-2 t c κs = ((c .before .before .before .before .before .before .before .before .pre .1 .0) .inside, omega arith)
 
@@ -32,21 +20,6 @@ hiding-apply-requires t c κs =
     let start = at-entry .before .before in
     (omega arith, ready-hiding (start .args .deep) (start .pre .1 .0) (at-entry .entry .ensures) (omega (arith, at-entry .entry .ok)) (c .entry2 .ensures) (at-hide .hide .ensures))
 
-pub hiding-put-back-requires : (t : ℕ) → hiding-lts.Need-put-back-requires (hiding-calls t) (hiding-at t) hiding.Post
-hiding-put-back-requires t c κs = search needs
-
-pub hiding-element-copy-out-hide-2 : (t : ℕ) → hiding-lts.Need-element-copy-out-hide-2 (hiding-calls t) (hiding-at t) hiding.Post
-hiding-element-copy-out-hide-2 t c = search needs
-
-pub hiding-hide-requires-2 : (t : ℕ) → hiding-lts.Need-hide-requires-2 (hiding-calls t) (hiding-at t) hiding.Post
-hiding-hide-requires-2 t c κs = search needs
-
-pub hiding-element-write-st-2 : (t : ℕ) → hiding-lts.Need-element-write-st-2 (hiding-calls t) (hiding-at t) hiding.Post
-hiding-element-write-st-2 t c = search needs
-
-pub hiding-same-length : (t : ℕ) → hiding-lts.Need-same-length (hiding-calls t) (hiding-at t) hiding.Post
-hiding-same-length t c = search needs
-
 pub hiding-returns : (t : ℕ) → hiding-lts.Need-returns (hiding-calls t) (hiding-at t) hiding.Post
 hiding-returns t c =
     let at-put-back = c .before .before in
@@ -56,3 +29,10 @@ hiding-returns t c =
     let at-entry = at-hide .before .before .before .before in
     let start = at-entry .before .before in
     gives-hiding _ (start .pre .1 .0) (at-entry .entry .ensures) (omega (arith, at-entry .entry .ok)) (at-entry2 .entry2 .ensures) (at-hide .hide .ensures) (at-apply .apply .ensures) (start .pre .1 .1) (at-put-back .put-back .ensures) (c .hide2 .ensures)
+
+pub hiding-closed : {M : Type 1} (t : ℕ) → hiding-lts.Closed (hiding-calls t) (hiding-at t) hiding.Post M
+hiding-closed t =
+    hiding-lts.spec (hiding-calls t) (hiding-at t) hiding.Post
+    (hiding-entry-requires t) (λ c. search needs) (λ c. search needs) (λ c κs. search needs) (λ c. search needs)
+    (hiding-entry-requires-2 t) (hiding-apply-requires t) (λ c κs. search needs) (λ c. search needs)
+    (λ c κs. search needs) (λ c. search needs) (λ c. search needs) (hiding-returns t)

@@ -14,35 +14,11 @@ one-Inv-loop table store₀ st₀ e s deep t u₀ n mark mask op i₀ store st u
 abbrev pub one-μ-loop : one-lts.MeasureT-loop
 one-μ-loop table store₀ st₀ e s deep t u₀ n mark mask op i₀ store st u i = n - i
 
-pub one-cast-t : (t : ℕ) → one-lts.Need-cast-t (one-calls t) (one-at t) one.Post one-Inv-loop one-μ-loop
-one-cast-t t c = search needs
-
-pub one-cast-u : (t : ℕ) → one-lts.Need-cast-u (one-calls t) (one-at t) one.Post one-Inv-loop one-μ-loop
-one-cast-u t c = search needs
-
-pub one-count-requires : (t : ℕ) → one-lts.Need-count-requires (one-calls t) (one-at t) one.Post one-Inv-loop one-μ-loop
-one-count-requires t c κs = search needs
-
-pub one-element-copy-out-mark : (t : ℕ) → one-lts.Need-element-copy-out-mark (one-calls t) (one-at t) one.Post one-Inv-loop one-μ-loop
-one-element-copy-out-mark t c = search needs
-
-pub one-element-copy-out-mask : (t : ℕ) → one-lts.Need-element-copy-out-mask (one-calls t) (one-at t) one.Post one-Inv-loop one-μ-loop
-one-element-copy-out-mask t c = search needs
-
 pub one-entry-requires : (t : ℕ) → one-lts.Need-entry-requires (one-calls t) (one-at t) one.Post one-Inv-loop one-μ-loop
 one-entry-requires t c κs = ((c .before .before .before .before .before .pre .1 .0) .inside, omega arith)
 
 pub one-loop-holds : (t : ℕ) → one-lts.Need-loop-holds (one-calls t) (one-at t) one.Post one-Inv-loop one-μ-loop
 one-loop-holds t c = one-begins _ (c .before .before .before .before .before .before .pre .1 .0) (c .before .before .before .before .before .before .pre .1 .1) (c .before .before .before .count .ensures) (c .entry .ensures)
-
-pub one-add-word : (t : ℕ) → one-lts.Need-add-word (one-calls t) (one-at t) one.Post one-Inv-loop one-μ-loop
-one-add-word t c = search needs
-
-pub one-word-requires : (t : ℕ) → one-lts.Need-word-requires (one-calls t) (one-at t) one.Post one-Inv-loop one-μ-loop
-one-word-requires t c κs = search needs
-
-pub one-done-requires : (t : ℕ) → one-lts.Need-done-requires (one-calls t) (one-at t) one.Post one-Inv-loop one-μ-loop
-one-done-requires t c κs = search needs
 
 pub one-apply-requires : (t : ℕ) → one-lts.Need-apply-requires (one-calls t) (one-at t) one.Post one-Inv-loop one-μ-loop
 one-apply-requires t c κs =
@@ -52,18 +28,6 @@ one-apply-requires t c κs =
     let at-entry = at-loop .before in
     let start = at-entry .before .before .before .before .before .before in
     (omega arith, ready-one (start .args .deep) (start .pre .1 .0) (at-loop .loop .inv) (at-loop-test .loop-test .taken) (at-word .word .ensures) (c .done .ensures) (at-entry .entry .ensures))
-
-pub one-hear-requires : (t : ℕ) → one-lts.Need-hear-requires (one-calls t) (one-at t) one.Post one-Inv-loop one-μ-loop
-one-hear-requires t c κs = search needs
-
-pub one-enum-known-yes : (t : ℕ) → one-lts.Need-enum-known-yes (one-calls t) (one-at t) one.Post one-Inv-loop one-μ-loop
-one-enum-known-yes t c = search needs
-
-pub one-enum-told : (t : ℕ) → one-lts.Need-enum-told (one-calls t) (one-at t) one.Post one-Inv-loop one-μ-loop
-one-enum-told t c = search needs
-
-pub one-same-length : (t : ℕ) → one-lts.Need-same-length (one-calls t) (one-at t) one.Post one-Inv-loop one-μ-loop
-one-same-length t c = search needs
 
 pub one-returns : (t : ℕ) → one-lts.Need-returns (one-calls t) (one-at t) one.Post one-Inv-loop one-μ-loop
 one-returns t c =
@@ -75,21 +39,6 @@ one-returns t c =
     let at-loop = at-loop-test .before in
     let start = at-loop .before .before .before .before .before .before .before in
     gives-one-off _ (start .pre .1 .0) (at-loop .loop .inv) (at-loop-test .loop-test .taken) (at-word .word .ensures) (at-done .done .ensures) (at-apply .apply .ensures) (at-hear .hear .ensures) (c .enum-told .given .1)
-
-pub one-row-requires : (t : ℕ) → one-lts.Need-row-requires (one-calls t) (one-at t) one.Post one-Inv-loop one-μ-loop
-one-row-requires t c κs = search needs
-
-pub one-cast-made : (t : ℕ) → one-lts.Need-cast-made (one-calls t) (one-at t) one.Post one-Inv-loop one-μ-loop
-one-cast-made t c = search needs
-
-pub one-add-made : (t : ℕ) → one-lts.Need-add-made (one-calls t) (one-at t) one.Post one-Inv-loop one-μ-loop
-one-add-made t c = search needs
-
-pub one-mul-made : (t : ℕ) → one-lts.Need-mul-made (one-calls t) (one-at t) one.Post one-Inv-loop one-μ-loop
-one-mul-made t c = search needs
-
-pub one-array-write-made : (t : ℕ) → one-lts.Need-array-write-made (one-calls t) (one-at t) one.Post one-Inv-loop one-μ-loop
-one-array-write-made t c = search needs
 
 pub one-node-requires : (t : ℕ) → one-lts.Need-node-requires (one-calls t) (one-at t) one.Post one-Inv-loop one-μ-loop
 one-node-requires t c κs =
@@ -103,9 +52,6 @@ one-node-requires t c κs =
     let at-loop = at-loop-test .before in
     let start = at-loop .before .before .before .before .before .before .before in
     (roomy-one (start .args .deep) (start .pre .1 .0) (at-loop .loop .inv) (at-loop-test .loop-test .taken) (at-word .word .ensures) (at-done .done .ensures) (at-apply .apply .ensures) (at-hear .hear .ensures) (at-yes .yes .given .1) (at-if1 .if1 .taken), at-apply .apply .ensures .frame .long ∙ at-loop .loop .inv .wide ∙ start .pre .1 .0 .long)
-
-pub one-same-length-2 : (t : ℕ) → one-lts.Need-same-length-2 (one-calls t) (one-at t) one.Post one-Inv-loop one-μ-loop
-one-same-length-2 t c = search needs
 
 pub one-returns-2 : (t : ℕ) → one-lts.Need-returns-2 (one-calls t) (one-at t) one.Post one-Inv-loop one-μ-loop
 one-returns-2 t c =
@@ -122,15 +68,6 @@ one-returns-2 t c =
     let start = at-loop .before .before .before .before .before .before .before in
     gives-one _ (start .pre .1 .0) (at-loop .loop .inv) (at-loop-test .loop-test .taken) (at-word .word .ensures) (at-done .done .ensures) (at-apply .apply .ensures) (at-hear .hear .ensures) (at-yes .yes .given .1) (at-if1 .if1 .taken) (at-row .row .ensures) (at-node .node .ensures)
 
-pub one-element-write-st : (t : ℕ) → one-lts.Need-element-write-st (one-calls t) (one-at t) one.Post one-Inv-loop one-μ-loop
-one-element-write-st t c = search needs
-
-pub one-element-write-st-2 : (t : ℕ) → one-lts.Need-element-write-st-2 (one-calls t) (one-at t) one.Post one-Inv-loop one-μ-loop
-one-element-write-st-2 t c = search needs
-
-pub one-add-i : (t : ℕ) → one-lts.Need-add-i (one-calls t) (one-at t) one.Post one-Inv-loop one-μ-loop
-one-add-i t c = search needs
-
 pub one-loop-less : (t : ℕ) → one-lts.Need-loop-less (one-calls t) (one-at t) one.Post one-Inv-loop one-μ-loop
 one-loop-less t c = omega (arith, c .before .before .before .before .before .before .before .before .before .before .before .before .before .loop-test .taken)
 
@@ -146,11 +83,16 @@ one-loop-again t c =
     let start = at-loop .before .before .before .before .before .before .before in
     one-again _ (start .pre .1 .0) (at-loop .loop .inv) (at-loop-test .loop-test .taken) (at-word .word .ensures) (at-done .done .ensures) (at-apply .apply .ensures) (at-hear .hear .ensures) (at-yes .yes .given .1) (c .if1 .left)
 
-pub one-failure-requires : (t : ℕ) → one-lts.Need-failure-requires (one-calls t) (one-at t) one.Post one-Inv-loop one-μ-loop
-one-failure-requires t c κs = search needs
-
-pub one-same-length-3 : (t : ℕ) → one-lts.Need-same-length-3 (one-calls t) (one-at t) one.Post one-Inv-loop one-μ-loop
-one-same-length-3 t c = search needs
-
 pub one-returns-3 : (t : ℕ) → one-lts.Need-returns-3 (one-calls t) (one-at t) one.Post one-Inv-loop one-μ-loop
 one-returns-3 t c = gives-one-none _ (c .before .before .before .before .before .before .before .before .before .pre .1 .0) (c .before .before .loop .inv) (c .before .loop-test .left) (c .failure .ensures)
+
+pub one-closed : {M : Type 1} (t : ℕ) → one-lts.Closed (one-calls t) (one-at t) one.Post M
+one-closed t =
+    one-lts.spec (one-calls t) (one-at t) one.Post
+    one-Inv-loop one-μ-loop (λ c. search needs) (λ c. search needs) (λ c κs. search needs) (λ c. search needs)
+    (λ c. search needs) (one-entry-requires t) (one-loop-holds t) (λ c. search needs) (λ c κs. search needs)
+    (λ c κs. search needs) (one-apply-requires t) (λ c κs. search needs) (λ c. search needs) (λ c. search needs)
+    (λ c. search needs) (one-returns t) (λ c κs. search needs) (λ c. search needs) (λ c. search needs)
+    (λ c. search needs) (λ c. search needs) (one-node-requires t) (λ c. search needs) (one-returns-2 t)
+    (λ c. search needs) (λ c. search needs) (λ c. search needs) (one-loop-less t) (one-loop-again t)
+    (λ c κs. search needs) (λ c. search needs) (one-returns-3 t)

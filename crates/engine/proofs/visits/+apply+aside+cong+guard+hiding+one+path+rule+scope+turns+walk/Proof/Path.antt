@@ -11,26 +11,8 @@ use Rattle.engine.proofs.visits.+apply+aside+cong+guard+hiding+one+path
 pub path-entry-requires : (t : ℕ) → path-lts.Need-entry-requires (path-calls t) (path-at t) path.Post
 path-entry-requires t c κs = ((c .before .pre .1 .0) .inside, omega arith)
 
-pub path-cast-t : (t : ℕ) → path-lts.Need-cast-t (path-calls t) (path-at t) path.Post
-path-cast-t t c = search needs
-
-pub path-cast-left : (t : ℕ) → path-lts.Need-cast-left (path-calls t) (path-at t) path.Post
-path-cast-left t c = search needs
-
-pub path-failure-requires : (t : ℕ) → path-lts.Need-failure-requires (path-calls t) (path-at t) path.Post
-path-failure-requires t c κs = search needs
-
 pub path-returns : (t : ℕ) → path-lts.Need-returns (path-calls t) (path-at t) path.Post
 path-returns t c = gives-path-zero _ (c .before .before .before .before .pre .1 .0) (c .before .before .before .before .pre .1 .1) (c .before .before .entry .ensures) (c .before .if1 .taken) (c .failure .ensures)
-
-pub path-count-requires : (t : ℕ) → path-lts.Need-count-requires (path-calls t) (path-at t) path.Post
-path-count-requires t c κs = search needs
-
-pub path-failure-requires-2 : (t : ℕ) → path-lts.Need-failure-requires-2 (path-calls t) (path-at t) path.Post
-path-failure-requires-2 t c κs = search needs
-
-pub path-same-length : (t : ℕ) → path-lts.Need-same-length (path-calls t) (path-at t) path.Post
-path-same-length t c = search needs
 
 pub path-returns-2 : (t : ℕ) → path-lts.Need-returns-2 (path-calls t) (path-at t) path.Post
 path-returns-2 t c =
@@ -44,15 +26,6 @@ path-returns-2 t c =
 pub path-entry-requires-2 : (t : ℕ) → path-lts.Need-entry-requires-2 (path-calls t) (path-at t) path.Post
 path-entry-requires-2 t c κs = ((c .before .before .before .before .before .before .before .before .pre .1 .0) .inside, omega arith)
 
-pub path-add-word : (t : ℕ) → path-lts.Need-add-word (path-calls t) (path-at t) path.Post
-path-add-word t c = search needs
-
-pub path-word-requires : (t : ℕ) → path-lts.Need-word-requires (path-calls t) (path-at t) path.Post
-path-word-requires t c κs = search needs
-
-pub path-done-requires : (t : ℕ) → path-lts.Need-done-requires (path-calls t) (path-at t) path.Post
-path-done-requires t c κs = search needs
-
 pub path-apply-requires : (t : ℕ) → path-lts.Need-apply-requires (path-calls t) (path-at t) path.Post
 path-apply-requires t c κs =
     let at-word = c .before in
@@ -63,15 +36,6 @@ path-apply-requires t c κs =
     let at-entry = at-if1 .before in
     let start = at-entry .before .before in
     (omega arith, ready-path (start .args .deep) (start .pre .1 .0) (start .pre .1 .1) (at-entry .entry .ensures) (at-count .count .ensures) (at-if1 .if1 .left) (at-if2 .if2 .left) (at-entry2 .entry2 .ensures) (at-word .word .ensures) (c .done .ensures))
-
-pub path-told-requires : (t : ℕ) → path-lts.Need-told-requires (path-calls t) (path-at t) path.Post
-path-told-requires t c κs = search needs
-
-pub path-enum-known-x : (t : ℕ) → path-lts.Need-enum-known-x (path-calls t) (path-at t) path.Post
-path-enum-known-x t c = search needs
-
-pub path-same-length-2 : (t : ℕ) → path-lts.Need-same-length-2 (path-calls t) (path-at t) path.Post
-path-same-length-2 t c = search needs
 
 pub path-returns-3 : (t : ℕ) → path-lts.Need-returns-3 (path-calls t) (path-at t) path.Post
 path-returns-3 t c =
@@ -87,21 +51,6 @@ path-returns-3 t c =
     let start = at-entry .before .before in
     gives-path-stops _ (start .pre .1 .0) (start .pre .1 .1) (at-entry .entry .ensures) (at-count .count .ensures) (at-if1 .if1 .left) (at-if2 .if2 .left) (at-entry2 .entry2 .ensures) (at-word .word .ensures) (at-done .done .ensures) (at-apply .apply .ensures) (at-told .told .ensures) (c .match .keys2)
 
-pub path-row-requires : (t : ℕ) → path-lts.Need-row-requires (path-calls t) (path-at t) path.Post
-path-row-requires t c κs = search needs
-
-pub path-cast-made : (t : ℕ) → path-lts.Need-cast-made (path-calls t) (path-at t) path.Post
-path-cast-made t c = search needs
-
-pub path-add-made : (t : ℕ) → path-lts.Need-add-made (path-calls t) (path-at t) path.Post
-path-add-made t c = search needs
-
-pub path-mul-made : (t : ℕ) → path-lts.Need-mul-made (path-calls t) (path-at t) path.Post
-path-mul-made t c = search needs
-
-pub path-array-write-made : (t : ℕ) → path-lts.Need-array-write-made (path-calls t) (path-at t) path.Post
-path-array-write-made t c = search needs
-
 pub path-node-requires : (t : ℕ) → path-lts.Need-node-requires (path-calls t) (path-at t) path.Post
 path-node-requires t c κs =
     let at-x = c .before .before .before .before .before in
@@ -116,9 +65,6 @@ path-node-requires t c κs =
     let at-entry = at-if1 .before in
     let start = at-entry .before .before in
     (roomy-path (start .args .deep) (start .pre .1 .0) (start .pre .1 .1) (at-entry .entry .ensures) (at-count .count .ensures) (at-if1 .if1 .left) (at-if2 .if2 .left) (at-entry2 .entry2 .ensures) (at-word .word .ensures) (at-done .done .ensures) (at-apply .apply .ensures) (at-told .told .ensures) (at-x .x .given .1), at-apply .apply .ensures .frame .long ∙ start .pre .1 .0 .long)
-
-pub path-same-length-3 : (t : ℕ) → path-lts.Need-same-length-3 (path-calls t) (path-at t) path.Post
-path-same-length-3 t c = search needs
 
 pub path-returns-4 : (t : ℕ) → path-lts.Need-returns-4 (path-calls t) (path-at t) path.Post
 path-returns-4 t c =
@@ -136,3 +82,13 @@ path-returns-4 t c =
     let at-entry = at-if1 .before in
     let start = at-entry .before .before in
     gives-path _ (start .pre .1 .0) (start .pre .1 .1) (at-entry .entry .ensures) (at-count .count .ensures) (at-if1 .if1 .left) (at-if2 .if2 .left) (at-entry2 .entry2 .ensures) (at-word .word .ensures) (at-done .done .ensures) (at-apply .apply .ensures) (at-told .told .ensures) (at-x .x .given .1) (at-row .row .ensures) (at-node .node .ensures)
+
+pub path-closed : {M : Type 1} (t : ℕ) → path-lts.Closed (path-calls t) (path-at t) path.Post M
+path-closed t =
+    path-lts.spec (path-calls t) (path-at t) path.Post
+    (path-entry-requires t) (λ c. search needs) (λ c. search needs) (λ c κs. search needs) (path-returns t)
+    (λ c κs. search needs) (λ c κs. search needs) (λ c. search needs) (path-returns-2 t) (path-entry-requires-2 t)
+    (λ c. search needs) (λ c κs. search needs) (λ c κs. search needs) (path-apply-requires t) (λ c κs. search needs)
+    (λ c. search needs) (λ c. search needs) (path-returns-3 t) (λ c κs. search needs) (λ c. search needs)
+    (λ c. search needs) (λ c. search needs) (λ c. search needs) (path-node-requires t) (λ c. search needs)
+    (path-returns-4 t)

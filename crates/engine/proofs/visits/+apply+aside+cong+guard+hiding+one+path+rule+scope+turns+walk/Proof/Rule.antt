@@ -41,9 +41,6 @@ rule-matching-requires t c κs =
 pub rule-entry-requires-2 : (t : ℕ) → rule-lts.Need-entry-requires-2 (rule-calls t) (rule-at t) rule.Post
 rule-entry-requires-2 t c κs = ((c .before .before .before .before .before .pre .1 .0) .inside, omega arith)
 
-pub rule-cast-build : (t : ℕ) → rule-lts.Need-cast-build (rule-calls t) (rule-at t) rule.Post
-rule-cast-build t c = search needs
-
 pub rule-build-requires : (t : ℕ) → rule-lts.Need-build-requires (rule-calls t) (rule-at t) rule.Post
 rule-build-requires t c κs =
     let at-match = c .before .before .before in
@@ -60,71 +57,35 @@ rule-aside-requires t c κs = (omega arith, ((c .before .before .before .before 
 pub rule-guard-requires : (t : ℕ) → rule-lts.Need-guard-requires (rule-calls t) (rule-at t) rule.Post
 rule-guard-requires t c κs = (omega arith, ((c .before .before .before .before .before .before .before .pre .1 .0), of-two _ _ 2 (c .before .before .before .before .before .kind .ensures) (c .before .before .before .if1 .left) (c .before .before .if2 .taken)))
 
-pub rule-cast-failure : (t : ℕ) → rule-lts.Need-cast-failure (rule-calls t) (rule-at t) rule.Post
-rule-cast-failure t c = search needs
-
-pub rule-failure-requires : (t : ℕ) → rule-lts.Need-failure-requires (rule-calls t) (rule-at t) rule.Post
-rule-failure-requires t c κs = search needs
-
 pub rule-returns : (t : ℕ) → rule-lts.Need-returns (rule-calls t) (rule-at t) rule.Post
 rule-returns t c = gives-id _ (c .before .before .before .pre .1 .0) (c .before .kind .ensures) (c .match .keys1)
-
-pub rule-same-length : (t : ℕ) → rule-lts.Need-same-length (rule-calls t) (rule-at t) rule.Post
-rule-same-length t c = search needs
 
 pub rule-returns-2 : (t : ℕ) → rule-lts.Need-returns-2 (rule-calls t) (rule-at t) rule.Post
 rule-returns-2 t c = c .before .before .path .ensures
 
-pub rule-same-length-2 : (t : ℕ) → rule-lts.Need-same-length-2 (rule-calls t) (rule-at t) rule.Post
-rule-same-length-2 t c = search needs
-
 pub rule-returns-3 : (t : ℕ) → rule-lts.Need-returns-3 (rule-calls t) (rule-at t) rule.Post
 rule-returns-3 t c = c .before .before .cong .ensures
-
-pub rule-same-length-3 : (t : ℕ) → rule-lts.Need-same-length-3 (rule-calls t) (rule-at t) rule.Post
-rule-same-length-3 t c = search needs
 
 pub rule-returns-4 : (t : ℕ) → rule-lts.Need-returns-4 (rule-calls t) (rule-at t) rule.Post
 rule-returns-4 t c = renamed (c .before .before .walk .ensures) (sym (ruled-all _ _ _ _ _ _ _ _ (sym (c .before .before .before .before .before .before .kind .ensures) ∙ c .before .before .before .before .before .match .keys4)))
 
-pub rule-same-length-4 : (t : ℕ) → rule-lts.Need-same-length-4 (rule-calls t) (rule-at t) rule.Post
-rule-same-length-4 t c = search needs
-
 pub rule-returns-5 : (t : ℕ) → rule-lts.Need-returns-5 (rule-calls t) (rule-at t) rule.Post
 rule-returns-5 t c = c .before .before .one .ensures
-
-pub rule-same-length-5 : (t : ℕ) → rule-lts.Need-same-length-5 (rule-calls t) (rule-at t) rule.Post
-rule-same-length-5 t c = search needs
 
 pub rule-returns-6 : (t : ℕ) → rule-lts.Need-returns-6 (rule-calls t) (rule-at t) rule.Post
 rule-returns-6 t c = renamed (c .before .before .walk2 .ensures) (sym (ruled-some _ _ _ _ _ _ _ _ (sym (c .before .before .before .before .before .before .kind .ensures) ∙ c .before .before .before .before .before .match .keys6)))
 
-pub rule-same-length-6 : (t : ℕ) → rule-lts.Need-same-length-6 (rule-calls t) (rule-at t) rule.Post
-rule-same-length-6 t c = search needs
-
 pub rule-returns-7 : (t : ℕ) → rule-lts.Need-returns-7 (rule-calls t) (rule-at t) rule.Post
 rule-returns-7 t c = renamed (c .matching .ensures) (sym (ruled-match _ _ _ _ _ _ _ _ _ (c .before .entry .ensures) (sym (c .before .before .before .before .before .kind .ensures) ∙ c .before .before .before .before .match .keys7)))
-
-pub rule-same-length-7 : (t : ℕ) → rule-lts.Need-same-length-7 (rule-calls t) (rule-at t) rule.Post
-rule-same-length-7 t c = search needs
 
 pub rule-returns-8 : (t : ℕ) → rule-lts.Need-returns-8 (rule-calls t) (rule-at t) rule.Post
 rule-returns-8 t c = renamed (c .before .before .build .ensures _) (sym (ruled-build _ _ _ _ _ _ _ _ _ (c .before .before .before .entry2 .ensures) (sym (c .before .before .before .before .before .before .before .kind .ensures) ∙ c .before .before .before .before .before .before .match .keys8)))
 
-pub rule-same-length-8 : (t : ℕ) → rule-lts.Need-same-length-8 (rule-calls t) (rule-at t) rule.Post
-rule-same-length-8 t c = search needs
-
 pub rule-returns-9 : (t : ℕ) → rule-lts.Need-returns-9 (rule-calls t) (rule-at t) rule.Post
 rule-returns-9 t c = c .before .before .scope .ensures
 
-pub rule-same-length-9 : (t : ℕ) → rule-lts.Need-same-length-9 (rule-calls t) (rule-at t) rule.Post
-rule-same-length-9 t c = search needs
-
 pub rule-returns-10 : (t : ℕ) → rule-lts.Need-returns-10 (rule-calls t) (rule-at t) rule.Post
 rule-returns-10 t c = c .before .before .aside .ensures
-
-pub rule-same-length-10 : (t : ℕ) → rule-lts.Need-same-length-10 (rule-calls t) (rule-at t) rule.Post
-rule-same-length-10 t c = search needs
 
 pub rule-returns-11 : (t : ℕ) → rule-lts.Need-returns-11 (rule-calls t) (rule-at t) rule.Post
 rule-returns-11 t c = c .before .before .guard .ensures
@@ -136,3 +97,15 @@ rule-returns-12 t c =
     let at-kind = at-match .before in
     let start = at-kind .before .before in
     gives-failure _ (start .pre .1 .0) (ruled-none _ (start .pre .1 .0) (at-kind .kind .ensures) (no-rule _ _ (at-kind .kind .ensures) (start .pre .1 .1) (⊎-elim (λ w. inl (w .taken)) (λ w. inr (w .1 .left)) (at-if1 .if1 .came)) (at-match .match .rest .0 .0 .0 .0 .0 .0 .0 .0 .0 .1) (at-match .match .rest .0 .0 .0 .0 .0 .0 .0 .0 .1) (at-match .match .rest .0 .0 .0 .0 .0 .0 .0 .1) (at-match .match .rest .0 .0 .0 .0 .0 .0 .1) (at-match .match .rest .0 .0 .0 .0 .0 .1) (at-match .match .rest .0 .0 .0 .0 .1) (at-match .match .rest .0 .0 .0 .1) (at-match .match .rest .0 .0 .1) (at-match .match .rest .0 .1) (at-match .match .rest .1))) (c .failure .ensures)
+
+pub rule-closed : {M : Type 1} (t : ℕ) → rule-lts.Closed (rule-calls t) (rule-at t) rule.Post M
+rule-closed t =
+    rule-lts.spec (rule-calls t) (rule-at t) rule.Post
+    (rule-kind-requires t) (rule-path-requires t) (rule-cong-requires t) (rule-walk-requires t) (rule-one-requires t)
+    (rule-walk-requires-2 t) (rule-entry-requires t) (rule-matching-requires t) (rule-entry-requires-2 t)
+    (λ c. search needs) (rule-build-requires t) (rule-scope-requires t) (rule-aside-requires t) (rule-guard-requires t)
+    (λ c. search needs) (λ c κs. search needs) (rule-returns t) (λ c. search needs) (rule-returns-2 t)
+    (λ c. search needs) (rule-returns-3 t) (λ c. search needs) (rule-returns-4 t) (λ c. search needs) (rule-returns-5 t)
+    (λ c. search needs) (rule-returns-6 t) (λ c. search needs) (rule-returns-7 t) (λ c. search needs) (rule-returns-8 t)
+    (λ c. search needs) (rule-returns-9 t) (λ c. search needs) (rule-returns-10 t) (λ c. search needs)
+    (rule-returns-11 t) (rule-returns-12 t)

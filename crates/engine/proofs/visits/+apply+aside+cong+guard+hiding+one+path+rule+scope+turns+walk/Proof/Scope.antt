@@ -11,14 +11,8 @@ use Rattle.engine.proofs.visits.+apply+aside+cong+guard+hiding+one+path
 pub scope-entry-requires : (t : ℕ) → scope-lts.Need-entry-requires (scope-calls t) (scope-at t) scope.Post
 scope-entry-requires t c κs = ((c .before .pre .1 .0) .inside, omega arith)
 
-pub scope-element-copy-out-if1 : (t : ℕ) → scope-lts.Need-element-copy-out-if1 (scope-calls t) (scope-at t) scope.Post
-scope-element-copy-out-if1 t c = search needs
-
 pub scope-hiding-requires : (t : ℕ) → scope-lts.Need-hiding-requires (scope-calls t) (scope-at t) scope.Post
 scope-hiding-requires t c κs = (omega arith, c .before .before .before .before .before .before .pre .1)
-
-pub scope-same-length : (t : ℕ) → scope-lts.Need-same-length (scope-calls t) (scope-at t) scope.Post
-scope-same-length t c = search needs
 
 pub scope-returns : (t : ℕ) → scope-lts.Need-returns (scope-calls t) (scope-at t) scope.Post
 scope-returns t c = c .before .before .hiding .ensures
@@ -29,18 +23,6 @@ scope-entry-requires-2 t c κs = ((c .before .before .before .before .before .be
 pub scope-apply-requires : (t : ℕ) → scope-lts.Need-apply-requires (scope-calls t) (scope-at t) scope.Post
 scope-apply-requires t c κs = (omega arith, ready-operand (c .before .before .before .before .before .before .before .pre .1 .0) 0 _ _ (omega arith) (c .entry2 .ensures) ((c .before .before .before .before .before .before .before .pre .1 .0) .subject))
 
-pub scope-element-copy-out-hide : (t : ℕ) → scope-lts.Need-element-copy-out-hide (scope-calls t) (scope-at t) scope.Post
-scope-element-copy-out-hide t c = search needs
-
-pub scope-hide-requires : (t : ℕ) → scope-lts.Need-hide-requires (scope-calls t) (scope-at t) scope.Post
-scope-hide-requires t c κs = search needs
-
-pub scope-element-write-st : (t : ℕ) → scope-lts.Need-element-write-st (scope-calls t) (scope-at t) scope.Post
-scope-element-write-st t c = search needs
-
-pub scope-same-length-2 : (t : ℕ) → scope-lts.Need-same-length-2 (scope-calls t) (scope-at t) scope.Post
-scope-same-length-2 t c = search needs
-
 pub scope-returns-2 : (t : ℕ) → scope-lts.Need-returns-2 (scope-calls t) (scope-at t) scope.Post
 scope-returns-2 t c =
     let at-apply = c .before .before .before .before in
@@ -49,3 +31,10 @@ scope-returns-2 t c =
     let at-entry = at-if1 .before .before in
     let start = at-entry .before .before in
     gives-scope _ (start .pre .1 .0) (at-entry .entry .ensures) (omega (arith, at-entry .entry .ok)) (at-entry2 .entry2 .ensures) (at-apply .apply .ensures) (start .pre .1 .1) (at-if1 .if1 .left) (c .hide .ensures)
+
+pub scope-closed : {M : Type 1} (t : ℕ) → scope-lts.Closed (scope-calls t) (scope-at t) scope.Post M
+scope-closed t =
+    scope-lts.spec (scope-calls t) (scope-at t) scope.Post
+    (scope-entry-requires t) (λ c. search needs) (scope-hiding-requires t) (λ c. search needs) (scope-returns t)
+    (scope-entry-requires-2 t) (scope-apply-requires t) (λ c. search needs) (λ c κs. search needs) (λ c. search needs)
+    (λ c. search needs) (scope-returns-2 t)

@@ -18,20 +18,11 @@ turns-μ-loop table store₀ st₀ start given deep e₀ s₀ d₀ store st e s 
 pub turns-loop-holds : (t : ℕ) → turns-lts.Need-loop-holds (turns-calls t) (turns-at t) turns.Post turns-Inv-loop turns-μ-loop
 turns-loop-holds t c = first-turn _ (c .before .pre .1) (c .before .fits .given .fits)
 
-pub turns-cast-left : (t : ℕ) → turns-lts.Need-cast-left (turns-calls t) (turns-at t) turns.Post turns-Inv-loop turns-μ-loop
-turns-cast-left t c = search needs
-
-pub turns-no-units-requires : (t : ℕ) → turns-lts.Need-no-units-requires (turns-calls t) (turns-at t) turns.Post turns-Inv-loop turns-μ-loop
-turns-no-units-requires t c κs = search needs
-
 pub turns-same-length : (t : ℕ) → turns-lts.Need-same-length (turns-calls t) (turns-at t) turns.Post turns-Inv-loop turns-μ-loop
 turns-same-length t c = (c .before .before .loop .inv) .long
 
 pub turns-returns : (t : ℕ) → turns-lts.Need-returns (turns-calls t) (turns-at t) turns.Post turns-Inv-loop turns-μ-loop
 turns-returns t c = ends-units (c .before .before .loop .inv) _ (c .no-units .ensures) (c .before .if1 .taken)
-
-pub turns-no-nesting-requires : (t : ℕ) → turns-lts.Need-no-nesting-requires (turns-calls t) (turns-at t) turns.Post turns-Inv-loop turns-μ-loop
-turns-no-nesting-requires t c κs = search needs
 
 pub turns-same-length-2 : (t : ℕ) → turns-lts.Need-same-length-2 (turns-calls t) (turns-at t) turns.Post turns-Inv-loop turns-μ-loop
 turns-same-length-2 t c = (c .before .before .before .loop .inv) .long
@@ -58,12 +49,6 @@ turns-apply-requires t c κs =
     let at-loop = at-if1 .before in
     let start = at-loop .before .before in
     (omega (arith, (at-loop .loop .inv) .deeper, pos _ (at-if2 .if2 .left), start .pre .0), ready-next (at-loop .loop .inv) (at-if1 .if1 .left) (at-if2 .if2 .left) 0 _ (omega arith) (c .entry .ensures))
-
-pub turns-told-requires : (t : ℕ) → turns-lts.Need-told-requires (turns-calls t) (turns-at t) turns.Post turns-Inv-loop turns-μ-loop
-turns-told-requires t c κs = search needs
-
-pub turns-enum-told : (t : ℕ) → turns-lts.Need-enum-told (turns-calls t) (turns-at t) turns.Post turns-Inv-loop turns-μ-loop
-turns-enum-told t c = search needs
 
 pub turns-same-length-3 : (t : ℕ) → turns-lts.Need-same-length-3 (turns-calls t) (turns-at t) turns.Post turns-Inv-loop turns-μ-loop
 turns-same-length-3 t c = c .before .before .before .before .apply .kept .1 .0 ∙ (c .before .before .before .before .before .before .before .before .before .before .before .before .loop .inv) .long
@@ -111,9 +96,6 @@ turns-skipped-requires t c κs =
     let at-loop = at-kind .before .before .before in
     ((at-loop .loop .inv) .ready .hints, (at-loop .loop .inv) .ready .inside, (at-loop .loop .inv) .ready .entries .operand _ 2 ((at-loop .loop .inv) .ready .inside) (omega arith), (of-two _ _ 5 (at-kind .kind .ensures) (five-up _ (at-match .match .rest .1) (at-if3 .if3 .left)) (at-if4 .if4 .taken)))
 
-pub turns-cast-s : (t : ℕ) → turns-lts.Need-cast-s (turns-calls t) (turns-at t) turns.Post turns-Inv-loop turns-μ-loop
-turns-cast-s t c = search needs
-
 pub turns-sub-s-2 : (t : ℕ) → turns-lts.Need-sub-s-2 (turns-calls t) (turns-at t) turns.Post turns-Inv-loop turns-μ-loop
 turns-sub-s-2 t c = within _ _ _ (c .before .skipped .ensures .few)
 
@@ -136,12 +118,6 @@ turns-loop-again-2 t c =
     let at-loop = at-if1 .before in
     skip-turn (at-loop .loop .inv) (at-if1 .if1 .left) (at-if2 .if2 .left) refl (at-skipped .skipped .ensures) (at-if5 .if5 .taken) (of-two _ _ 5 (at-kind .kind .ensures) (five-up _ (at-match .match .rest .1) (at-if3 .if3 .left)) (at-if4 .if4 .taken)) (c .entry4 .ensures)
 
-pub turns-element-copy-out-mark : (t : ℕ) → turns-lts.Need-element-copy-out-mark (turns-calls t) (turns-at t) turns.Post turns-Inv-loop turns-μ-loop
-turns-element-copy-out-mark t c = search needs
-
-pub turns-element-copy-out-mask : (t : ℕ) → turns-lts.Need-element-copy-out-mask (turns-calls t) (turns-at t) turns.Post turns-Inv-loop turns-μ-loop
-turns-element-copy-out-mask t c = search needs
-
 pub turns-turns-requires : (t : ℕ) → turns-lts.Need-turns-requires (turns-calls t) (turns-at t) turns.Post turns-Inv-loop turns-μ-loop
 turns-turns-requires t c κs =
     let at-entry3 = c .before .before .before .before .before .before .before in
@@ -150,12 +126,6 @@ turns-turns-requires t c κs =
     let at-loop = at-if1 .before in
     let start = at-loop .before .before in
     (omega (arith, (at-loop .loop .inv) .deeper, pos _ (at-if2 .if2 .left), start .pre .0), ready-next (at-loop .loop .inv) (at-if1 .if1 .left) (at-if2 .if2 .left) 0 _ (omega arith) (at-entry3 .entry3 .ensures))
-
-pub turns-told-requires-2 : (t : ℕ) → turns-lts.Need-told-requires-2 (turns-calls t) (turns-at t) turns.Post turns-Inv-loop turns-μ-loop
-turns-told-requires-2 t c κs = search needs
-
-pub turns-enum-known-u : (t : ℕ) → turns-lts.Need-enum-known-u (turns-calls t) (turns-at t) turns.Post turns-Inv-loop turns-μ-loop
-turns-enum-known-u t c = search needs
 
 pub turns-same-length-4 : (t : ℕ) → turns-lts.Need-same-length-4 (turns-calls t) (turns-at t) turns.Post turns-Inv-loop turns-μ-loop
 turns-same-length-4 t c = c .before .before .before .before .turns .kept .1 .0 ∙ (c .before .before .before .before .before .before .before .before .before .before .before .before .before .before .before .before .before .before .before .loop .inv) .long
@@ -174,21 +144,12 @@ turns-returns-4 t c =
     let at-loop = at-if1 .before in
     left-returns (at-loop .loop .inv) (at-if1 .if1 .left) (at-if2 .if2 .left) (at-entry3 .entry3 .ensures) (at-turns .turns .ensures) (at-told2 .told2 .ensures) (of-two _ _ 5 (at-kind .kind .ensures) (five-up _ (at-match .match .rest .1) (at-if3 .if3 .left)) (at-if4 .if4 .taken)) refl (c .match3 .keys2)
 
-pub turns-element-write-st : (t : ℕ) → turns-lts.Need-element-write-st (turns-calls t) (turns-at t) turns.Post turns-Inv-loop turns-μ-loop
-turns-element-write-st t c = search needs
-
-pub turns-element-write-st-2 : (t : ℕ) → turns-lts.Need-element-write-st-2 (turns-calls t) (turns-at t) turns.Post turns-Inv-loop turns-μ-loop
-turns-element-write-st-2 t c = search needs
-
 pub turns-cast-done : (t : ℕ) → turns-lts.Need-cast-done (turns-calls t) (turns-at t) turns.Post turns-Inv-loop turns-μ-loop
 turns-cast-done t c =
     let at-if2 = c .before .before .before .before .before .before .before .before .before .before .before .before .before .before .before .before .before .before .before in
     let at-if1 = at-if2 .before in
     let at-loop = at-if1 .before in
     omega (arith, node-small ((at-loop .loop .inv) .ready .steady) _ (ready-same (at-loop .loop .inv) (at-if1 .if1 .left) (at-if2 .if2 .left) .subject))
-
-pub turns-done-requires : (t : ℕ) → turns-lts.Need-done-requires (turns-calls t) (turns-at t) turns.Post turns-Inv-loop turns-μ-loop
-turns-done-requires t c κs = search needs
 
 pub turns-entry-requires-5 : (t : ℕ) → turns-lts.Need-entry-requires-5 (turns-calls t) (turns-at t) turns.Post turns-Inv-loop turns-μ-loop
 turns-entry-requires-5 t c κs = ((c .before .before .before .before .before .before .before .before .before .before .before .before .before .before .before .before .before .before .before .before .before .before .loop .inv) .ready .inside, omega arith)
@@ -249,3 +210,17 @@ turns-returns-5 t c =
     let at-if1 = at-if2 .before in
     let at-loop = at-if1 .before in
     whole (at-loop .loop .inv) (at-if1 .if1 .left) (at-if2 .if2 .left) (at-rule .rule .ensures)
+
+pub turns-closed : {M : Type 1} (t : ℕ) → turns-lts.Closed (turns-calls t) (turns-at t) turns.Post M
+turns-closed t =
+    turns-lts.spec (turns-calls t) (turns-at t) turns.Post
+    turns-Inv-loop turns-μ-loop (turns-loop-holds t) (λ c. search needs) (λ c κs. search needs) (turns-same-length t)
+    (turns-returns t) (λ c κs. search needs) (turns-same-length-2 t) (turns-returns-2 t) (turns-sub-d t) (turns-sub-s t)
+    (turns-kind-requires t) (turns-entry-requires t) (turns-apply-requires t) (λ c κs. search needs) (λ c. search needs)
+    (turns-same-length-3 t) (turns-returns-3 t) (turns-entry-requires-2 t) (turns-loop-less t) (turns-loop-again t)
+    (turns-entry-requires-3 t) (turns-skipped-requires t) (λ c. search needs) (turns-sub-s-2 t)
+    (turns-entry-requires-4 t) (turns-loop-less-2 t) (turns-loop-again-2 t) (λ c. search needs) (λ c. search needs)
+    (turns-turns-requires t) (λ c κs. search needs) (λ c. search needs) (turns-same-length-4 t) (turns-returns-4 t)
+    (λ c. search needs) (λ c. search needs) (turns-cast-done t) (λ c κs. search needs) (turns-entry-requires-5 t)
+    (turns-loop-less-3 t) (turns-loop-again-3 t) (turns-entry-requires-6 t) (turns-loop-less-4 t) (turns-loop-again-4 t)
+    (turns-rule-requires t) (turns-same-length-5 t) (turns-returns-5 t)

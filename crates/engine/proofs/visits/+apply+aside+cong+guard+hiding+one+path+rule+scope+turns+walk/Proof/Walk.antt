@@ -16,20 +16,8 @@ walk-Inv-loop table store₀ st₀ e s deep t u₀ kind n name ahead first won�
 abbrev pub walk-μ-loop : walk-lts.MeasureT-loop
 walk-μ-loop table store₀ st₀ e s deep t u₀ kind n name ahead first won₀ a₀ b₀ more₀ i₀ store st u won a b more i = n - i
 
-pub walk-cast-t : (t : ℕ) → walk-lts.Need-cast-t (walk-calls t) (walk-at t) walk.Post walk-Inv-loop walk-μ-loop
-walk-cast-t t c = search needs
-
-pub walk-cast-u : (t : ℕ) → walk-lts.Need-cast-u (walk-calls t) (walk-at t) walk.Post walk-Inv-loop walk-μ-loop
-walk-cast-u t c = search needs
-
 pub walk-kind-requires : (t : ℕ) → walk-lts.Need-kind-requires (walk-calls t) (walk-at t) walk.Post walk-Inv-loop walk-μ-loop
 walk-kind-requires t c κs = (c .before .pre .1 .0) .inside
-
-pub walk-count-requires : (t : ℕ) → walk-lts.Need-count-requires (walk-calls t) (walk-at t) walk.Post walk-Inv-loop walk-μ-loop
-walk-count-requires t c κs = search needs
-
-pub walk-word-requires : (t : ℕ) → walk-lts.Need-word-requires (walk-calls t) (walk-at t) walk.Post walk-Inv-loop walk-μ-loop
-walk-word-requires t c κs = search needs
 
 pub walk-leap-requires : (t : ℕ) → walk-lts.Need-leap-requires (walk-calls t) (walk-at t) walk.Post walk-Inv-loop walk-μ-loop
 walk-leap-requires t c κs = ((c .before .before .before .before .before .before .pre .1 .0) .hints, (c .before .before .before .before .before .before .pre .1 .0) .inside)
@@ -39,9 +27,6 @@ walk-landing-requires t c κs = (c .before .before .before .before .before .befo
 
 pub walk-loop-holds : (t : ℕ) → walk-lts.Need-loop-holds (walk-calls t) (walk-at t) walk.Post walk-Inv-loop walk-μ-loop
 walk-loop-holds t c = (going-first _ (c .before .before .before .before .before .before .before .before .pre .1 .0) (c .before .before .word .ensures) (c .before .before .before .before .count .ensures) refl, refl)
-
-pub walk-no-units-requires : (t : ℕ) → walk-lts.Need-no-units-requires (walk-calls t) (walk-at t) walk.Post walk-Inv-loop walk-μ-loop
-walk-no-units-requires t c κs = search needs
 
 pub walk-same-length : (t : ℕ) → walk-lts.Need-same-length (walk-calls t) (walk-at t) walk.Post walk-Inv-loop walk-μ-loop
 walk-same-length t c = (c .before .before .before .loop .inv .0) .kept .long
@@ -64,21 +49,12 @@ walk-add-word t c = omega (arith, c .before .before .before .before .before .bef
 pub walk-word-requires-2 : (t : ℕ) → walk-lts.Need-word-requires-2 (walk-calls t) (walk-at t) walk.Post walk-Inv-loop walk-μ-loop
 walk-word-requires-2 t c κs = omega (arith, c .before .before .before .before .before .before .before .before .count .ensures, c .before .before .loop-test .taken)
 
-pub walk-saved-requires : (t : ℕ) → walk-lts.Need-saved-requires (walk-calls t) (walk-at t) walk.Post walk-Inv-loop walk-μ-loop
-walk-saved-requires t c κs = search needs
-
-pub walk-saved-requires-2 : (t : ℕ) → walk-lts.Need-saved-requires-2 (walk-calls t) (walk-at t) walk.Post walk-Inv-loop walk-μ-loop
-walk-saved-requires-2 t c κs = search needs
-
 pub walk-operand-requires : (t : ℕ) → walk-lts.Need-operand-requires (walk-calls t) (walk-at t) walk.Post walk-Inv-loop walk-μ-loop
 walk-operand-requires t c κs =
     let at-loop-test = c .before .before .before .before .before .before .before .before .before in
     let at-count = at-loop-test .before .before .before .before .before .before in
     let start = at-count .before .before .before .before in
     ((start .pre .1 .0) .inside, omega (arith, at-count .count .ensures, at-loop-test .loop-test .taken))
-
-pub walk-done-requires : (t : ℕ) → walk-lts.Need-done-requires (walk-calls t) (walk-at t) walk.Post walk-Inv-loop walk-μ-loop
-walk-done-requires t c κs = search needs
 
 pub walk-sub-apply : (t : ℕ) → walk-lts.Need-sub-apply (walk-calls t) (walk-at t) walk.Post walk-Inv-loop walk-μ-loop
 walk-sub-apply t c = c .before .before .before .before .before .before .before .before .before .before .before .before .before .before .leap .ensures .few
@@ -95,15 +71,6 @@ walk-apply-requires t c κs =
     let at-kind = at-count .before .before in
     let start = at-kind .before .before in
     (omega arith, leap-ready (start .pre .1 .0) (start .pre .1 .1) (at-loop .loop .inv .0) (omega (arith, at-count .count .ensures, at-loop-test .loop-test .taken)) _ _ (at-leap .leap .ensures) (at-kind .kind .ensures) (at-landing .landing .ensures) (at-operand .operand .ensures) (at-word2 .word2 .ensures) (c .done .ensures))
-
-pub walk-hear-requires : (t : ℕ) → walk-lts.Need-hear-requires (walk-calls t) (walk-at t) walk.Post walk-Inv-loop walk-μ-loop
-walk-hear-requires t c κs = search needs
-
-pub walk-enum-known-yes : (t : ℕ) → walk-lts.Need-enum-known-yes (walk-calls t) (walk-at t) walk.Post walk-Inv-loop walk-μ-loop
-walk-enum-known-yes t c = search needs
-
-pub walk-enum-told : (t : ℕ) → walk-lts.Need-enum-told (walk-calls t) (walk-at t) walk.Post walk-Inv-loop walk-μ-loop
-walk-enum-told t c = search needs
 
 pub walk-same-length-2 : (t : ℕ) → walk-lts.Need-same-length-2 (walk-calls t) (walk-at t) walk.Post walk-Inv-loop walk-μ-loop
 walk-same-length-2 t c = c .before .before .before .before .before .apply .kept .1 .0 ∙ (c .before .before .before .before .before .before .before .before .before .before .before .before .before .before .before .before .before .before .loop .inv .0) .kept .long
@@ -150,18 +117,6 @@ walk-returns-3 t c =
     let start = at-kind .before .before in
     going-stops (start .pre .1 .0) (start .pre .1 .1) (at-loop .loop .inv .0) (omega (arith, at-count .count .ensures, at-loop-test .loop-test .taken)) refl (at-kind .kind .ensures) (at-word2 .word2 .ensures) refl (leap-gives (start .pre .1 .0) (start .pre .1 .1) (at-loop .loop .inv .0) (omega (arith, at-count .count .ensures, at-loop-test .loop-test .taken)) _ _ (at-leap .leap .ensures) (at-kind .kind .ensures) (at-landing .landing .ensures) (at-operand .operand .ensures) (at-word2 .word2 .ensures) (at-done .done .ensures) (omega (arith, at-if1 .if1 .left)) (at-apply .apply .ensures)) (at-hear .hear .ensures) (at-yes .yes .given .1) (at-kind .kind .ensures) (c .if3 .taken) (at-if2 .if2 .left)
 
-pub walk-element-write-st : (t : ℕ) → walk-lts.Need-element-write-st (walk-calls t) (walk-at t) walk.Post walk-Inv-loop walk-μ-loop
-walk-element-write-st t c = search needs
-
-pub walk-element-write-st-2 : (t : ℕ) → walk-lts.Need-element-write-st-2 (walk-calls t) (walk-at t) walk.Post walk-Inv-loop walk-μ-loop
-walk-element-write-st-2 t c = search needs
-
-pub walk-at-requires : (t : ℕ) → walk-lts.Need-at-requires (walk-calls t) (walk-at t) walk.Post walk-Inv-loop walk-μ-loop
-walk-at-requires t c κs = search needs
-
-pub walk-at-requires-2 : (t : ℕ) → walk-lts.Need-at-requires-2 (walk-calls t) (walk-at t) walk.Post walk-Inv-loop walk-μ-loop
-walk-at-requires-2 t c κs = search needs
-
 pub walk-beyond-requires : (t : ℕ) → walk-lts.Need-beyond-requires (walk-calls t) (walk-at t) walk.Post walk-Inv-loop walk-μ-loop
 walk-beyond-requires t c κs =
     let at-loop-test = c .before .before .before .before .before .before .before .before .before .before .before .before .before .before .before .before .before .before .before .before .before in
@@ -200,18 +155,6 @@ walk-loop-again t c =
     let start = at-kind .before .before in
     (⊎-elim (λ j. going-yes (start .pre .1 .0) (start .pre .1 .1) (at-loop .loop .inv .0) (omega (arith, at-count .count .ensures, at-loop-test .loop-test .taken)) refl (at-kind .kind .ensures) (at-word2 .word2 .ensures) refl (leap-gives (start .pre .1 .0) (start .pre .1 .1) (at-loop .loop .inv .0) (omega (arith, at-count .count .ensures, at-loop-test .loop-test .taken)) _ _ (at-leap .leap .ensures) (at-kind .kind .ensures) (at-landing .landing .ensures) (at-operand .operand .ensures) (at-word2 .word2 .ensures) (at-done .done .ensures) (omega (arith, at-if1 .if1 .left)) (at-apply .apply .ensures)) (at-hear .hear .ensures) (at-yes .yes .given .1) (j .0 .taken) (j .1) (j .2) (placed (at-loop .loop .i) _ _ _ (at-loop .loop .a) (at-loop .loop .b) (at-loop .loop .more) (at-at .at .ensures) (at-at2 .at2 .ensures) (c .beyond .ensures) (j .3))) (λ j. going-no (start .pre .1 .0) (start .pre .1 .1) (at-loop .loop .inv .0) (omega (arith, at-count .count .ensures, at-loop-test .loop-test .taken)) refl (at-kind .kind .ensures) (at-word2 .word2 .ensures) refl (leap-gives (start .pre .1 .0) (start .pre .1 .1) (at-loop .loop .inv .0) (omega (arith, at-count .count .ensures, at-loop-test .loop-test .taken)) _ _ (at-leap .leap .ensures) (at-kind .kind .ensures) (at-landing .landing .ensures) (at-operand .operand .ensures) (at-word2 .word2 .ensures) (at-done .done .ensures) (omega (arith, at-if1 .if1 .left)) (at-apply .apply .ensures)) (at-hear .hear .ensures) (at-yes .yes .given .1) (j .0 .left) (at-kind .kind .ensures) (j .1 .left) (at-saved .saved .ensures) (at-saved2 .saved2 .ensures) (j .2) (j .3) (placed (at-loop .loop .i) _ _ _ (at-loop .loop .a) (at-loop .loop .b) (at-loop .loop .more) (at-at .at .ensures) (at-at2 .at2 .ensures) (c .beyond .ensures) (j .4))) (at-if2 .if2 .came), four-still (at-loop .loop .more) (at-loop .loop .i) (at-if2 .if2 .y) (at-loop .loop .inv .1) (c .beyond .ensures))
 
-pub walk-array-read-t57 : (t : ℕ) → walk-lts.Need-array-read-t57 (walk-calls t) (walk-at t) walk.Post walk-Inv-loop walk-μ-loop
-walk-array-read-t57 t c = search needs
-
-pub walk-array-read-t60 : (t : ℕ) → walk-lts.Need-array-read-t60 (walk-calls t) (walk-at t) walk.Post walk-Inv-loop walk-μ-loop
-walk-array-read-t60 t c = search needs
-
-pub walk-array-read-t63 : (t : ℕ) → walk-lts.Need-array-read-t63 (walk-calls t) (walk-at t) walk.Post walk-Inv-loop walk-μ-loop
-walk-array-read-t63 t c = search needs
-
-pub walk-array-read-t66 : (t : ℕ) → walk-lts.Need-array-read-t66 (walk-calls t) (walk-at t) walk.Post walk-Inv-loop walk-μ-loop
-walk-array-read-t66 t c = search needs
-
 pub walk-finish-requires : (t : ℕ) → walk-lts.Need-finish-requires (walk-calls t) (walk-at t) walk.Post walk-Inv-loop walk-μ-loop
 walk-finish-requires t c κs =
     let at-loop-test = c .before .before in
@@ -232,3 +175,16 @@ walk-returns-4 t c =
     let at-kind = at-count .before .before in
     let start = at-kind .before .before in
     going-ends (start .pre .1 .0) (start .pre .1 .1) (at-loop .loop .inv .0) (omega (arith, at-count .count .ensures, at-loop-test .loop-test .left)) (at-kind .kind .ensures) (at-count .count .ensures) (whole-made _ _ _ _ _ _ _ _ _ _ _ _ _ _ (at-loop .loop .inv .1) (at-finish .finish .ensures))
+
+pub walk-closed : {M : Type 1} (t : ℕ) → walk-lts.Closed (walk-calls t) (walk-at t) walk.Post M
+walk-closed t =
+    walk-lts.spec (walk-calls t) (walk-at t) walk.Post
+    walk-Inv-loop walk-μ-loop (λ c. search needs) (λ c. search needs) (walk-kind-requires t) (λ c κs. search needs)
+    (λ c κs. search needs) (walk-leap-requires t) (walk-landing-requires t) (walk-loop-holds t) (λ c κs. search needs)
+    (walk-same-length t) (walk-returns t) (walk-add-word t) (walk-word-requires-2 t) (λ c κs. search needs)
+    (λ c κs. search needs) (walk-operand-requires t) (λ c κs. search needs) (walk-sub-apply t) (walk-apply-requires t)
+    (λ c κs. search needs) (λ c. search needs) (λ c. search needs) (walk-same-length-2 t) (walk-returns-2 t)
+    (walk-same-length-3 t) (walk-returns-3 t) (λ c. search needs) (λ c. search needs) (λ c κs. search needs)
+    (λ c κs. search needs) (walk-beyond-requires t) (walk-add-i t) (walk-loop-less t) (walk-loop-again t)
+    (λ c. search needs) (λ c. search needs) (λ c. search needs) (λ c. search needs) (walk-finish-requires t)
+    (walk-same-length-4 t) (walk-returns-4 t)
