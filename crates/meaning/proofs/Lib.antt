@@ -17,4 +17,6 @@ pub mod Free
 pub mod Places
 pub mod Orders
 pub mod Demands
+pub mod Twenty
 pub mod Small
+pub mod Ours

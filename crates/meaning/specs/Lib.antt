@@ -2,6 +2,7 @@
 pub mod Term
 pub mod Bindings
 pub mod Table
+pub mod Twenty
 pub mod Plan
 pub mod Rules
 pub mod Derivation
@@ -15,3 +16,4 @@ pub mod Answer
 pub mod Free
 pub mod Demands
 pub mod Small
+pub mod Ours

@@ -1,0 +1,65 @@
+-- Small runs of our own beside document 01's, for the kinds and the rules that S1 to S12 leave out: one table, one statement.
+use mathlib.Core.Path.{_≡_}
+use mathlib.Core.List.{List, [], _∷_, _++_, map}
+use Prim.Native.Nat.{ℕ}
+use lib.ListN.{set}
+use Rattle.meaning.specs.Store.{row}
+use Rattle.meaning.specs.Small.{entry, free, bound, three, four, given, gives, Case, case, matchX, seen, expected}
+
+-- the store above, but node 2 is 5(0, 0)
+unfoldable pub paired : List ℕ
+paired = row 1 [] ++ row 2 [] ++ row 5 (0 ∷ 0 ∷ [])
+
+-- BUILD of the constant 7, whose pattern is entry e
+unfoldable pub build7 : ℕ → List ℕ
+build7 e = entry 15 0 (e ∷ []) ++ entry 19 7 []
+
+-- MATCH x, MATCH y and their patterns as entries 1 to 4
+unfoldable pub two : List ℕ
+two = entry 14 0 (3 ∷ []) ++ entry 14 0 (4 ∷ []) ++ entry 18 0 [] ++ entry 18 1 []
+
+-- two scopes of x, one in the other: the outer x is the subject, the inner one its first child
+unfoldable pub scopes : List ℕ
+scopes =
+    entry 16 1 (1 ∷ []) ++ entry 4 0 (2 ∷ 3 ∷ []) ++ entry 14 0 (8 ∷ []) ++ entry 4 0 (4 ∷ 5 ∷ []) ++ entry 16 1 (6 ∷ [])
+    ++ entry 15 0 (8 ∷ []) ++ entry 9 1 (7 ∷ []) ++ entry 14 0 (8 ∷ []) ++ entry 18 0 []
+
+-- each with the kind that it is about
+unfoldable pub ours : List Case
+ours =
+    -- TEST: a term that it made is given back, and so is the room; where its operand fails, it fails
+    case 2 (given (entry 2 0 (1 ∷ []) ++ build7 2) three 8 2 99) (gives 0 2 3 3 three 8 free)
+    ∷ case 2 (given (entry 2 0 (1 ∷ []) ++ entry 1 0 []) three 8 2 99) (gives 1 2 3 2 three 8 free)
+    -- NOT: FAIL; a success, whose binding is lost; a failure after a binding and a node
+    ∷ case 3 (given (entry 3 0 (1 ∷ []) ++ entry 1 0 []) three 8 2 99) (gives 0 2 3 2 three 8 free)
+    ∷ case 3 (given (entry 3 0 (1 ∷ []) ++ matchX 1) three 8 2 99) (gives 1 2 3 3 three 8 free)
+    ∷ case 3 (given (entry 3 0 (1 ∷ []) ++ entry 4 0 (2 ∷ 4 ∷ []) ++ matchX 2 ++ entry 1 0 []) three 8 2 99) (gives 0 2 3 5 three 8 free)
+    -- CHOICE: the first; the second from the beginning state
+    ∷ case 5 (given (entry 5 0 (1 ∷ 3 ∷ []) ++ matchX 1 ++ entry 1 0 []) three 8 2 99) (gives 0 2 3 3 three 8 (bound 0 2))
+    ∷ case 5 (given (entry 5 0 (1 ∷ 5 ∷ []) ++ entry 4 0 (2 ∷ 4 ∷ []) ++ matchX 2 ++ entry 1 0 [] ++ entry 0 0 []) three 8 2 99) (gives 0 2 3 6 three 8 free)
+    -- REC and CALL: down to the leaves, one new node
+    ∷ case 8 (given (entry 7 0 (1 ∷ []) ++ entry 11 0 (2 ∷ []) ++ entry 8 0 (0 ∷ [])) three 8 2 99) (gives 0 3 4 8 (four (row 5 (0 ∷ 1 ∷ []))) 8 free)
+    -- PATH: a child built anew; a child's binding stays
+    ∷ case 9 (given (entry 9 1 (1 ∷ []) ++ build7 2) three 8 2 99) (gives 0 4 5 3 (four (row 7 []) ++ row 5 (3 ∷ 1 ∷ [])) 8 free)
+    ∷ case 9 (given (entry 9 2 (1 ∷ []) ++ matchX 1) three 8 2 99) (gives 0 3 4 3 (four (row 5 (0 ∷ 1 ∷ []))) 8 (bound 0 1))
+    -- CONG: no children, and another constructor; another count; operand j on child j; the bindings of the child before
+    ∷ case 10 (given (entry 10 1 []) three 8 0 99) (gives 0 0 3 1 three 8 free)
+    ∷ case 10 (given (entry 10 2 []) three 8 0 99) (gives 1 0 3 1 three 8 free)
+    ∷ case 10 (given (entry 10 5 (1 ∷ []) ++ entry 0 0 []) three 8 2 99) (gives 1 2 3 1 three 8 free)
+    ∷ case 10 (given (entry 10 5 (1 ∷ 2 ∷ []) ++ two) three 8 2 99) (gives 0 3 4 5 (four (row 5 (0 ∷ 1 ∷ []))) 8 (set (bound 0 0) 1 2))
+    ∷ case 10 (given (entry 10 5 (1 ∷ 1 ∷ []) ++ matchX 1) three 8 2 99) (gives 1 2 3 6 three 8 free)
+    ∷ case 10 (given (entry 10 5 (1 ∷ 1 ∷ []) ++ matchX 1) paired 8 2 99) (gives 0 3 4 6 (paired ++ row 5 (0 ∷ 0 ∷ [])) 8 (bound 0 0))
+    -- ONE: the leftmost child that succeeds, and no other
+    ∷ case 12 (given (entry 12 0 (1 ∷ []) ++ entry 14 0 (2 ∷ []) ++ entry 19 2 []) three 8 2 99) (gives 0 3 4 5 (four (row 5 (0 ∷ 1 ∷ []))) 8 free)
+    ∷ case 12 (given (entry 12 0 (1 ∷ []) ++ build7 2) three 8 2 99) (gives 0 4 5 3 (four (row 7 []) ++ row 5 (3 ∷ 1 ∷ [])) 8 free)
+    -- SCOPE: the other new bindings stay; one in the other
+    ∷ case 16 (given (entry 16 2 (1 ∷ []) ++ matchX 1) three 8 2 99) (gives 0 2 3 3 three 8 (bound 0 2))
+    ∷ case 16 (given scopes three 8 2 99) (gives 0 2 4 11 (four (row 5 (0 ∷ 1 ∷ []))) 8 free)
+    -- WHERE in a LEFT: its node and its binding stay; after a failure neither does
+    ∷ case 17 (given (entry 6 0 (1 ∷ 7 ∷ []) ++ entry 17 0 (2 ∷ []) ++ entry 4 0 (3 ∷ 5 ∷ []) ++ build7 4 ++ matchX 5 ++ entry 0 0 []) three 8 2 99) (gives 0 2 4 7 (four (row 7 [])) 8 (bound 0 3))
+    ∷ case 17 (given (entry 6 0 (1 ∷ 6 ∷ []) ++ entry 4 0 (2 ∷ 5 ∷ []) ++ entry 17 0 (3 ∷ []) ++ build7 4 ++ entry 1 0 [] ++ entry 0 0 []) three 8 2 99) (gives 0 2 3 7 three 8 free)
+    ∷ []
+
+-- every run of ours passes both checks and gives what its line says
+abbrev pub Our-runs : Type 0
+Our-runs = map seen ours ≡ map expected ours
