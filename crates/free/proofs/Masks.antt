@@ -21,7 +21,7 @@ use Rattle.meaning.specs.Bindings.{has}
 use Rattle.meaning.specs.Table.{PVAR, table, operands}
 use Rattle.meaning.specs.Free.{In, here, there, Variable, var, part, Free, in-match, in-build, in-scope, in-operand}
 use Rattle.meaning.proofs.Tests.{decided}
-use Rattle.free.specs.Passes.{joined, joinedOperands, ruled, fuller, grows, grown, passed, changed, Of, pattern, strategy, Sound, Settled}
+use Rattle.free.specs.Passes.{joined, joinedOperands, ruled, fuller, grows, grown, passed, changed, Of, pattern, strategy, BitsMeant, Settled}
 use Rattle.meaning.proofs.Bits.{has-nothing, has-and, has-or, has-one, not-has, or-grows}
 use Rattle.free.proofs.Entries.{other, operand-at, length-operands, Strategies, Patterns, Shape, is-plain, is-match, is-build, is-scope, is-variable, is-con, shape, entry-of}
 use Rattle.free.specs.Promises.{GoodTable}
@@ -112,7 +112,7 @@ module _ (t : List ℕ) where
 
 -- ---- soundness: the rules give nothing else
 
-module _ (t ms : List ℕ) (sound : Sound t ms) (e v : ℕ) where
+module _ (t ms : List ℕ) (sound : BitsMeant t ms) (e v : ℕ) where
   -- the operand that has the variable
   operand-with : has (joinedOperands t ms e) v ≡ true → (y : ℕ) × In y (operands t e) × (has (getD ms y 0) v ≡ true)
   operand-with h = ⊎-elim (λ z. absurd (false≢true (sym (has-nothing v) ∙ z))) (λ z. z) (of-joined ms v 0 (operands t e) h)
@@ -177,7 +177,7 @@ stays t ms e h = eqb-true _ _ (go _ h)
 pub record State (t ms : List ℕ) : Type 0 where
   pub long : rows t ≤ length ms
   pub fits : (i : ℕ) → getD ms i 0 < 2 ^ 32
-  pub sound : Sound t ms
+  pub sound : BitsMeant t ms
 
 -- a mask that was put, and the others
 put-at : (P : ℕ → ℕ → Type 0) (ms : List ℕ) (e m : ℕ) → e < length ms → P e m → ((x : ℕ) → P x (getD ms x 0)) → (x : ℕ) → P x (getD (set ms e m) x 0)

@@ -19,7 +19,7 @@ use Rattle.meaning.specs.Free.{In, here, there, operandsOf, Variable, var, part
 use Rattle.meaning.proofs.Tests.{impossible}
 use Rattle.free.specs.Answered.{isStrategy, MaskOf}
 use Rattle.free.specs.Promises.{GoodTable, StrategyOf}
-use Rattle.free.specs.Passes.{ruled, fuller, Sound, Settled}
+use Rattle.free.specs.Passes.{ruled, fuller, BitsMeant, Settled}
 use Rattle.meaning.proofs.Bits.{has-nothing, has-and, has-or, has-one, has-not}
 use Rattle.free.proofs.Entries.{other, plain, Shape, is-plain, is-match, is-build, is-scope, is-variable, is-con, shape, entry-of, sort-strategy}
 use Rattle.free.proofs.Masks.{or-true, as-strategy, in-joined, ruled-joined, ruled-scope, ruled-variable, stays}
@@ -171,7 +171,7 @@ module _ (t ms : List ℕ) (settled : Settled t ms) where
       }
 
 -- the mask of a strategy, once no rule adds anything
-pub mask-is : (t ms : List ℕ) (e : ℕ) → GoodTable t → StrategyOf t e → Sound t ms → Settled t ms → (m : ℕ) → m ≡ getD ms e 0 → m < 2 ^ 32 → MaskOf t e m
+pub mask-is : (t ms : List ℕ) (e : ℕ) → GoodTable t → StrategyOf t e → BitsMeant t ms → Settled t ms → (m : ℕ) → m ≡ getD ms e 0 → m < 2 ^ 32 → MaskOf t e m
 mask-is t ms e good s sound settled m q fits =
     let k : kindOf t e ≤ 17 = sort-strategy _ (s .1) in
     record {
@@ -189,7 +189,7 @@ getD-zeros zero i = refl
 getD-zeros (suc n) zero = refl
 getD-zeros (suc n) (suc i) = getD-zeros n i
 
-pub zeros-sound : (t : List ℕ) (n : ℕ) → Sound t (replicate n 0)
+pub zeros-sound : (t : List ℕ) (n : ℕ) → BitsMeant t (replicate n 0)
 zeros-sound t n e v h = absurd (false≢true (sym (has-nothing v) ∙ ap (λ (m : ℕ). has m v) (sym (getD-zeros n e)) ∙ h))
 
 -- a strategy of the table

@@ -58,8 +58,8 @@ module _ (t : List ℕ) where
     strategy : kindOf t e ≤ 17 → Free (table t) e v → Of e v
 
   -- every bit of a mask stands for a variable of its entry
-  abbrev pub Sound : List ℕ → Type 0
-  Sound ms = (e v : ℕ) → has (getD ms e 0) v ≡ true → Of e v
+  abbrev pub BitsMeant : List ℕ → Type 0
+  BitsMeant ms = (e v : ℕ) → has (getD ms e 0) v ≡ true → Of e v
 
   -- no rule gives more than the masks have
   abbrev pub Settled : List ℕ → Type 0

@@ -8,7 +8,7 @@ ghost use Rattle.words.specs.Words.{rows};
 ghost use Rattle.checks.specs.Good.{operandCount};
 ghost use Rattle.checks.specs.Plain.{Entry};
 ghost use Rattle.free.specs.Answered.{MaskOf};
-ghost use Rattle.free.specs.Passes.{joinedOperands, ruled, grown, grows, passed, changed, Sound, Settled};
+ghost use Rattle.free.specs.Passes.{joinedOperands, ruled, grown, grows, passed, changed, BitsMeant, Settled};
 ghost use Rattle.free.specs.Promises.{GoodTable, StrategyOf};
 use checks::entries::kind_of;
 use checks::entries::operand_count;
@@ -79,8 +79,8 @@ fn pass(table: &[u32], masks: &mut [u32]) -> bool
 
 // Passes until one adds nothing.
 fn settle(table: &[u32], masks: &mut [u32])
-    requires { ⌜ GoodTable (now table) × ((rows (now table) ≤ length (now masks)) × Sound (now table) (now masks)) ⌝ }
-    ensures { λ _. ⌜ Sound (now (table .entry)) (now (masks .exit)) × Settled (now (table .entry)) (now (masks .exit)) ⌝ }
+    requires { ⌜ GoodTable (now table) × ((rows (now table) ≤ length (now masks)) × BitsMeant (now table) (now masks)) ⌝ }
+    ensures { λ _. ⌜ BitsMeant (now (table .entry)) (now (masks .exit)) × Settled (now (table .entry)) (now (masks .exit)) ⌝ }
 {
     let mut more = true;
     while more {

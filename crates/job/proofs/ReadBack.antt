@@ -15,7 +15,7 @@ use Rattle.job.specs.Lines.{Line, nodeFits, bindingFits, fits, nodeRow}
 use Rattle.job.specs.Job.{Reading, zeros, admitted, headed, tableWith, storeWith, bindingsWith, with, taken}
 use Rattle.job.specs.Written.{Within, empty, limited, Follow, end, next}
 use Rattle.job.specs.Answer.{nodeShown, nodeNumbers, nodeLine, nodeLines, bindingLine, bindingLines}
-use Rattle.job.specs.Promises.{Plain, Ready, ReadBack}
+use Rattle.job.specs.Promises.{Plain, BeforeNodes, ReadBack}
 
 -- Lines that follow lines that follow.
 follow-more : {g h k : Reading} {xs : List Line} (ys : List Line) → Follow g xs h → Follow h ys k → Follow g (xs ++ ys) k
@@ -180,7 +180,7 @@ node-next g w n p l o t =
       bindings = t .bindings;
     }
 
-nodes-read : (g : Reading) (w : List ℕ) (m : ℕ) → Ready g → 8 * m ≤ length w → m ≤ 1024 → ((k : ℕ) → k < m → Plain w k) → (n : ℕ) → n ≤ m → Nodes g w n
+nodes-read : (g : Reading) (w : List ℕ) (m : ℕ) → BeforeNodes g → 8 * m ≤ length w → m ≤ 1024 → ((k : ℕ) → k < m → Plain w k) → (n : ℕ) → n ≤ m → Nodes g w n
 unfolding nodeLines
 nodes-read g w m y l o p zero h = record {
   after = g;

@@ -16,9 +16,9 @@ use Rattle.words.proofs.Tests.{and-true, below-or-from}
 use Rattle.words.specs.Words.{clearedFrom}
 use Rattle.job.specs.Text.{parts, upTo, numbersOf, eight}
 use Rattle.job.specs.Lines.{Line, nameOf, jobFits, entryFits, nodeFits, bindingFits, fits, lineFrom, lineOfFields, lineOf, entryRow, nodeRow, noLine, lineHeld, takenAt}
-use Rattle.job.specs.Job.{Reading, admitted, headed, tableWith, storeWith, bindingsWith, with, taken, accepted, Meant, bad, good, orBad, ended, readLines, Holds, blank, zeros, meant, outcomeOf, tableOf, storeOf, bindingsOf}
-use Rattle.job.specs.declared.Outcome.the-variants as told
-use Rattle.job.specs.declared.Outcome.{Outcome}
+use Rattle.job.specs.Job.{Reading, admitted, headed, tableWith, storeWith, bindingsWith, with, taken, accepted, Meant, bad, good, orBad, ended, readLines, Holds, blank, zeros, meant, parsedOf, tableOf, storeOf, bindingsOf}
+use Rattle.job.specs.declared.Parsed.the-variants as told
+use Rattle.job.specs.declared.Parsed.{Parsed}
 use Rattle.job.specs.declared.Heading.{Heading}
 use Rattle.job.specs.declared.Taken.{Taken}
 use Rattle.job.proofs.Parts.{parts-first, parts-on, parts-end, length-upTo, upTo-stops}
@@ -286,22 +286,22 @@ unfolding meant
 meant-read text t s b l p q r = rw (le-ltb _ _ l, p, q, r)
 
 -- What the code gives and leaves, of a bad text and of a job.
-abbrev pub Right : Meant → Outcome → List ℕ → List ℕ → List ℕ → Type 0
-Right m o t s b = (o ≡ outcomeOf m) × (t ≡ tableOf m) × (s ≡ storeOf m) × (b ≡ bindingsOf m)
+abbrev pub Right : Meant → Parsed → List ℕ → List ℕ → List ℕ → Type 0
+Right m o t s b = (o ≡ parsedOf m) × (t ≡ tableOf m) × (s ≡ storeOf m) × (b ≡ bindingsOf m)
 
 pub right-bad : (m : Meant) (n : ℕ) (t s b : List ℕ) → m ≡ bad n → t ≡ zeros 4096 → s ≡ zeros 8192 → b ≡ zeros 32 → Right m (told.Bad n) t s b
 right-bad m n t s b e p q r = rw e (refl, p, q, r)
 
 -- The outcome tells what the text means.
-pub holds-bad : (m : Meant) (o : Outcome) (n : ℕ) (t s b : List ℕ) → Holds m o t s b → o ≡ told.Bad n → m ≡ bad n
+pub holds-bad : (m : Meant) (o : Parsed) (n : ℕ) (t s b : List ℕ) → Holds m o t s b → o ≡ told.Bad n → m ≡ bad n
 holds-bad (bad k) o n t s b h e = let d : k ≡ n = cc in ap bad d
 holds-bad (good g) o n t s b h e =
     let p : o ≡ told.Read (g .heading) = h .0 in
     let z : _≡_ {A = ℕ} 0 1 = cc in absurd (omega arith)
 
-right-read : (m : Meant) (o : Outcome) (h : Heading) (t s b : List ℕ) → Holds m o t s b → o ≡ told.Read h → Right m (told.Read h) t s b
+right-read : (m : Meant) (o : Parsed) (h : Heading) (t s b : List ℕ) → Holds m o t s b → o ≡ told.Read h → Right m (told.Read h) t s b
 right-read (bad k) o h t s b w e = let z : _≡_ {A = ℕ} 0 1 = cc in absurd (omega arith)
 right-read (good g) o h t s b w e = (sym e ∙ w .0, w .1, w .2, w .3)
 
-pub holds-read : {m m′ : Meant} → m ≡ m′ → (o : Outcome) (h : Heading) (t s b : List ℕ) → Holds m o t s b → o ≡ told.Read h → Right m′ (told.Read h) t s b
+pub holds-read : {m m′ : Meant} → m ≡ m′ → (o : Parsed) (h : Heading) (t s b : List ℕ) → Holds m o t s b → o ≡ told.Read h → Right m′ (told.Read h) t s b
 holds-read {m} {m′} z o h t s b w e = subst (λ (k : Meant). Right k (told.Read h) t s b) z (right-read m o h t s b w e)

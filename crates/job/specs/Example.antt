@@ -6,8 +6,8 @@ use Prim.Native.Nat.{ℕ}
 use lib.ListN.{take}
 use Rattle.job.specs.Text.{parts, valued, numberOf, numbersOf, digits}
 use Rattle.job.specs.Lines.{Line, letterOf, nameOf, jobFits, entryFits, nodeFits, bindingFits, fits, lineOf, entryRow, nodeRow}
-use Rattle.job.specs.Job.{bad, zeros, admitted, headed, tableWith, storeWith, bindingsWith, with, readLines, meant, outcomeOf, tableOf, storeOf}
-use Rattle.job.specs.declared.Outcome.the-variants as told
+use Rattle.job.specs.Job.{bad, zeros, admitted, headed, tableWith, storeWith, bindingsWith, with, readLines, meant, parsedOf, tableOf, storeOf}
+use Rattle.job.specs.declared.Parsed.the-variants as told
 use Rattle.job.specs.Written.{nameText, numbersText, lineText, written}
 use Rattle.job.specs.Answer.{nodeShown, nodeNumbers, nodeLines, bindingLine, bindingLines, shown, answerLine, answered}
 use Rattle.words.specs.Words.{putRow}
@@ -54,7 +54,7 @@ unfolding written lineText nameText numbersText digits
 job-written = refl
 
 -- its numbers, the rows of its entries and the rows of its nodes
-job-numbers : outcomeOf (meant jobText) ≡ told.Read (record { section = 2; entries = 8; nodes = 3; variable = 0; units = 10; start = 0; subject = 2; room = 4 })
+job-numbers : parsedOf (meant jobText) ≡ told.Read (record { section = 2; entries = 8; nodes = 3; variable = 0; units = 10; start = 0; subject = 2; room = 4 })
 unfolding meant readLines parts lineOf nameOf letterOf numbersOf numberOf valued fits jobFits entryFits nodeFits bindingFits admitted with headed tableWith storeWith bindingsWith entryRow nodeRow putRow zeros
 job-numbers = refl
 

@@ -13,8 +13,8 @@ use Rattle.words.specs.Words.{putRow}
 use Rattle.job.specs.Text.{parts}
 use Rattle.job.specs.Lines.{Line, lineOf, entryRow, nodeRow}
 use Rattle.job.specs.declared.Heading.{Heading}
-use Rattle.job.specs.declared.Outcome.{Outcome}
-use Rattle.job.specs.declared.Outcome.the-variants as told
+use Rattle.job.specs.declared.Parsed.{Parsed}
+use Rattle.job.specs.declared.Parsed.the-variants as told
 
 -- what is read so far: the numbers of the heading, and the words
 pub record Reading : Type 0 where
@@ -114,10 +114,10 @@ unfoldable pub meant : List ℕ → Meant
 unfolding readLines
 meant s = if ltb 60000 (length s) then bad 0 else readLines unread 1 (parts 10 s)
 
--- the code's outcome and the words of its arrays; a bad text leaves zeros
-abbrev pub outcomeOf : Meant → Outcome
-outcomeOf (bad n) = told.Bad n
-outcomeOf (good g) = told.Read (g .heading)
+-- what the code has read and the words of its arrays; a bad text leaves zeros
+abbrev pub parsedOf : Meant → Parsed
+parsedOf (bad n) = told.Bad n
+parsedOf (good g) = told.Read (g .heading)
 
 abbrev pub tableOf : Meant → List ℕ
 tableOf (bad n) = zeros 4096
@@ -132,6 +132,6 @@ bindingsOf (bad n) = zeros 32
 bindingsOf (good g) = g .bindings
 
 -- what the code gives and leaves in its arrays; of a bad text, the line alone
-abbrev pub Holds : Meant → Outcome → List ℕ → List ℕ → List ℕ → Type 0
+abbrev pub Holds : Meant → Parsed → List ℕ → List ℕ → List ℕ → Type 0
 Holds (bad n) o t s b = o ≡ told.Bad n
 Holds (good g) o t s b = (o ≡ told.Read (g .heading)) × (t ≡ g .table) × (s ≡ g .store) × (b ≡ g .bindings)

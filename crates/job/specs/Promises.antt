@@ -61,7 +61,7 @@ pub record Left (w b : List ℕ) (m : ℕ) : Type 0 where
   pub bound : (v : ℕ) → getD b v 0 ≤ 131072
 
 -- line 1 and perhaps `e` lines are read, and neither a node nor a binding
-pub record Ready (g : Reading) : Type 0 where
+pub record BeforeNodes (g : Reading) : Type 0 where
   pub begun : 1 ≤ g .heading .section
   pub before : g .heading .section ≤ 2
   pub nodes : g .heading .nodes ≡ 0
@@ -79,7 +79,7 @@ pub record Back (g : Reading) (w b : List ℕ) (m : ℕ) : Type 0 where
 
 -- what is written of nodes and bindings is read back as it was
 abbrev pub ReadBack : Type 0
-ReadBack = (g : Reading) (w b : List ℕ) (m : ℕ) → Ready g → Left w b m → Back g w b m
+ReadBack = (g : Reading) (w b : List ℕ) (m : ℕ) → BeforeNodes g → Left w b m → Back g w b m
 
 -- the text of an answer is at most 81,726 bytes where the mark is at most 1,024
 abbrev pub AnswerFits : Type 0

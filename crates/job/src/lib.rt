@@ -36,7 +36,7 @@ pub struct Heading {
 }
 
 // A job, or the number of the first bad line.
-pub enum Outcome {
+pub enum Parsed {
     Bad(u32),
     Read(Heading),
 }

@@ -5,9 +5,9 @@ ghost use Prim.Native.Nat.{_≤_, _<_};
 ghost use lib.ListN.{length, getD};
 ghost use Rattle.job.specs.Text.{parts};
 ghost use Rattle.job.specs.Lines.{entryRow, nodeRow};
-ghost use Rattle.job.specs.Job.{admitted, headed, blank, zeros, tableWith, storeWith, bindingsWith, readLines, Holds, meant, outcomeOf, tableOf, storeOf, bindingsOf};
+ghost use Rattle.job.specs.Job.{admitted, headed, blank, zeros, tableWith, storeWith, bindingsWith, readLines, Holds, meant, parsedOf, tableOf, storeOf, bindingsOf};
 use crate::Heading;
-use crate::Outcome;
+use crate::Parsed;
 use crate::reader::line_from;
 use words::clear_from;
 use words::put_row;
@@ -126,7 +126,7 @@ fn put_binding(bindings: &mut [u32], name: u32, at: [u32; 8])
 }
 
 // The lines of a text from the first on, over the words as they are.
-fn read_lines(text: &[u8], table: &mut [u32], store: &mut [u32], bindings: &mut [u32]) -> Outcome
+fn read_lines(text: &[u8], table: &mut [u32], store: &mut [u32], bindings: &mut [u32]) -> Parsed
     requires { ⌜ (length (now text) ≤ 60000) × (length (now table) ≡ 4096) × (length (now store) ≡ 8192) × (length (now bindings) ≡ 32) ⌝ }
     ensures { λ r. ⌜ Holds (readLines (record { heading = blank; table = now (table .entry); store = now (store .entry); bindings = now (bindings .entry) }) 1 (parts 10 (now (text .entry)))) r (now (table .exit)) (now (store .exit)) (now (bindings .exit)) ⌝ }
 {
@@ -146,11 +146,11 @@ fn read_lines(text: &[u8], table: &mut [u32], store: &mut [u32], bindings: &mut 
         let t = line_from(text, at);
         let k = t.name;
         if 3 < k {
-            return Outcome::Bad(n);
+            return Parsed::Bad(n);
         }
         let a = t.at;
         if !admits(h, k, a[0]) {
-            return Outcome::Bad(n);
+            return Parsed::Bad(n);
         }
         put_entry(table, h.entries, k, t.count, a);
         put_node(store, h.nodes, k, t.count, a);
@@ -160,9 +160,9 @@ fn read_lines(text: &[u8], table: &mut [u32], store: &mut [u32], bindings: &mut 
         n += 1;
     }
     if h.section == 0 {
-        return Outcome::Bad(n);
+        return Parsed::Bad(n);
     }
-    Outcome::Read(h)
+    Parsed::Read(h)
 }
 
 // Every word of the three arrays cleared.
@@ -176,20 +176,20 @@ fn clear_all(table: &mut [u32], store: &mut [u32], bindings: &mut [u32])
 }
 
 // The job of a text: its numbers, and its words in the lent arrays, or its first bad line, and zeros.
-pub fn read(text: &[u8], table: &mut [u32], store: &mut [u32], bindings: &mut [u32]) -> Outcome
+pub fn read(text: &[u8], table: &mut [u32], store: &mut [u32], bindings: &mut [u32]) -> Parsed
     requires { ⌜ (length (now table) ≡ 4096) × (length (now store) ≡ 8192) × (length (now bindings) ≡ 32) ⌝ }
-    ensures { λ r. ⌜ (r ≡ outcomeOf (meant (now (text .entry)))) × (now (table .exit) ≡ tableOf (meant (now (text .entry)))) × (now (store .exit) ≡ storeOf (meant (now (text .entry)))) × (now (bindings .exit) ≡ bindingsOf (meant (now (text .entry)))) ⌝ }
+    ensures { λ r. ⌜ (r ≡ parsedOf (meant (now (text .entry)))) × (now (table .exit) ≡ tableOf (meant (now (text .entry)))) × (now (store .exit) ≡ storeOf (meant (now (text .entry)))) × (now (bindings .exit) ≡ bindingsOf (meant (now (text .entry)))) ⌝ }
 {
     clear_all(table, store, bindings);
     if 60000 < text.len() {
-        return Outcome::Bad(0);
+        return Parsed::Bad(0);
     }
     let o = read_lines(text, table, store, bindings);
     match o {
-        Outcome::Bad(n) => {
+        Parsed::Bad(n) => {
             clear_all(table, store, bindings);
-            Outcome::Bad(n)
+            Parsed::Bad(n)
         }
-        Outcome::Read(h) => Outcome::Read(h),
+        Parsed::Read(h) => Parsed::Read(h),
     }
 }

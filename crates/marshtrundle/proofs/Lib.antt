@@ -5,3 +5,4 @@ pub mod Fetching
 pub mod Hinting
 pub mod Whole
 pub mod Promises
+pub mod Small

@@ -40,11 +40,12 @@ use Rattle.free.specs.declared.FreeVariables.{FreeVariables}
 use Rattle.free.specs.Answered.{Answered}
 use Rattle.free.proofs.Smallest.{below-32}
 use Rattle.marshtrundle.specs.Refused.{sizesFit, startFits, refused}
-use Rattle.marshtrundle.specs.Run.{input, back, refusing, runOf}
+use Rattle.marshtrundle.specs.Run.{input, atReturn, refusing, runOf}
 use Rattle.marshtrundle.specs.Promises as promises
-use Rattle.marshtrundle.specs.Promises.{Runs, AsGiven, told}
+use Rattle.marshtrundle.specs.Promises.{Runs, AsGiven, Told, SizesFit, EntriesGood, NodesGood, StartFits}
 use Rattle.marshtrundle.specs.declared.running.Outcome.{Outcome}
-use Rattle.marshtrundle.proofs.Accepting.{accepted-answer, accepted-back}
+use Rattle.marshtrundle.proofs.Accepting.{verdict, accepted-answer, accepted-back}
+use Rattle.marshtrundle.proofs.Accepting as accepting
 use Rattle.marshtrundle.proofs.Copying.{length-words, word-of}
 use Rattle.marshtrundle.proofs.Whole.{left, units-left}
 
@@ -52,7 +53,7 @@ use Rattle.marshtrundle.proofs.Whole.{left, units-left}
 
 pub agreeing : promises.Agreeing
 agreeing i o o′ s s′ b b′ p q =
-    let e : back o s b ≡ back o′ s′ b′ = p ∙ sym q in (
+    let e : atReturn o s b ≡ atReturn o′ s′ b′ = p ∙ sym q in (
       (λ j. record { answer = e j .answer; place = e j .place; subject = e j .subject; mark = e j .mark; units = e j .units }),
       ap (λ (r : Returned). r .store) e,
       ap (λ (r : Returned). r .bindings) e,
@@ -61,23 +62,20 @@ agreeing i o o′ s s′ b b′ p q =
 -- ---- refused, or run
 
 module _ (i : Input) where
-  abbrev verdict : Checked
-  verdict = refused (i .table) (i .store) (i .bindings) (i .mark) (i .start) (i .subject)
-
   -- the run of an accepted input
   runs : Accepted i → runOf i ≡ returned i (ran i)
   unfolding runOf
   runs a = rw (accepted-back (i .table) (i .store) (i .bindings) (i .mark) (i .start) (i .subject) (i .units) a)
 
   -- an input is accepted, or its verdict is not 0
-  judged : Accepted i ⊎ (eqb (verdict .answer) 0 ≡ false)
-  judged = go (eqb (verdict .answer) 0) refl
+  judged : Accepted i ⊎ (eqb (verdict i .answer) 0 ≡ false)
+  judged = go (eqb (verdict i .answer) 0) refl
     where
-      go : (b : Bool) → eqb (verdict .answer) 0 ≡ b → Accepted i ⊎ (eqb (verdict .answer) 0 ≡ false)
+      go : (b : Bool) → eqb (verdict i .answer) 0 ≡ b → Accepted i ⊎ (eqb (verdict i .answer) 0 ≡ false)
       go true e = inl (accepted-answer (i .table) (i .store) (i .bindings) (i .mark) (i .start) (i .subject) (i .units) e)
       go false e = inr e
 
-  turned-away : eqb (verdict .answer) 0 ≡ false → runOf i ≡ refusing i verdict
+  turned-away : eqb (verdict i .answer) 0 ≡ false → runOf i ≡ refusing i (verdict i)
   unfolding runOf
   turned-away e = rw e
 
@@ -127,13 +125,13 @@ of-run i (cut nesting w u) = inr (omega arith, omega arith)
 
 module _ (i : Input) (o : Outcome) (s b : List ℕ) (p : Runs i o s b) where
   -- what comes back from a run, and from a refusal
-  came : Accepted i → back o s b ≡ returned i (ran i)
+  came : Accepted i → atReturn o s b ≡ returned i (ran i)
   came a = p ∙ runs i a
 
-  refused-came : eqb (verdict i .answer) 0 ≡ false → back o s b ≡ refusing i (verdict i)
+  refused-came : eqb (verdict i .answer) 0 ≡ false → atReturn o s b ≡ refusing i (verdict i)
   refused-came e = p ∙ turned-away i e
 
-  answer-of : {r : Returned} → back o s b ≡ r → o .answer ≡ r .answer
+  answer-of : {r : Returned} → atReturn o s b ≡ r → o .answer ≡ r .answer
   answer-of e = ap (λ (r : Returned). r .answer) e
 
   ran-answer : Accepted i → (o .answer ≤ 1) ⊎ ((6 ≤ o .answer) × (o .answer ≤ 8))
@@ -151,8 +149,81 @@ module _ (i : Input) (o : Outcome) (s b : List ℕ) (p : Runs i o s b) where
     λ n. ⊎-elim (λ a. absurd (n a)) refused-answer (judged i),
   )
 
-pub answers : promises.Answers
-answers = listed
+-- a run's own answers have place 0
+ran-place : (i : Input) (r : Ran) → returned i r .place ≡ 0
+unfolding returned
+ran-place i (ended k b s u) = refl
+ran-place i (lost w u) = refl
+ran-place i (cut c w u) = refl
+
+module _ (i : Input) (o : Outcome) (s b : List ℕ) (p : Runs i o s b) where
+  -- a refusal's answer and place are the verdict's
+  by-verdict : (n k : ℕ) → 1 < n → n < 6 → ((o .answer ≡ n) × (o .place ≡ k)) ↔ (verdict i ≡ checked n k)
+  by-verdict n k l m = (
+    λ e.
+        ⊎-elim (λ a. absurd (⊎-elim (λ h. omega (arith, e .0)) (λ h. omega (arith, e .0, h .0)) (ran-answer i o s b p a)))
+        (λ z. let w : atReturn o s b ≡ refusing i (verdict i) = refused-came i o s b p z in
+        let x : verdict i .answer ≡ n = sym (ap (λ (r : Returned). r .answer) w) ∙ e .0 in
+        let y : verdict i .place ≡ k = sym (ap (λ (r : Returned). r .place) w) ∙ e .1 in
+        λ j. record { answer = x j; place = y j })
+        (judged i),
+    λ e.
+        let z : verdict i .answer ≡ n = ap (λ (c : Checked). c .answer) e in
+        let w : atReturn o s b ≡ refusing i (verdict i) = refused-came i o s b p (ne-eqb (verdict i .answer) 0 (λ h. omega (arith, z, h))) in
+        (ap (λ (r : Returned). r .answer) w ∙ z, ap (λ (r : Returned). r .place) w ∙ ap (λ (c : Checked). c .place) e),
+  )
+
+  sizes-answer : (o .answer ≡ 2) ↔ (SizesFit i → ⊥)
+  sizes-answer = (
+    λ e. accepting.refused-sizes i (o .place) .0 (by-verdict 2 (o .place) (omega arith) (omega arith) .0 (e, refl)) .1,
+    λ n. by-verdict 2 0 (omega arith) (omega arith) .1 (accepting.refused-sizes i 0 .1 (refl, n)) .0,
+  )
+
+  start-answer : (o .answer ≡ 5) ↔ (SizesFit i × EntriesGood i × NodesGood i × (StartFits i → ⊥))
+  start-answer = (
+    λ e.
+        let f = accepting.refused-start i (o .place) .0 (by-verdict 5 (o .place) (omega arith) (omega arith) .0 (e, refl)) in
+        (f .0, f .1 .0, f .1 .1 .0, f .1 .1 .1 .1),
+    λ f. by-verdict 5 0 (omega arith) (omega arith) .1 (accepting.refused-start i 0 .1 (f .0, (f .1, (f .2, (refl, f .3))))) .0,
+  )
+
+  unplaced : (o .answer ≡ 3 → ⊥) → (o .answer ≡ 4 → ⊥) → o .place ≡ 0
+  unplaced m n =
+      ⊎-elim (λ a. ap (λ (r : Returned). r .place) (came i o s b p a) ∙ ran-place i (ran i))
+      (λ z. let w : atReturn o s b ≡ refusing i (verdict i) = refused-came i o s b p z in
+      let x : o .answer ≡ verdict i .answer = ap (λ (r : Returned). r .answer) w in
+      ap (λ (r : Returned). r .place) w ∙ accepting.verdict-placed i (λ e. m (x ∙ e)) (λ e. n (x ∙ e)))
+      (judged i)
+
+pub refuses-sizes : promises.Refuses-sizes
+refuses-sizes = sizes-answer
+
+pub refuses-entry : promises.Refuses-entry
+refuses-entry i o s b k p =
+    let v = by-verdict i o s b p 3 k (omega arith) (omega arith) in
+    let w = accepting.refused-entry i k in
+    (λ e. w .0 (v .0 e), λ f. v .1 (w .1 f))
+
+pub refuses-node : promises.Refuses-node
+refuses-node i o s b k p =
+    let v = by-verdict i o s b p 4 k (omega arith) (omega arith) in
+    let w = accepting.refused-node i k in
+    (λ e. let f = w .0 (v .0 e) in (f .0, f .1 .0, f .1 .1), λ f. v .1 (w .1 (f .0, (f .1, f .2))))
+
+pub refuses-start : promises.Refuses-start
+refuses-start = start-answer
+
+pub no-place : promises.No-place
+no-place = unplaced
+
+pub not-refused : promises.Not-refused
+not-refused = accepting.not-refused
+
+pub accepted-plain : promises.Accepted-plain
+accepted-plain = accepting.accepted-plain
+
+pub listed-answer : promises.Listed
+listed-answer = listed
 
 pub refuses : promises.Refuses
 refuses = malformed
@@ -160,7 +231,7 @@ refuses = malformed
 -- ---- what is given back
 
 module _ (i : Input) (o : Outcome) (s b : List ℕ) where
-  as-given : {a p u : ℕ} {w : List ℕ} → back o s b ≡ record { answer = a; place = p; subject = i .subject; mark = i .mark; units = u; store = w; bindings = i .bindings } → AsGiven i o b
+  as-given : {a p u : ℕ} {w : List ℕ} → atReturn o s b ≡ record { answer = a; place = p; subject = i .subject; mark = i .mark; units = u; store = w; bindings = i .bindings } → AsGiven i o b
   as-given e = record {
     subject = ap (λ (r : Returned). r .subject) e;
     mark = ap (λ (r : Returned). r .mark) e;
@@ -168,7 +239,7 @@ module _ (i : Input) (o : Outcome) (s b : List ℕ) where
   }
 
   -- what a run that is not done gives back
-  as-given-ran : (r : Ran) → back o s b ≡ returned i r → (o .answer ≡ 0 → ⊥) → AsGiven i o b
+  as-given-ran : (r : Ran) → atReturn o s b ≡ returned i r → (o .answer ≡ 0 → ⊥) → AsGiven i o b
   unfolding returned
   as-given-ran (ended k c t u) e n = absurd (n (ap (λ (r : Returned). r .answer) e))
   as-given-ran (lost w u) e n = as-given e
@@ -176,7 +247,7 @@ module _ (i : Input) (o : Outcome) (s b : List ℕ) where
 
 pub writes-nothing : promises.Writes-nothing
 writes-nothing i o s b p n =
-    let e : back o s b ≡ refusing i (verdict i) = refused-came i o s b p (⊎-elim (λ a. absurd (n a)) (λ z. z) (judged i)) in
+    let e : atReturn o s b ≡ refusing i (verdict i) = refused-came i o s b p (⊎-elim (λ a. absurd (n a)) (λ z. z) (judged i)) in
     (as-given i o s b e, ap (λ (r : Returned). r .store) e, ap (λ (r : Returned). r .units) e)
 
 pub gives-back : promises.Gives-back
@@ -265,38 +336,71 @@ module _ (i : Input) (a : Accepted i) where
     unfolding meant
     meant-stays = fun-ext (λ v. option-stays (b v) (sound .bound v))
 
-  told-ran : (r : Ran) → ran i ≡ r → told i (returned i r) ≡ value r
-  unfolding told returned value number left cleared
+  -- what comes back of a run that ends so says just that
+  told-ran : (r : Ran) → ran i ≡ r → Told i (returned i r) (value r)
+  unfolding returned value left cleared
   told-ran (ended k b s u) e =
       let l : Leaves (i .store) (i .mark) (ended k b s u) = subst (Leaves (i .store) (i .mark)) e (meant-demands.over-the-words i a .1) in
-      let n : u ≤ i .units = subst (λ (r : Ran). left r ≤ i .units) e (units-left i a) in
-      let x : term (clearedFrom (s .words) (8 * s .mark)) k ≡ term (s .words) k = term-stays k b s (l .2) k (l .2 .subject) in
-      let y : meant (clearedFrom (s .words) (8 * s .mark)) (bindings (bindingWords 32 b)) ≡ meant (s .words) b = ap (meant (clearedFrom (s .words) (8 * s .mark))) (words-back b (none-left k b s u e)) ∙ meant-stays k b s (l .2) in
-      let z : i .units - (i .units - u) ≡ u = omega arith in
-      λ j. ended (x j) (y j) (s .mark) (z j)
-  told-ran (lost w u) e =
-      let n : u ≤ i .units = subst (λ (r : Ran). left r ≤ i .units) e (units-left i a) in
-      let z : i .units - (i .units - u) ≡ u = omega arith in
-      ap (lost tt) z
-  told-ran (cut units w u) e =
-      let n : u ≤ i .units = subst (λ (r : Ran). left r ≤ i .units) e (units-left i a) in
-      let z : i .units - (i .units - u) ≡ u = omega arith in
-      ap (cut units tt) z
-  told-ran (cut room w u) e =
-      let n : u ≤ i .units = subst (λ (r : Ran). left r ≤ i .units) e (units-left i a) in
-      let z : i .units - (i .units - u) ≡ u = omega arith in
-      ap (cut room tt) z
-  told-ran (cut nesting w u) e =
-      let n : u ≤ i .units = subst (λ (r : Ran). left r ≤ i .units) e (units-left i a) in
-      let z : i .units - (i .units - u) ≡ u = omega arith in
-      ap (cut nesting tt) z
+      let n : u ≤ i .units = subst (λ (r : Ran). left r ≤ i .units) e (units-left i a) in (
+        refl,
+        term-stays k b s (l .2) k (l .2 .subject),
+        ap (meant (clearedFrom (s .words) (8 * s .mark))) (words-back b (none-left k b s u e)) ∙ meant-stays k b s (l .2),
+        refl,
+        omega arith,
+      )
+  told-ran (lost w u) e = let n : u ≤ i .units = subst (λ (r : Ran). left r ≤ i .units) e (units-left i a) in (refl, omega arith)
+  told-ran (cut c w u) e = let n : u ≤ i .units = subst (λ (r : Ran). left r ≤ i .units) e (units-left i a) in (refl, omega arith)
 
-  -- what comes back says what the run over the words says
-  told-is : (o : Outcome) (s b : List ℕ) → Runs i o s b → told i (back o s b) ≡ value (ran i)
-  told-is o s b p = ap (told i) (came i o s b p a) ∙ told-ran (ran i) refl
+  came-told : (o : Outcome) (s b : List ℕ) → Runs i o s b → Told i (atReturn o s b) (value (ran i))
+  came-told o s b p = subst (λ (r : Returned). Told i r (value (ran i))) (sym (came i o s b p a)) (told-ran (ran i) refl)
+
+-- a cut-off's number is its own
+number-above : (c : Limit) → 6 ≤ number c
+unfolding number
+number-above units = omega arith
+number-above room = omega arith
+number-above nesting = omega arith
+
+numbers : (c d : Limit) → number c ≡ number d → c ≡ d
+unfolding number
+numbers units units e = refl
+numbers units room e = absurd (omega arith)
+numbers units nesting e = absurd (omega arith)
+numbers room units e = absurd (omega arith)
+numbers room room e = refl
+numbers room nesting e = absurd (omega arith)
+numbers nesting units e = absurd (omega arith)
+numbers nesting room e = absurd (omega arith)
+numbers nesting nesting e = refl
+
+-- what comes back says one thing
+one-told : (i : Input) (x : Returned) (r r′ : Res Term Env ℕ (Unit {0})) → Told i x r → Told i x r′ → r ≡ r′
+one-told i x (ended t c m u) (ended t′ c′ m′ u′) h k =
+    let n : u ≡ u′ = omega (arith, h .4, k .4) in
+    λ j. ended ((sym (h .1) ∙ k .1) j) ((sym (h .2) ∙ k .2) j) ((sym (h .3) ∙ k .3) j) (n j)
+one-told i x (ended t c m u) (lost l u′) h k = absurd (omega (arith, h .0, k .0))
+one-told i x (ended t c m u) (cut d l u′) h k = absurd (omega (arith, h .0, k .0, number-above d))
+one-told i x (lost l u) (ended t c m u′) h k = absurd (omega (arith, h .0, k .0))
+one-told i x (lost l u) (lost l′ u′) h k = let n : u ≡ u′ = omega (arith, h .1, k .1) in λ j. lost tt (n j)
+one-told i x (lost l u) (cut d l′ u′) h k = absurd (omega (arith, h .0, k .0, number-above d))
+one-told i x (cut d l u) (ended t c m u′) h k = absurd (omega (arith, h .0, k .0, number-above d))
+one-told i x (cut d l u) (lost l′ u′) h k = absurd (omega (arith, h .0, k .0, number-above d))
+one-told i x (cut d l u) (cut d′ l′ u′) h k =
+    let n : u ≡ u′ = omega (arith, h .1, k .1) in λ j. cut (numbers d d′ (sym (h .0) ∙ k .0) j) tt (n j)
+
+module _ (i : Input) (a : Accepted i) (o : Outcome) (s b : List ℕ) (p : Runs i o s b) where
+  -- what comes back says r exactly where the run over the words ends so
+  told-is : (r : Res Term Env ℕ (Unit {0})) → Told i (atReturn o s b) r ↔ (value (ran i) ≡ r)
+  told-is r = (
+    λ h. one-told i (atReturn o s b) (value (ran i)) r (came-told i a o s b p) h,
+    λ e. subst (Told i (atReturn o s b)) e (came-told i a o s b p),
+  )
 
 pub demand-2 : promises.Demand-2
-demand-2 i o s b a p r = subst (λ (x : Res Term Env ℕ (Unit {0})). (x ≡ r) ↔ Says (table (i .table)) (limits i) (begins i) r) (sym (told-is i a o s b p)) (meant-demands.demand-2 i a r)
+demand-2 i o s b a p r =
+    let f = told-is i a o s b p r in
+    let g = meant-demands.demand-2 i a r in
+    (λ h. g .0 (f .0 h), λ k. f .1 (g .1 k))
 
 -- ---- demand 3
 
@@ -326,12 +430,17 @@ either-way T g g′ s s′ t b (lost l u) (cut e l′ u′) x y k = tt
 either-way T g g′ s s′ t b (cut e l u) r′ x y k = tt
 
 pub demand-3 : promises.Demand-3
-demand-3 i x y e f start given π ρ q q′ o o′ s s′ b b′ h z m h′ z′ m′ at at′ n n′ first second a a′ p p′ =
+demand-3 i x y e f start given π ρ q q′ o o′ s s′ b b′ h z m h′ z′ m′ at at′ n n′ first second a a′ p p′ u u′ w w′ =
     let j : Input = started i start given in
     let T : Table = table (i .table) in
     let t : Term = term (i .store) (i .subject) in
     let c : Env = meant (i .store) (bindings (i .bindings)) in
-    subst (λ (r : Res Term Env ℕ (Unit {0})). Agreed r (told j (back o′ s′ b′))) (sym (told-is i a o s b p))
-    (subst (λ (r : Res Term Env ℕ (Unit {0})). Agreed (value (ran i)) r) (sym (told-is j a′ o′ s′ b′ p′))
-    (either-way T (limits i) (limits j) (i .start) start t c (value (ran i)) (value (ran j)) (meant-demands.demand-2 i a (value (ran i)) .0 refl) (meant-demands.demand-2 j a′ (value (ran j)) .0 refl)
-    (λ d d′ r r′. meant-demands.demand-3-runs i start given a a′ (meant-demands.demand-3 T x y e f (i .start) start π ρ t c _ _ (closed-by (i .table) x q h z m) (closed-by (i .table) y q′ h′ z′ m′) at at′ n n′ first second (first-of T (i .start) e f t c first d r .1) (first-of T start f e t c second d′ r′ .1)))))
+    let v : value (ran i) ≡ u = told-is i a o s b p u .0 w in
+    let v′ : value (ran j) ≡ u′ = told-is j a′ o′ s′ b′ p′ u′ .0 w′ in
+    either-way T (limits i) (limits j) (i .start) start t c u u′ (meant-demands.demand-2 i a u .0 v) (meant-demands.demand-2 j a′ u′ .0 v′)
+    (λ d d′ r r′.
+    subst (λ (x : Res Term Env ℕ (Unit {0})). Agreed x u′) v
+    (subst (λ (x : Res Term Env ℕ (Unit {0})). Agreed (value (ran i)) x) v′
+    (meant-demands.demand-3-runs i start given a a′
+    (meant-demands.demand-3 T x y e f (i .start) start π ρ t c _ _ (closed-by (i .table) x q h z m) (closed-by (i .table) y q′ h′ z′ m′)
+    at at′ n n′ first second (first-of T (i .start) e f t c first d r .1) (first-of T start f e t c second d′ r′ .1)))))

@@ -32,7 +32,7 @@ use Rattle.engine.specs.Visits.{visit, limitOf, meaning, out, Entries, Hinted, 
 use Rattle.engine.proofs.Telling.{node-packed, units-packed, out-told}
 use Rattle.marshtrundle.specs.Loaded.{Loaded, Opened}
 use Rattle.marshtrundle.specs.Refused.{refused}
-use Rattle.marshtrundle.specs.Run.{input, back, refusing, runOf, cutNumber}
+use Rattle.marshtrundle.specs.Run.{input, atReturn, refusing, runOf, cutNumber}
 use Rattle.marshtrundle.specs.declared.running.Outcome.{Outcome}
 
 -- the units that a run has left are not more than it was given
@@ -172,7 +172,7 @@ table-fits i a = tablePasses (i .table) .0 (ap (λ (c : Checked). c .answer) (a 
 
 -- what comes back, from what the code has at its return
 module _ (i : Input) (o : Outcome) (s b : List ℕ) where
-  pub back-is : (r : Returned) → r ≡ runOf i → o .answer ≡ r .answer → o .place ≡ r .place → o .subject ≡ r .subject → o .mark ≡ r .mark → o .units ≡ r .units → s ≡ r .store → b ≡ r .bindings → back o s b ≡ runOf i
+  pub back-is : (r : Returned) → r ≡ runOf i → o .answer ≡ r .answer → o .place ≡ r .place → o .subject ≡ r .subject → o .mark ≡ r .mark → o .units ≡ r .units → s ≡ r .store → b ≡ r .bindings → atReturn o s b ≡ runOf i
   back-is r e p q t u v w x = (λ j. record { answer = p j; place = q j; subject = t j; mark = u j; units = v j; store = w j; bindings = x j }) ∙ e
 
 pub mark-fits : (i : Input) → Accepted i → i .mark ≤ 131072

@@ -2,38 +2,103 @@
 -- returned; each statement below holds of everything that meets it.
 use mathlib.Core.Path.{_≡_}
 use mathlib.Core.Logic.{_↔_}
-use mathlib.Core.List.{List}
-use Prim.Native.Nat.{ℕ, _-_, _*_, _≤_, _<_}
-use lib.Dec.{eqb}
-use lib.ListN.{getD}
-use Rattle.words.specs.Tests.{if_then_else_}
+use mathlib.Core.List.{List, map}
+use Prim.Native.Nat.{ℕ, _+_, _*_, _≤_, _<_}
+use lib.ListN.{length, getD}
+use Rattle.words.specs.Words.{rows}
+use Rattle.checks.specs.declared.kinds.Sort.the-variants.{Strategy}
+use Rattle.checks.specs.Kinds.{variables, sortOf}
+use Rattle.checks.specs.Good.{kindOf, goodEntry, goodNode}
+use Rattle.checks.specs.Plain.{TableLength, StoreLength}
+use Rattle.checks.specs.Checked.{checked}
+use Rattle.checks.specs.Promises.{AllGood, Lowest}
 use Rattle.meaning.specs.Term.{Term}
 use Rattle.meaning.specs.System.{Env, _∶_is_}
 use Rattle.meaning.specs.Table.{SEQ, table}
-use Rattle.meaning.specs.Limits.{Res, units, room, nesting, ended, lost, cut}
+use Rattle.meaning.specs.Limits.{Res, ended, lost, cut}
 use Rattle.meaning.specs.Store.{Input, Accepted, term, meant, bindings, Kept}
-use Rattle.meaning.specs.Answer.{Returned}
+use Rattle.meaning.specs.Answer.{Returned, number}
+use Rattle.meaning.specs.Small.{Case, cases}
 use Rattle.meaning.specs.Demands.{Says, limits, begins, At, Begins, Agreed, started}
 use Rattle.free.specs.declared.FreeVariables.{FreeVariables}
 use Rattle.free.specs.Answered.{Answered}
-use Rattle.marshtrundle.specs.Run.{back, runOf}
+use Rattle.marshtrundle.specs.Refused.{refused}
+use Rattle.marshtrundle.specs.Run.{atReturn, runOf}
 use Rattle.marshtrundle.specs.declared.running.Outcome.{Outcome}
 
 -- the outcome o with the store's words s and the bindings' words b meets the contract
 abbrev pub Runs : Input → Outcome → List ℕ → List ℕ → Type 0
-Runs i o s b = back o s b ≡ runOf i
+Runs i o s b = atReturn o s b ≡ runOf i
 
 -- Two outcomes that meet the contract agree, in every number and every word.
 abbrev pub Agreeing : Type 0
 Agreeing = (i : Input) (o o′ : Outcome) (s s′ b b′ : List ℕ) → Runs i o s b → Runs i o′ s′ b′ → (o ≡ o′) × (s ≡ s′) × (b ≡ b′)
 
 -- Demand 1: every answer is one of the list.
-abbrev pub Answers : Type 0
-Answers = (i : Input) (o : Outcome) (s b : List ℕ) → Runs i o s b → o .answer ≤ 8
+abbrev pub Listed : Type 0
+Listed = (i : Input) (o : Outcome) (s b : List ℕ) → Runs i o s b → o .answer ≤ 8
 
 -- Demand 1: malformed input, and no other, is refused.
 abbrev pub Refuses : Type 0
 Refuses = (i : Input) (o : Outcome) (s b : List ℕ) → Runs i o s b → ((1 < o .answer) × (o .answer < 6)) ↔ (Accepted i → ⊥)
+
+-- ---- which refusal is given, both ways
+
+-- what document 01 asks of the sizes
+pub record SizesFit (i : Input) : Type 0 where
+  pub table : TableLength (length (i .table))
+  pub store : StoreLength (length (i .store))
+  pub bindings : length (i .bindings) ≡ variables
+  pub mark : i .mark ≤ rows (i .store)
+
+-- every entry is good; every node below the mark is good
+abbrev pub EntriesGood : Input → Type 0
+EntriesGood i = AllGood (goodEntry (i .table)) (rows (i .table))
+
+abbrev pub NodesGood : Input → Type 0
+NodesGood i = AllGood (goodNode (i .store)) (i .mark)
+
+-- what document 01 asks of the start
+pub record StartFits (i : Input) : Type 0 where
+  pub inside : i .start < rows (i .table)
+  pub strategy : sortOf (kindOf (i .table) (i .start)) ≡ Strategy
+  pub subject : i .subject < i .mark
+  pub bound : (v : ℕ) → getD (i .bindings) v 0 ≤ i .mark
+
+-- Answer 2: the sizes do not fit.
+abbrev pub Refuses-sizes : Type 0
+Refuses-sizes = (i : Input) (o : Outcome) (s b : List ℕ) → Runs i o s b → (o .answer ≡ 2) ↔ (SizesFit i → ⊥)
+
+-- Answer 3 with its place: the sizes fit, and the place is the lowest bad entry.
+abbrev pub Refuses-entry : Type 0
+Refuses-entry =
+    (i : Input) (o : Outcome) (s b : List ℕ) (p : ℕ) → Runs i o s b
+    → ((o .answer ≡ 3) × (o .place ≡ p)) ↔ (SizesFit i × Lowest (goodEntry (i .table)) (rows (i .table)) p)
+
+-- Answer 4 with its place: the sizes fit, every entry is good, and the place is the lowest bad node below the mark.
+abbrev pub Refuses-node : Type 0
+Refuses-node =
+    (i : Input) (o : Outcome) (s b : List ℕ) (p : ℕ) → Runs i o s b
+    → ((o .answer ≡ 4) × (o .place ≡ p)) ↔ (SizesFit i × EntriesGood i × Lowest (goodNode (i .store)) (i .mark) p)
+
+-- Answer 5: the sizes fit, every entry and every node below the mark is good, and the start does not fit.
+abbrev pub Refuses-start : Type 0
+Refuses-start =
+    (i : Input) (o : Outcome) (s b : List ℕ) → Runs i o s b
+    → (o .answer ≡ 5) ↔ (SizesFit i × EntriesGood i × NodesGood i × (StartFits i → ⊥))
+
+-- Every other answer has place 0.
+abbrev pub No-place : Type 0
+No-place = (i : Input) (o : Outcome) (s b : List ℕ) → Runs i o s b → (o .answer ≡ 3 → ⊥) → (o .answer ≡ 4 → ⊥) → o .place ≡ 0
+
+-- What is accepted is just what is not refused; and it is all of the above.
+abbrev pub Not-refused : Type 0
+Not-refused = (i : Input) → (refused (i .table) (i .store) (i .bindings) (i .mark) (i .start) (i .subject) ≡ checked 0 0) ↔ Accepted i
+
+abbrev pub Accepted-plain : Type 0
+Accepted-plain = (i : Input) → Accepted i ↔ (SizesFit i × EntriesGood i × NodesGood i × StartFits i)
+
+-- ---- what comes back
 
 -- what is given back as it was given
 pub record AsGiven (i : Input) (o : Outcome) (b : List ℕ) : Type 0 where
@@ -57,19 +122,21 @@ Keeps = (i : Input) (o : Outcome) (s b : List ℕ) → Runs i o s b → Kept (i 
 abbrev pub Clears : Type 0
 Clears = (i : Input) (o : Outcome) (s b : List ℕ) → Accepted i → Runs i o s b → (k : ℕ) → 8 * o .mark ≤ k → getD s k 0 ≡ 0
 
--- what comes back, as values: the answer, the term, its bindings, the mark and the units left
-unfoldable pub told : Input → Returned → Res Term Env ℕ (Unit {0})
-told i r =
-    if eqb (r .answer) 0 then ended (term (r .store) (r .subject)) (meant (r .store) (bindings (r .bindings))) (r .mark) (i .units - r .units)
-    else if eqb (r .answer) 1 then lost tt (i .units - r .units)
-    else cut (if eqb (r .answer) 6 then units else if eqb (r .answer) 7 then room else nesting) tt (i .units - r .units)
+-- what comes back says r: the answer, the term, its bindings and the mark are r's, and the units used, with those that r
+-- leaves, are the units given
+abbrev pub Told : Input → Returned → Res Term Env ℕ (Unit {0}) → Type 0
+Told i r (ended t c m u) =
+    (r .answer ≡ 0) × (term (r .store) (r .subject) ≡ t) × (meant (r .store) (bindings (r .bindings)) ≡ c) × (r .mark ≡ m)
+    × (r .units + u ≡ i .units)
+Told i r (lost l u) = (r .answer ≡ 1) × (r .units + u ≡ i .units)
+Told i r (cut c l u) = (r .answer ≡ number c) × (r .units + u ≡ i .units)
 
 -- Demand 2: what is not refused answers r exactly when r is so: done and failed by a derivation that fits, each cut-off by a
 -- beginning that fits and meets its own limit first.
 abbrev pub Demand-2 : Type 0
 Demand-2 =
     (i : Input) (o : Outcome) (s b : List ℕ) → Accepted i → Runs i o s b
-    → (r : Res Term Env ℕ (Unit {0})) → (told i (back o s b) ≡ r) ↔ Says (table (i .table)) (limits i) (begins i) r
+    → (r : Res Term Env ℕ (Unit {0})) → Told i (atReturn o s b) r ↔ Says (table (i .table)) (limits i) (begins i) r
 
 -- Demand 3: e runs x at the place π and f runs y at ρ, neither place inside the other; the question of free variables finds
 -- none in x and y. Two runs, one in each order, that both end in done or failed agree, whatever units each is given.
@@ -80,4 +147,8 @@ Demand-3 =
     → At (table (i .table)) x e π → At (table (i .table)) y f ρ → (Begins π ρ → ⊥) → (Begins ρ π → ⊥)
     → table (i .table) ∶ i .start is SEQ e f → table (i .table) ∶ start is SEQ f e
     → Accepted i → Accepted (started i start units) → Runs i o s b → Runs (started i start units) o′ s′ b′
-    → Agreed (told i (back o s b)) (told (started i start units) (back o′ s′ b′))
+    → (r r′ : Res Term Env ℕ (Unit {0})) → Told i (atReturn o s b) r → Told (started i start units) (atReturn o′ s′ b′) r′ → Agreed r r′
+
+-- The small runs: each gives, of what `run` is handed, what its line says, every number and every word.
+abbrev pub Small-runs-of-run : Type 0
+Small-runs-of-run = map (λ (c : Case). runOf (c .given)) cases ≡ map (λ (c : Case). c .gives) cases

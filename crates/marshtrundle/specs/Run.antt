@@ -15,8 +15,8 @@ abbrev pub input : List ℕ → List ℕ → List ℕ → ℕ → ℕ → ℕ �
 input t s b mark start subject units = record { table = t; store = s; bindings = b; mark = mark; start = start; subject = subject; units = units }
 
 -- what comes back: the five numbers with the words at return
-abbrev pub back : Outcome → List ℕ → List ℕ → Returned
-back r s b = record { answer = r .answer; place = r .place; subject = r .subject; mark = r .mark; units = r .units; store = s; bindings = b }
+abbrev pub atReturn : Outcome → List ℕ → List ℕ → Returned
+atReturn r s b = record { answer = r .answer; place = r .place; subject = r .subject; mark = r .mark; units = r .units; store = s; bindings = b }
 
 -- a refusal writes nothing, and its units are 0
 abbrev pub refusing : Input → Checked → Returned

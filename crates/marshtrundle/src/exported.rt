@@ -7,7 +7,7 @@ use free::free_variables;
 ghost use mathlib.Core.Path.{_≡_};
 ghost use Rattle.checks.specs.Checked.{tableChecked, storeChecked};
 ghost use Rattle.free.specs.Answered.{Answered};
-ghost use Rattle.marshtrundle.specs.Run.{input, back, runOf};
+ghost use Rattle.marshtrundle.specs.Run.{input, atReturn, runOf};
 ghost use Rattle.marshtrundle.specs.Exported.{two, three, five};
 
 // The run: answer, place, subject, mark and units used.
@@ -22,7 +22,7 @@ pub extern "C" fn marshtrundle_run(
     units: u32,
     numbers: &mut [u32; 5],
 )
-    ensures { λ _. ⌜ back (five (now (numbers .exit))) (now (store .exit)) (now (bindings .exit)) ≡ runOf (input (now (table .entry)) (now (store .entry)) (now (bindings .entry)) mark start subject units) ⌝ }
+    ensures { λ _. ⌜ atReturn (five (now (numbers .exit))) (now (store .exit)) (now (bindings .exit)) ≡ runOf (input (now (table .entry)) (now (store .entry)) (now (bindings .entry)) mark start subject units) ⌝ }
 {
     let r = run(table, store, bindings, mark, start, subject, units);
     *numbers = [r.answer, r.place, r.subject, r.mark, r.units];

@@ -9,7 +9,7 @@ use engine::answers::told;
 use engine::visits::apply;
 use words::clear_from;
 ghost use mathlib.Core.Path.{_≡_};
-ghost use Rattle.marshtrundle.specs.Run.{input, back, runOf, cutNumber};
+ghost use Rattle.marshtrundle.specs.Run.{input, atReturn, runOf, cutNumber};
 
 // The five numbers that a run returns.
 pub struct Outcome {
@@ -43,7 +43,7 @@ pub fn run(
     subject: u32,
     units: u32,
 ) -> Outcome
-    ensures { λ r. ⌜ back r (now (store .exit)) (now (bindings .exit)) ≡ runOf (input (now (table .entry)) (now (store .entry)) (now (bindings .entry)) mark start subject units) ⌝ }
+    ensures { λ r. ⌜ atReturn r (now (store .exit)) (now (bindings .exit)) ≡ runOf (input (now (table .entry)) (now (store .entry)) (now (bindings .entry)) mark start subject units) ⌝ }
 {
     let refused = refusal(table, store, bindings, mark, start, subject);
     if refused.answer != 0 {

@@ -15,17 +15,17 @@ use Rattle.meaning.specs.Store.{Input, Ran, Leaves, ran}
 use Rattle.meaning.specs.Answer.{Returned, returned}
 use Rattle.meaning.proofs.Demands.{over-the-words}
 use Rattle.marshtrundle.specs.Refused.{refused}
-use Rattle.marshtrundle.specs.Run.{back, refusing, runOf}
+use Rattle.marshtrundle.specs.Run.{atReturn, refusing, runOf}
 use Rattle.marshtrundle.specs.declared.running.Outcome.{Outcome as Five}
 use Rattle.marshtrundle.proofs.Accepting.{accepted-answer}
 use Rattle.job.specs.declared.Heading.{Heading}
-use Rattle.job.specs.declared.Outcome.{Outcome}
-use Rattle.job.specs.declared.Outcome.the-variants as told
+use Rattle.job.specs.declared.Parsed.{Parsed}
+use Rattle.job.specs.declared.Parsed.the-variants as told
 use Rattle.job.specs.Job.{Reading, Meant, bad, good, meant}
 use Rattle.job.specs.Answer.{putText, Put, shown, answered}
 use Rattle.job.proofs.Readings.{Right}
 use Rattle.job.proofs.Answers.{answered-alone}
-use Rattle.whole_job.specs.Whole.{handed, textOf, runText, badText, meantText, answerTo, Answers}
+use Rattle.whole_job.specs.Whole.{handed, textOf, runText, badText, meantText, answerTo, JobAnswered}
 use Rattle.whole_job.proofs.Sizes.{Sized, sized}
 
 -- ---- the mark that comes back
@@ -54,14 +54,14 @@ module _ (i : Input) (n : ℕ) (given : i .mark ≤ n) (holds : rows (i .store) 
       go false e = given
 
 -- So has what `run` returns.
-pub mark-fits : {o : Five} {s b : List ℕ} (i : Input) (n : ℕ) → back o s b ≡ runOf i
+pub mark-fits : {o : Five} {s b : List ℕ} (i : Input) (n : ℕ) → atReturn o s b ≡ runOf i
     → i .mark ≤ n → rows (i .store) ≤ n → o .mark ≤ n
 mark-fits i n e p q = omega (arith, ap (λ (r : Returned). r .mark) e, mark-most i n p q)
 
 -- ---- the text that is put
 
 -- What was written of what `run` returned.
-pub put-run : {b b′ s v : List ℕ} {r : ℕ} {o : Five} (i : Input) → back o s v ≡ runOf i
+pub put-run : {b b′ s v : List ℕ} {r : ℕ} {o : Five} (i : Input) → atReturn o s v ≡ runOf i
     → Put b 0 (answered (o .answer) (o .place) (o .subject) (o .mark) (o .units) s v) b′ r → Put b 0 (runText i) b′ r
 unfolding runText
 put-run {b} {b′} {s} {v} {r} i e p = subst (λ (x : Returned). Put b 0 (textOf x) b′ r) e p
@@ -79,7 +79,7 @@ unfolding answerTo meantText badText shown
 put-bad {n = n} s w v e p = rw (e, answered-alone 9 n 0 0 0 [] [] refl, ← answered-alone 9 n 0 0 0 w v refl) p
 
 -- What is put is no longer than the buffer.
-pub put-answers : {s b b′ : List ℕ} {r : ℕ} → Put b 0 (answerTo s) b′ r → Answers s b b′ r
+pub put-answers : {s b b′ : List ℕ} {r : ℕ} → Put b 0 (answerTo s) b′ r → JobAnswered s b b′ r
 unfolding putText
 put-answers {s} {b} {b′} {r} p =
     let n = length-append (answerTo s) (drop (0 + length (answerTo s)) b) in
@@ -88,31 +88,31 @@ put-answers {s} {b} {b′} {r} p =
 
 -- ---- what was read
 
--- The outcome says what the text means.
-outcome-bad : {o : Outcome} {t s b : List ℕ} {n : ℕ} (m : Meant) → Right m o t s b → o ≡ told.Bad n → m ≡ bad n
-outcome-bad {o} {n = n} (bad k) h e = let p : o ≡ told.Bad k = h .0 in let d : k ≡ n = cc in ap bad d
-outcome-bad {o} (good g) h e =
+-- What was read says what the text means.
+parsed-bad : {o : Parsed} {t s b : List ℕ} {n : ℕ} (m : Meant) → Right m o t s b → o ≡ told.Bad n → m ≡ bad n
+parsed-bad {o} {n = n} (bad k) h e = let p : o ≡ told.Bad k = h .0 in let d : k ≡ n = cc in ap bad d
+parsed-bad {o} (good g) h e =
     let p : o ≡ told.Read (g .heading) = h .0 in
     let z : _≡_ {A = ℕ} 0 1 = cc in absurd (omega arith)
 
-outcome-good : {o : Outcome} {t s b : List ℕ} {h : Heading} (m : Meant) → Right m o t s b → o ≡ told.Read h
+parsed-good : {o : Parsed} {t s b : List ℕ} {h : Heading} (m : Meant) → Right m o t s b → o ≡ told.Read h
     → m ≡ good (record { heading = h; table = t; store = s; bindings = b })
-outcome-good {o} (bad k) w e =
+parsed-good {o} (bad k) w e =
     let p : o ≡ told.Bad k = w .0 in
     let z : _≡_ {A = ℕ} 0 1 = cc in absurd (omega arith)
-outcome-good {o} {h = h} (good g) w e =
+parsed-good {o} {h = h} (good g) w e =
     let p : o ≡ told.Read (g .heading) = w .0 in
     let d : g .heading ≡ h = cc in
     λ j. good (record { heading = d j; table = sym (w .1) j; store = sym (w .2) j; bindings = sym (w .3) j })
 
-module _ {o : Outcome} {t s b : List ℕ} (x : List ℕ) where
+module _ {o : Parsed} {t s b : List ℕ} (x : List ℕ) where
   pub read-bad : {n : ℕ} → Right (meant x) o t s b → o ≡ told.Bad n → meant x ≡ bad n
-  read-bad = outcome-bad (meant x)
+  read-bad = parsed-bad (meant x)
 
   -- A job, and the sizes of its words.
   pub read-good : {h : Heading} → Right (meant x) o t s b → o ≡ told.Read h
       → meant x ≡ good (record { heading = h; table = t; store = s; bindings = b })
-  read-good = outcome-good (meant x)
+  read-good = parsed-good (meant x)
 
   pub read-sized : {h : Heading} → Right (meant x) o t s b → o ≡ told.Read h
       → Sized (record { heading = h; table = t; store = s; bindings = b })

@@ -27,7 +27,7 @@ use Rattle.job.proofs.Answers.{written-more, answered-alone, answered-shown, an
 use Rattle.job.proofs.Promises.{textIsJob}
 use Rattle.job.proofs.ReadBack.{readBack}
 use Rattle.whole_job.specs.Whole.{handed, textOf, runText, badText, meantText, answerTo}
-use Rattle.whole_job.specs.Promises.{outcome, firstLine}
+use Rattle.whole_job.specs.Promises.{runOfJob, firstLine}
 use Rattle.whole_job.specs.Promises as promises
 use Rattle.whole_job.proofs.Sizes.{Sized, pick, sized}
 use Rattle.whole_job.proofs.Answering.{mark-most}
@@ -51,7 +51,7 @@ module _ (s : List ℕ) (g : Reading) (e : meant s ≡ good g) where
       omega (arith, length-take-le (8 * g .heading .room) (g .store) (omega (arith, z .room, z .store)))
 
   -- The answer is the text of its run.
-  answer-good : answerTo s ≡ textOf (outcome g)
+  answer-good : answerTo s ≡ textOf (runOfJob g)
   unfolding answerTo meantText runText
   answer-good = rw e
 
@@ -102,14 +102,14 @@ noRoom s g e l =
 
 -- ---- what is left, read again
 
-left-shown : (s : List ℕ) (g : Reading) → meant s ≡ good g → shown (outcome g .answer) ≡ true
-    → Left (outcome g .store) (outcome g .bindings) (outcome g .mark)
+left-shown : (s : List ℕ) (g : Reading) → meant s ≡ good g → shown (runOfJob g .answer) ≡ true
+    → Left (runOfJob g .store) (runOfJob g .bindings) (runOfJob g .mark)
 left-shown s g e h =
     let z : Sized g = sized s g e in
     left (handed g) (accepted-shown (handed g) h) (z .nodes) (omega (arith, z .room, nodes-handed s g e))
 
 pub readsBack : promises.ReadsBack
-readsBack s g h e q y = readBack h (outcome g .store) (outcome g .bindings) (outcome g .mark) y (left-shown s g e q)
+readsBack s g h e q y = readBack h (runOfJob g .store) (runOfJob g .bindings) (runOfJob g .mark) y (left-shown s g e q)
 
 -- Lines that follow lines that follow.
 follow-more : {g h k : Reading} {xs : List Line} (ys : List Line) → Follow g xs h → Follow h ys k → Follow g (xs ++ ys) k
@@ -130,7 +130,7 @@ begun-follow (next {g} {x} f w a r) l = begun-follow r (begun-with (g .heading) 
 
 pub runsOn : promises.RunsOn
 runsOn s g h xs e q f y =
-    let o : Returned = outcome g in
+    let o : Returned = runOfJob g in
     let t : Back h (o .store) (o .bindings) (o .mark) = readsBack s g h e q y in
     let ns : List Line = nodeLines (o .store) (o .mark) in
     let bs : List Line = bindingLines (o .bindings) 32 in
@@ -139,8 +139,8 @@ runsOn s g h xs e q f y =
       text =
           answer-good s g e
           ∙ answered-shown (o .answer) (o .place) (o .subject) (o .mark) (o .units) (o .store) (o .bindings) q
-          ∙ append-assoc (firstLine (outcome g)) (written ns) (written bs)
-          ∙ ap (λ (r : List ℕ). firstLine (outcome g) ++ r) (sym (written-more ns bs));
+          ∙ append-assoc (firstLine (runOfJob g)) (written ns) (written bs)
+          ∙ ap (λ (r : List ℕ). firstLine (runOfJob g) ++ r) (sym (written-more ns bs));
       after = t .after;
       job =
           λ l.

@@ -11,16 +11,16 @@ use Rattle.job.specs.Lines.{Line}
 use Rattle.job.specs.Job.{Reading, unread, good, meant}
 use Rattle.job.specs.Written.{written, Follow}
 use Rattle.job.specs.Answer.{shown, answerLine, answered}
-use Rattle.job.specs.Promises.{Ready, Back}
-use Rattle.whole_job.specs.Whole.{handed, badText, answerTo, Answers}
+use Rattle.job.specs.Promises.{BeforeNodes, Back}
+use Rattle.whole_job.specs.Whole.{handed, badText, answerTo, JobAnswered}
 
 -- A text has one answer: two outcomes that meet the contract agree in every byte and in the length.
 abbrev pub OneAnswer : Type 0
-OneAnswer = (s b b′ b″ : List ℕ) (r r′ : ℕ) → Answers s b b′ r → Answers s b b″ r′ → (b′ ≡ b″) × (r ≡ r′)
+OneAnswer = (s b b′ b″ : List ℕ) (r r′ : ℕ) → JobAnswered s b b′ r → JobAnswered s b b″ r′ → (b′ ≡ b″) × (r ≡ r′)
 
 -- The first r bytes are the answer, whole.
 abbrev pub AllOfIt : Type 0
-AllOfIt = (s b b′ : List ℕ) (r : ℕ) → Answers s b b′ r → take r b′ ≡ answerTo s
+AllOfIt = (s b b′ : List ℕ) (r : ℕ) → JobAnswered s b b′ r → take r b′ ≡ answerTo s
 
 -- An answer is at most 81,726 bytes, so that a buffer of 81,920 is never too short.
 abbrev pub ShortEnough : Type 0
@@ -37,14 +37,14 @@ NoRoom =
     → answerTo s ≡ answered 2 0 (g .heading .subject) (g .heading .nodes) 0 [] []
 
 -- what a run of a job returns
-abbrev pub outcome : Reading → Returned
-outcome g = runOf (handed g)
+abbrev pub runOfJob : Reading → Returned
+runOfJob g = runOf (handed g)
 
 -- The lines that an answer shows may follow line 1 and `e` lines, and are read as the nodes and bindings that the run left.
 abbrev pub ReadsBack : Type 0
 ReadsBack =
-    (s : List ℕ) (g h : Reading) → meant s ≡ good g → shown (outcome g .answer) ≡ true → Ready h
-    → Back h (outcome g .store) (outcome g .bindings) (outcome g .mark)
+    (s : List ℕ) (g h : Reading) → meant s ≡ good g → shown (runOfJob g .answer) ≡ true → BeforeNodes h
+    → Back h (runOfJob g .store) (runOfJob g .bindings) (runOfJob g .mark)
 
 -- the first line of the text of what comes back
 abbrev pub firstLine : Returned → List ℕ
@@ -53,15 +53,15 @@ firstLine r = answerLine (r .answer ∷ r .place ∷ r .subject ∷ r .mark ∷ 
 -- the answer to s without its first line, put after the lines xs, is a job, of the nodes and bindings that the run left
 pub record Again (s : List ℕ) (g : Reading) (xs : List Line) : Type 0 where
   pub rest : List ℕ
-  pub text : answerTo s ≡ firstLine (outcome g) ++ rest
+  pub text : answerTo s ≡ firstLine (runOfJob g) ++ rest
   pub after : Reading
   pub job : length (written xs ++ rest) ≤ 60000 → meant (written xs ++ rest) ≡ good after
-  pub mark : after .heading .nodes ≡ outcome g .mark
-  pub nodes : take (8 * outcome g .mark) (after .store) ≡ take (8 * outcome g .mark) (outcome g .store)
-  pub bindings : after .bindings ≡ outcome g .bindings
+  pub mark : after .heading .nodes ≡ runOfJob g .mark
+  pub nodes : take (8 * runOfJob g .mark) (after .store) ≡ take (8 * runOfJob g .mark) (runOfJob g .store)
+  pub bindings : after .bindings ≡ runOfJob g .bindings
 
 -- The same, of texts: a run goes on from where another ended.
 abbrev pub RunsOn : Type 0
 RunsOn =
-    (s : List ℕ) (g h : Reading) (xs : List Line) → meant s ≡ good g → shown (outcome g .answer) ≡ true
-    → Follow unread xs h → Ready h → Again s g xs
+    (s : List ℕ) (g h : Reading) (xs : List Line) → meant s ≡ good g → shown (runOfJob g .answer) ≡ true
+    → Follow unread xs h → BeforeNodes h → Again s g xs

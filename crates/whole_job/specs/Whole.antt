@@ -45,7 +45,7 @@ answerTo s = meantText (meant s)
 
 -- the contract of the job function: the bytes b′ are the answer to s and, after it, those of b as they were; r is the
 -- answer's length. The last two follow from the first: with them a caller takes the first r bytes without a proof
-pub record Answers (s b b′ : List ℕ) (r : ℕ) : Type 0 where
+pub record JobAnswered (s b b′ : List ℕ) (r : ℕ) : Type 0 where
   pub put : Put b 0 (answerTo s) b′ r
   pub within : r ≤ length b′
   pub counted : r ≡ length (take r b′)

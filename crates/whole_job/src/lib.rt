@@ -1,6 +1,6 @@
 // A job's text in, its answer's text out: the text is read, run, and what comes back is written.
 use job::Heading;
-use job::Outcome;
+use job::Parsed;
 use job::answer::answer;
 use job::read::read;
 use marshtrundle::running::run;
@@ -8,7 +8,7 @@ ghost use mathlib.Core.Path.{_≡_};
 ghost use Prim.Native.Nat.{_≤_};
 ghost use lib.ListN.{length};
 ghost use Rattle.job.specs.Answer.{Put};
-ghost use Rattle.whole_job.specs.Whole.{inputOf, runText, answerTo, Answers};
+ghost use Rattle.whole_job.specs.Whole.{inputOf, runText, answerTo, JobAnswered};
 
 // Runs what a job hands over, and writes what comes back.
 fn answer_run(
@@ -47,8 +47,8 @@ fn answer_in(
 {
     let o = read(text, table, store, bindings);
     match o {
-        Outcome::Bad(n) => answer(out, 9, n, 0, 0, 0, store, bindings),
-        Outcome::Read(h) => {
+        Parsed::Bad(n) => answer(out, 9, n, 0, 0, 0, store, bindings),
+        Parsed::Read(h) => {
             let entries = 8 * (h.entries as usize);
             let room = 8 * (h.room as usize);
             answer_run(&table[..entries], &mut store[..room], bindings, h, out)
@@ -58,7 +58,7 @@ fn answer_in(
 
 // The answer to a text, of any length and of any bytes. A buffer of this length is never too short: `ShortEnough`.
 pub fn answer_job(text: &[u8], out: &mut [u8; 81920]) -> usize
-    ensures { λ r. ⌜ Answers (now (text .entry)) (now (out .entry)) (now (out .exit)) r ⌝ }
+    ensures { λ r. ⌜ JobAnswered (now (text .entry)) (now (out .entry)) (now (out .exit)) r ⌝ }
 {
     let mut table = [0u32; 4096];
     let mut store = [0u32; 8192];
