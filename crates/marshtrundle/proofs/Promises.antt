@@ -47,7 +47,8 @@ use Rattle.marshtrundle.specs.declared.running.Outcome.{Outcome}
 use Rattle.marshtrundle.proofs.Accepting.{verdict, accepted-answer, accepted-back}
 use Rattle.marshtrundle.proofs.Accepting as accepting
 use Rattle.marshtrundle.proofs.Copying.{length-words, word-of}
-use Rattle.marshtrundle.proofs.Whole.{left, units-left}
+use Rattle.marshtrundle.proofs.Falling.{unitsLeft}
+use Rattle.marshtrundle.proofs.Whole.{units-left}
 
 -- ---- two outcomes
 
@@ -338,18 +339,18 @@ module _ (i : Input) (a : Accepted i) where
 
   -- what comes back of a run that ends so says just that
   told-ran : (r : Ran) → ran i ≡ r → Told i (returned i r) (value r)
-  unfolding returned value left cleared
+  unfolding returned value unitsLeft cleared
   told-ran (ended k b s u) e =
       let l : Leaves (i .store) (i .mark) (ended k b s u) = subst (Leaves (i .store) (i .mark)) e (meant-demands.over-the-words i a .1) in
-      let n : u ≤ i .units = subst (λ (r : Ran). left r ≤ i .units) e (units-left i a) in (
+      let n : u ≤ i .units = subst (λ (r : Ran). unitsLeft r ≤ i .units) e (units-left i) in (
         refl,
         term-stays k b s (l .2) k (l .2 .subject),
         ap (meant (clearedFrom (s .words) (8 * s .mark))) (words-back b (none-left k b s u e)) ∙ meant-stays k b s (l .2),
         refl,
         omega arith,
       )
-  told-ran (lost w u) e = let n : u ≤ i .units = subst (λ (r : Ran). left r ≤ i .units) e (units-left i a) in (refl, omega arith)
-  told-ran (cut c w u) e = let n : u ≤ i .units = subst (λ (r : Ran). left r ≤ i .units) e (units-left i a) in (refl, omega arith)
+  told-ran (lost w u) e = let n : u ≤ i .units = subst (λ (r : Ran). unitsLeft r ≤ i .units) e (units-left i) in (refl, omega arith)
+  told-ran (cut c w u) e = let n : u ≤ i .units = subst (λ (r : Ran). unitsLeft r ≤ i .units) e (units-left i) in (refl, omega arith)
 
   came-told : (o : Outcome) (s b : List ℕ) → Runs i o s b → Told i (atReturn o s b) (value (ran i))
   came-told o s b p = subst (λ (r : Returned). Told i r (value (ran i))) (sym (came i o s b p a)) (told-ran (ran i) refl)

@@ -20,10 +20,11 @@ use Rattle.meaning.specs.Bindings.{Bindings}
 use Rattle.meaning.specs.Table.{Table, table}
 use Rattle.meaning.specs.Rules.{apply, does}
 use Rattle.meaning.specs.Limits.{Limit, units, room, nesting, ended, lost, cut, run}
-use Rattle.meaning.specs.Store.{Input, Accepted, State, on, stored, Ran, named, bindings, value, ran, deepest}
-use Rattle.meaning.specs.Answer.{Returned, number, bindingWords, returned}
-use Rattle.meaning.specs.Demands.{Says, limits, begins, Kept, Sound, Leaves}
-use Rattle.meaning.proofs.Demands.{demand-2, over-the-words}
+use Rattle.meaning.specs.Store.{Input, Accepted, State, on, stored, Ran, named, bindings, ran, deepest}
+use Rattle.meaning.specs.Answer.{number, bindingWords, returned}
+use Rattle.meaning.specs.Demands.{Leaves}
+use Rattle.meaning.proofs.Tests.{impossible}
+use Rattle.meaning.proofs.Demands.{over-the-words}
 use Rattle.engine.specs.declared.answers.Answer.{Answer}
 use Rattle.engine.specs.declared.answers.Answer.the-variants.{Done, Failed, Cut}
 use Rattle.engine.specs.Answers.{packed, nodeIn, unitsIn, toldOf}
@@ -32,23 +33,14 @@ use Rattle.engine.specs.Visits.{visit, limitOf, meaning, out, Entries, Hinted, 
 use Rattle.engine.proofs.Telling.{node-packed, units-packed, out-told}
 use Rattle.marshtrundle.specs.Loaded.{Loaded, Opened}
 use Rattle.marshtrundle.specs.Refused.{refused}
-use Rattle.marshtrundle.specs.Run.{input, atReturn, refusing, runOf, cutNumber}
+use Rattle.marshtrundle.specs.Run.{atReturn, refusing, runOf, cutNumber, numbers, wordsOf, Ends}
 use Rattle.marshtrundle.specs.declared.running.Outcome.{Outcome}
+use Rattle.marshtrundle.proofs.Falling.{unitsLeft, units-fall}
 
 -- the units that a run has left are not more than it was given
-unfoldable pub left : Ran → ℕ
-left (ended k b s u) = u
-left (lost w u) = u
-left (cut c w u) = u
-
-pub units-left : (i : Input) → Accepted i → left (ran i) ≤ i .units
-unfolding left value
-units-left i a = go (ran i) (demand-2 i a (value (ran i)) .0 refl)
-  where
-    go : (o : Ran) → Says (table (i .table)) (limits i) (begins i) (value o) → left o ≤ i .units
-    go (ended k b s u) f = omega (arith, f .1 .units)
-    go (lost w u) f = omega (arith, f .1 .units)
-    go (cut c w u) f = omega (arith, f .1 .units)
+pub units-left : (i : Input) → unitsLeft (ran i) ≤ i .units
+unfolding ran
+units-left i = units-fall stored (does (table (i .table))) deepest (apply (i .start) (i .subject) (bindings (i .bindings))) (on (i .store) (i .mark)) (i .units)
 
 -- a binding's word that is not above the mark names a node below it
 below : (n j m : ℕ) → n ≤ m → named n ≡ some j → j < m
@@ -93,68 +85,132 @@ module _ (i : Input) (a : Accepted i) (c st : List ℕ) (g : ℕ) (same : table 
     subject = rw (subject-is, o .mark) (a .subject);
   }
 
-  -- the engine's answer
-  module _ (got : ℕ) (st′ w′ : List ℕ) (gives : Gives (visit c 4096 (apply (i .start) (nodeIn g) (held st)) (i .store) (markOf st) (unitsIn g)) st got st′ w′) (e : Answer) (told : e ≡ toldOf got) where
-    is-ran : meaning e st′ w′ ≡ ran i
-    unfolding visit ran
-    is-ran = sym (out-told st′ w′ got e told) ∙ gives .is ∙ (λ z. run stored (does (same z)) 4096 (apply (i .start) (subject-is z) (o .holds z)) (on (i .store) (o .mark z)) (units-are z))
+  -- the run that the engine makes is the run over the words
+  pub is-ran : visit c 4096 (apply (i .start) (i .subject) (held st)) (i .store) (markOf st) (i .units) ≡ ran i
+  unfolding visit ran
+  is-ran = λ z. run stored (does (same z)) 4096 (apply (i .start) (i .subject) (o .holds z)) (on (i .store) (o .mark z)) (i .units)
 
-    leaves : Leaves (i .store) (i .mark) (meaning e st′ w′)
-    leaves = subst (Leaves (i .store) (i .mark)) (sym is-ran) (over-the-words i a .1)
+  -- so its end is that of the run over the words
+  pub ended-as : (r : Outcome) (st′ w′ : List ℕ) → Ends (visit c 4096 (apply (i .start) (i .subject) (held st)) (i .store) (markOf st) (i .units)) (i .subject) (markOf st) (i .units) r st′ w′ → Ends (ran i) (i .subject) (i .mark) (i .units) r st′ w′
+  ended-as r st′ w′ e = subst (λ m. Ends (ran i) (i .subject) m (i .units) r st′ w′) (o .mark) (subst (λ x. Ends x (i .subject) (markOf st) (i .units) r st′ w′) is-ran e)
 
-    long′ : length st′ ≡ 34
-    long′ = gives .frame .long ∙ o .long
+-- What the engine answers, told, as a run's end: the numbers are those of the end, and the units left are at most those given.
+module _ (c w st : List ℕ) (e k u : ℕ) (few : u < 4294967296) (got : ℕ) (g : ℕ) (ge : g ≡ packed k u) (st′ w′ : List ℕ)
+    (gives : Gives (visit c 4096 (apply e (nodeIn g) (held st)) w (markOf st) (unitsIn g)) st got st′ w′) (a : Answer) (told : a ≡ toldOf got) where
+  abbrev ends : Ran
+  ends = visit c 4096 (apply e k (held st)) w (markOf st) u
 
-    module _ (x v : ℕ) (q : e ≡ Done x v) where
-      ran-done : ran i ≡ ended x (held st′) (on w′ (markOf st′)) v
-      unfolding meaning
-      ran-done = sym is-ran ∙ rw q
+  ends-told : ends ≡ meaning a st′ w′
+  ends-told =
+      (λ z. visit c 4096 (apply e (sym (ap nodeIn ge ∙ node-packed k u few) z) (held st)) w (markOf st) (sym (ap unitsIn ge ∙ units-packed k u few) z))
+      ∙ sym (gives .is) ∙ out-told st′ w′ got a told
 
-      pub done-left : v ≤ i .units
-      unfolding left
-      done-left = subst (λ r. left r ≤ i .units) ran-done (units-left i a)
+  few-left : unitsLeft ends ≤ u
+  unfolding visit
+  few-left = units-fall stored (does (table c)) 4096 (apply e k (held st)) (on w (markOf st)) u
 
-      done-leaves : Leaves (i .store) (i .mark) (ended x (held st′) (on w′ (markOf st′)) v)
-      done-leaves = subst (Leaves (i .store) (i .mark)) ran-done (over-the-words i a .1)
+  module _ (x v : ℕ) (q : a ≡ Done x v) where
+    is-done : ends ≡ ended x (held st′) (on w′ (markOf st′)) v
+    unfolding meaning
+    is-done = ends-told ∙ rw q
 
-      pub done-mark : markOf st′ ≤ 131072
-      done-mark = omega (arith, done-leaves .2 .fits, done-leaves .1 .long, passed .0 .0 .most)
+    pub done-left : v ≤ u
+    unfolding unitsLeft
+    done-left = subst (λ r. unitsLeft r ≤ u) is-done few-left
 
-      pub done-bound : (u j : ℕ) → held st′ u ≡ some j → j < 131072
-      done-bound u j f = omega (arith, done-leaves .2 .bound u j f, done-mark)
+    pub done-ends : Ends ends k (markOf st) u (record { answer = 0; place = 0; subject = x; mark = markOf st′; units = u - v }) st′ w′
+    unfolding numbers wordsOf
+    done-ends = record { numbers = rw is-done; words = rw is-done; bound = λ y z b s f. let h = sym is-done ∙ f in cc }
 
-      pub done-long : length w′ ≡ length (i .store)
-      done-long = done-leaves .1 .long
+  module _ (v : ℕ) (q : a ≡ Failed v) where
+    is-failed : ends ≡ lost w′ v
+    unfolding meaning
+    is-failed = ends-told ∙ rw q
 
-      pub done-returns : returned i (ran i) ≡ record { answer = 0; place = 0; subject = x; mark = markOf st′; units = i .units - v; store = clearedFrom w′ (8 * markOf st′); bindings = bindingWords 32 (held st′) }
-      unfolding returned
-      done-returns = rw ran-done
+    pub failed-left : v ≤ u
+    unfolding unitsLeft
+    failed-left = subst (λ r. unitsLeft r ≤ u) is-failed few-left
 
-    module _ (v : ℕ) (q : e ≡ Failed v) where
-      ran-failed : ran i ≡ lost w′ v
-      unfolding meaning
-      ran-failed = sym is-ran ∙ rw q
+    pub failed-ends : Ends ends k (markOf st) u (record { answer = 1; place = 0; subject = k; mark = markOf st; units = u - v }) st′ w′
+    unfolding numbers wordsOf
+    failed-ends = record { numbers = rw is-failed; words = rw is-failed; bound = λ y z b s f. impossible (let h = sym is-failed ∙ f in cc) }
 
-      pub failed-left : v ≤ i .units
-      unfolding left
-      failed-left = subst (λ r. left r ≤ i .units) ran-failed (units-left i a)
+  module _ (d : ℕ) (q : a ≡ Cut d) where
+    is-cut : ends ≡ cut (limitOf d) w′ (unitsIn d)
+    unfolding meaning
+    is-cut = ends-told ∙ rw q
 
-      pub failed-returns : returned i (ran i) ≡ record { answer = 1; place = 0; subject = i .subject; mark = i .mark; units = i .units - v; store = clearedFrom w′ (8 * i .mark); bindings = i .bindings }
-      unfolding returned
-      failed-returns = rw ran-failed
+    pub cut-left : unitsIn d ≤ u
+    unfolding unitsLeft
+    cut-left = subst (λ r. unitsLeft r ≤ u) is-cut few-left
 
-    module _ (d : ℕ) (q : e ≡ Cut d) where
-      ran-cut : ran i ≡ cut (limitOf d) w′ (unitsIn d)
-      unfolding meaning
-      ran-cut = sym is-ran ∙ rw q
+    pub cut-ends : (n : ℕ) → n ≡ cutNumber d → Ends ends k (markOf st) u (record { answer = n; place = 0; subject = k; mark = markOf st; units = u - unitsIn d }) st′ w′
+    unfolding numbers wordsOf
+    cut-ends n z = record { numbers = rw (z, is-cut); words = rw is-cut; bound = λ y z b s f. impossible (let h = sym is-cut ∙ f in cc) }
 
-      pub cut-left : unitsIn d ≤ i .units
-      unfolding left
-      cut-left = subst (λ r. left r ≤ i .units) ran-cut (units-left i a)
+-- no limit's answer is 0
+limit-answer : (c : Limit) → 0 < number c
+unfolding number
+limit-answer units = omega arith
+limit-answer room = omega arith
+limit-answer nesting = omega arith
 
-      pub cut-returns : returned i (ran i) ≡ record { answer = number (limitOf d); place = 0; subject = i .subject; mark = i .mark; units = i .units - unitsIn d; store = clearedFrom w′ (8 * i .mark); bindings = i .bindings }
-      unfolding returned
-      cut-returns = rw ran-cut
+-- a run whose answer is 0 is done
+is-ended : (k m u : ℕ) (o : Ran) → numbers k m u o .answer ≡ 0 → (x v : ℕ) × (b : Bindings ℕ) × (s : State) × (o ≡ ended x b s v)
+unfolding numbers number
+is-ended k m u (ended x b s v) e = (x, v, b, s, refl)
+is-ended k m u (lost l v) e = absurd (omega arith)
+is-ended k m u (cut units l v) e = absurd (omega arith)
+is-ended k m u (cut room l v) e = absurd (omega arith)
+is-ended k m u (cut nesting l v) e = absurd (omega arith)
+
+-- the end of an accepted run: r are its numbers, st is the record and w the store's words
+module _ (i : Input) (a : Accepted i) (r : Outcome) (st w : List ℕ) (ends : Ends (ran i) (i .subject) (i .mark) (i .units) r st w) where
+  passes : StoreFits (i .store) (i .mark) × AllGood (goodNode (i .store)) (i .mark)
+  passes = storePasses (i .store) (i .mark) .0 (ap (λ (c : Checked). c .answer) (a .store))
+
+  -- the mark is at most that of a full store
+  pub mark-left : r .mark ≤ 131072
+  unfolding numbers
+  mark-left = subst (λ (r : Outcome). r .mark ≤ 131072) (sym (ends .numbers)) (go (ran i) (over-the-words i a .1))
+    where
+      go : (o : Ran) → Leaves (i .store) (i .mark) o → numbers (i .subject) (i .mark) (i .units) o .mark ≤ 131072
+      go (ended x b s v) l = omega (arith, l .2 .fits, l .1 .long, passes .0 .0 .most)
+      go (lost l v) k = omega (arith, passes .0 .0 .most, passes .0 .1)
+      go (cut c l v) k = omega (arith, passes .0 .0 .most, passes .0 .1)
+
+  done-end : r .answer ≡ 0 → (x v : ℕ) × (b : Bindings ℕ) × (s : State) × (ran i ≡ ended x b s v)
+  done-end z = is-ended (i .subject) (i .mark) (i .units) (ran i) (sym (ap (λ (r : Outcome). r .answer) (ends .numbers)) ∙ z)
+
+  -- where it is done the bound nodes are in the store
+  pub bound-left : r .answer ≡ 0 → (v j : ℕ) → held st v ≡ some j → j < 131072
+  bound-left z v j f =
+      let (x, u, b, s, e) = done-end z in
+      let l = subst (Leaves (i .store) (i .mark)) e (over-the-words i a .1) in
+      omega (arith, l .2 .bound v j (ap (λ (g : Bindings ℕ). g v) (sym (ends .bound x u b s e)) ∙ f), l .2 .fits, l .1 .long, passes .0 .0 .most)
+
+  -- what comes back: the store is cleared from the mark on; the bindings are the record's where it is done, else as given
+  come : (o : Ran) → ran i ≡ o → (b′ : List ℕ) → (r .answer ≡ 0 → b′ ≡ bindingWords 32 (held st)) → ((r .answer ≡ 0 → ⊥) → b′ ≡ i .bindings)
+      → atReturn r (clearedFrom w (8 * r .mark)) b′ ≡ returned i o
+  unfolding numbers wordsOf returned number
+  come (ended x b s v) e b′ y n =
+      let p : r ≡ numbers (i .subject) (i .mark) (i .units) (ended x b s v) = ends .numbers ∙ ap (numbers (i .subject) (i .mark) (i .units)) e in
+      let q : w ≡ s .words = ends .words ∙ ap wordsOf e in
+      let h : b′ ≡ bindingWords 32 b = y (ap (λ (r : Outcome). r .answer) p) ∙ ap (bindingWords 32) (ends .bound x v b s e) in
+      λ z. atReturn (p z) (clearedFrom (q z) (8 * p z .mark)) (h z)
+  come (lost l v) e b′ y n =
+      let p : r ≡ numbers (i .subject) (i .mark) (i .units) (lost l v) = ends .numbers ∙ ap (numbers (i .subject) (i .mark) (i .units)) e in
+      let q : w ≡ l = ends .words ∙ ap wordsOf e in
+      let h : b′ ≡ i .bindings = n (λ z. omega (arith, ap (λ (r : Outcome). r .answer) p)) in
+      λ z. atReturn (p z) (clearedFrom (q z) (8 * p z .mark)) (h z)
+  come (cut c l v) e b′ y n =
+      let p : r ≡ numbers (i .subject) (i .mark) (i .units) (cut c l v) = ends .numbers ∙ ap (numbers (i .subject) (i .mark) (i .units)) e in
+      let q : w ≡ l = ends .words ∙ ap wordsOf e in
+      let h : b′ ≡ i .bindings = n (λ z. omega (arith, ap (λ (r : Outcome). r .answer) p, limit-answer c)) in
+      λ z. atReturn (p z) (clearedFrom (q z) (8 * p z .mark)) (h z)
+
+  pub comes-back : (b′ : List ℕ) → (r .answer ≡ 0 → b′ ≡ bindingWords 32 (held st)) → ((r .answer ≡ 0 → ⊥) → b′ ≡ i .bindings) → atReturn r (clearedFrom w (8 * r .mark)) b′ ≡ returned i (ran i)
+  comes-back b′ y n = come (ran i) refl b′ y n
 
 -- a refusal, and none
 module _ (i : Input) (r : Checked) (is : r ≡ refused (i .table) (i .store) (i .bindings) (i .mark) (i .start) (i .subject)) where
@@ -169,16 +225,6 @@ module _ (i : Input) (r : Checked) (is : r ≡ refused (i .table) (i .store) (i 
 -- the lengths that a run's copies need
 pub table-fits : (i : Input) → Accepted i → length (i .table) ≤ 32768
 table-fits i a = tablePasses (i .table) .0 (ap (λ (c : Checked). c .answer) (a .table)) .0 .most
-
--- what comes back, from what the code has at its return
-module _ (i : Input) (o : Outcome) (s b : List ℕ) where
-  pub back-is : (r : Returned) → r ≡ runOf i → o .answer ≡ r .answer → o .place ≡ r .place → o .subject ≡ r .subject → o .mark ≡ r .mark → o .units ≡ r .units → s ≡ r .store → b ≡ r .bindings → atReturn o s b ≡ runOf i
-  back-is r e p q t u v w x = (λ j. record { answer = p j; place = q j; subject = t j; mark = u j; units = v j; store = w j; bindings = x j }) ∙ e
-
-pub mark-fits : (i : Input) → Accepted i → i .mark ≤ 131072
-mark-fits i a =
-    let p = storePasses (i .store) (i .mark) .0 (ap (λ (c : Checked). c .answer) (a .store)) in
-    omega (arith, p .0 .0 .most, p .0 .1)
 
 -- the answer of a cut-off's word, by its upper half
 module _ (c : ℕ) where

@@ -1,11 +1,15 @@
 -- What a run returns, for every input: the five numbers and every word of the store and of the bindings.
+use mathlib.Core.Path.{_≡_}
 use mathlib.Core.List.{List}
-use Prim.Native.Nat.{ℕ}
+use Prim.Native.Nat.{ℕ, _-_}
 use lib.Dec.{eqb}
 use Rattle.words.specs.Tests.{if_then_else_}
 use Rattle.checks.specs.declared.Checked.{Checked}
-use Rattle.meaning.specs.Store.{Input, ran}
+use Rattle.meaning.specs.Bindings.{Bindings}
+use Rattle.meaning.specs.Limits.{ended, lost, cut}
+use Rattle.meaning.specs.Store.{Input, State, Ran, ran}
 use Rattle.meaning.specs.Answer.{Returned, number, returned}
+use Rattle.engine.specs.Record.{held}
 use Rattle.engine.specs.Visits.{limitOf}
 use Rattle.marshtrundle.specs.Refused.{refused}
 use Rattle.marshtrundle.specs.declared.running.Outcome.{Outcome}
@@ -31,3 +35,21 @@ runOf i =
 -- the answer of a cut-off's word
 abbrev pub cutNumber : ℕ → ℕ
 cutNumber c = number (limitOf c)
+
+-- the five numbers of a run's end, k being the subject, m the mark and u the units that it was given
+unfoldable pub numbers : (k m u : ℕ) → Ran → Outcome
+numbers k m u (ended x b s v) = record { answer = 0; place = 0; subject = x; mark = s .mark; units = u - v }
+numbers k m u (lost w v) = record { answer = 1; place = 0; subject = k; mark = m; units = u - v }
+numbers k m u (cut c w v) = record { answer = number c; place = 0; subject = k; mark = m; units = u - v }
+
+-- the store's words at a run's end
+unfoldable pub wordsOf : Ran → List ℕ
+wordsOf (ended x b s v) = s .words
+wordsOf (lost w v) = w
+wordsOf (cut c w v) = w
+
+-- the run ends as o: r are its numbers, w the store's words, and where it is done the record st holds its bindings
+pub record Ends (o : Ran) (k m u : ℕ) (r : Outcome) (st w : List ℕ) : Type 0 where
+  pub numbers : r ≡ numbers k m u o
+  pub words : w ≡ wordsOf o
+  pub bound : (x v : ℕ) (b : Bindings ℕ) (s : State) → o ≡ ended x b s v → held st ≡ b

@@ -9,7 +9,11 @@ use engine::answers::told;
 use engine::visits::apply;
 use words::clear_from;
 ghost use mathlib.Core.Path.{_≡_};
-ghost use Rattle.marshtrundle.specs.Run.{input, atReturn, runOf, cutNumber};
+ghost use Rattle.meaning.specs.Rules.{apply as applied};
+ghost use Rattle.engine.specs.Answers.{packed};
+ghost use Rattle.engine.specs.Record.{markOf, held};
+ghost use Rattle.engine.specs.Visits.{visit, Ready};
+ghost use Rattle.marshtrundle.specs.Run.{input, atReturn, runOf, cutNumber, Ends};
 
 // The five numbers that a run returns.
 pub struct Outcome {
@@ -34,6 +38,49 @@ pub fn cut_answer(c: u64) -> u32
     8
 }
 
+// A run of accepted input, over a loaded table and an opened record. Where it is done the record holds the new mark and the new
+// bindings. The words above the mark are left as they are.
+pub(crate) fn run_accepted(
+    code: &[u32; 32768],
+    store: &mut [u32],
+    st: &mut [u32; 34],
+    start: u32,
+    subject: u32,
+    units: u32,
+) -> Outcome
+    requires { ⌜ Ready (now code) (now store) (now st) start (packed subject units) ⌝ }
+    ensures { λ r. ⌜ Ends (visit (now (code .entry)) 4096 (applied start subject (held (now (st .entry)))) (now (store .entry)) (markOf (now (st .entry))) units) subject (markOf (now (st .entry))) units r (now (st .exit)) (now (store .exit)) ⌝ }
+{
+    let mark = st[32];
+    let got = apply(code, store, st, start, done(subject, units), 4096);
+    let a = told(got);
+    match a {
+        Answer::Done(x, left) => Outcome {
+            answer: 0,
+            place: 0,
+            subject: x,
+            mark: st[32],
+            units: units - left,
+        },
+        Answer::Failed(left) => Outcome {
+            answer: 1,
+            place: 0,
+            subject,
+            mark,
+            units: units - left,
+        },
+        Answer::Cut(c) => Outcome {
+            answer: cut_answer(c),
+            place: 0,
+            subject,
+            mark,
+            units: units - (c % 4294967296) as u32,
+        },
+    }
+}
+
+// Refused by number, with nothing written, or run. The bindings are written where the run is done; from the returned mark on the
+// store is zero.
 pub fn run(
     table: &[u32],
     store: &mut [u32],
@@ -57,40 +104,11 @@ pub fn run(
     }
     let code = loaded(table);
     let mut st = opened(bindings, mark);
-    let got = apply(&code, store, &mut st, start, done(subject, units), 4096);
-    let a = told(got);
-    match a {
-        Answer::Done(x, left) => {
-            let m = st[32];
-            closed(bindings, st);
-            clear_from(store, 8 * (m as usize));
-            Outcome {
-                answer: 0,
-                place: 0,
-                subject: x,
-                mark: m,
-                units: units - left,
-            }
-        }
-        Answer::Failed(left) => {
-            clear_from(store, 8 * (mark as usize));
-            Outcome {
-                answer: 1,
-                place: 0,
-                subject,
-                mark,
-                units: units - left,
-            }
-        }
-        Answer::Cut(c) => {
-            clear_from(store, 8 * (mark as usize));
-            Outcome {
-                answer: cut_answer(c),
-                place: 0,
-                subject,
-                mark,
-                units: units - (c % 4294967296) as u32,
-            }
-        }
+    let r = run_accepted(&code, store, &mut st, start, subject, units);
+    clear_from(store, 8 * (r.mark as usize));
+    if r.answer != 0 {
+        return r;
     }
+    closed(bindings, st);
+    r
 }
