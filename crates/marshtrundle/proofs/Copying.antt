@@ -17,9 +17,9 @@ use Rattle.words.proofs.Tests.{below-or-from}
 use Rattle.meaning.specs.Bindings.{Bindings, bind}
 use Rattle.meaning.specs.Store.{named, bindings}
 use Rattle.meaning.specs.Answer.{bindingWord, bindingWords}
-use Rattle.engine.specs.Record.{markOf, maskOf, bitOf, held, bound}
+use Rattle.leaves.specs.Record.{markOf, maskOf, bitOf, held, bound}
 use Rattle.meaning.proofs.Bits.{bit-has, has-nothing}
-use Rattle.engine.proofs.Holding.{held-some, held-none, held-mark, held-bound, length-bound, mark-bound, mark-mark}
+use Rattle.leaves.proofs.Holding.{held-some, held-none, held-mark, held-bound, length-bound, mark-bound, mark-mark}
 use Rattle.marshtrundle.specs.Loaded.{Noted, given, Loaded, Opened}
 
 -- A word of a list of zeros is zero.

@@ -22,9 +22,9 @@ use Rattle.checks.specs.Promises.{AllGood}
 use Rattle.checks.proofs.Good.{operandCount-six}
 use Rattle.checks.proofs.Promises.{tablePasses, entryPlain}
 use Rattle.meaning.specs.Table.{table, byKind, operands, PVAR, PCON}
-use Rattle.engine.specs.Visits.{Entries}
-use Rattle.engine.specs.Visits as visits
-use Rattle.engine.proofs.Kind.{kind-is}
+use Rattle.leaves.specs.Visits.{Entries}
+use Rattle.leaves.specs.Visits as visits
+use Rattle.leaves.proofs.Kind.{kind-is}
 use Rattle.marshtrundle.specs.Loaded.{Begins, MATCH, SEQ, SCOPE, Noted, given, choice, all, Loaded}
 
 -- What holds at words 4 and 5 and at the other words holds at each.

@@ -11,10 +11,11 @@ use Rattle.checks.specs.Kinds.{lines, lineOf, kind}
 use Rattle.checks.specs.Good.{kindOf}
 use Rattle.checks.specs.Checked.{checked, tableChecked}
 use Rattle.meaning.specs.Rules.{apply}
-use Rattle.engine.specs.Visits.{visit, agreeing, Skips, Leads, Heads, Hinted}
-use Rattle.engine.proofs.Kind.{applied, no-units}
-use Rattle.engine.proofs.Ruling.{ruled-rec, ruled-call}
-use Rattle.engine.proofs.Failing.{match-fails, seq-fails, scope-fails}
+use Rattle.leaves.specs.Visits.{visit, agreeing}
+use Rattle.cycle.specs.Cycle.{Skips, Leads, Heads, Hinted}
+use Rattle.leaves.proofs.Kind.{applied, no-units}
+use Rattle.cycle.proofs.Ruling.{ruled-rec, ruled-call}
+use Rattle.cycle.proofs.Failing.{match-fails, seq-fails, scope-fails}
 use Rattle.marshtrundle.specs.Loaded.{Begins, MATCH, SEQ, SCOPE, Calls, Noted, given, choice, all, Begun, Loaded}
 use Rattle.marshtrundle.proofs.Fetching.{word-same, kind-same, kind-of-first, entries-loaded, five-unused}
 

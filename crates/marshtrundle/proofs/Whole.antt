@@ -25,12 +25,13 @@ use Rattle.meaning.specs.Answer.{number, bindingWords, returned}
 use Rattle.meaning.specs.Demands.{Leaves}
 use Rattle.meaning.proofs.Tests.{impossible}
 use Rattle.meaning.proofs.Demands.{over-the-words}
-use Rattle.engine.specs.declared.answers.Answer.{Answer}
-use Rattle.engine.specs.declared.answers.Answer.the-variants.{Done, Failed, Cut}
-use Rattle.engine.specs.Answers.{packed, nodeIn, unitsIn, toldOf}
-use Rattle.engine.specs.Record.{markOf, held}
-use Rattle.engine.specs.Visits.{visit, limitOf, meaning, out, Entries, Hinted, Steady, Ready, Gives}
-use Rattle.engine.proofs.Telling.{node-packed, units-packed, out-told}
+use Rattle.leaves.specs.declared.answers.Answer.{Answer}
+use Rattle.leaves.specs.declared.answers.Answer.the-variants.{Done, Failed, Cut}
+use Rattle.leaves.specs.Answers.{packed, nodeIn, unitsIn, toldOf}
+use Rattle.leaves.specs.Record.{markOf, held}
+use Rattle.leaves.specs.Visits.{visit, limitOf, meaning, out, Entries, Steady, Gives}
+use Rattle.cycle.specs.Cycle.{Hinted, Ready}
+use Rattle.leaves.proofs.Telling.{node-packed, units-packed, out-told}
 use Rattle.marshtrundle.specs.Loaded.{Loaded, Opened}
 use Rattle.marshtrundle.specs.Refused.{refused}
 use Rattle.marshtrundle.specs.Run.{atReturn, refusing, runOf, cutNumber, numbers, wordsOf, Ends}

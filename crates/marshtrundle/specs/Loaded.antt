@@ -7,7 +7,7 @@ use lib.ListN.{length}
 use Rattle.words.specs.Words.{wordAt}
 use Rattle.checks.specs.Good.{kindOf}
 use Rattle.meaning.specs.Store.{bindings}
-use Rattle.engine.specs.Record.{markOf, held}
+use Rattle.leaves.specs.Record.{markOf, held}
 
 -- entry q begins with a MATCH of the PCON p: the nth visit is that of p
 pub data Begins (t : List ℕ) (p : ℕ) : ℕ → ℕ → Type 0 where

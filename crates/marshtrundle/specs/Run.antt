@@ -9,8 +9,8 @@ use Rattle.meaning.specs.Bindings.{Bindings}
 use Rattle.meaning.specs.Limits.{ended, lost, cut}
 use Rattle.meaning.specs.Store.{Input, State, Ran, ran}
 use Rattle.meaning.specs.Answer.{Returned, number, returned}
-use Rattle.engine.specs.Record.{held}
-use Rattle.engine.specs.Visits.{limitOf}
+use Rattle.leaves.specs.Record.{held}
+use Rattle.leaves.specs.Visits.{limitOf}
 use Rattle.marshtrundle.specs.Refused.{refused}
 use Rattle.marshtrundle.specs.declared.running.Outcome.{Outcome}
 

@@ -1,14 +1,14 @@
 // What a run copies once: the table into words of fixed length, the bindings into the run's one record, and back.
 use crate::hints::known;
-use engine::record::Bindings;
-use engine::record::bind;
-use engine::record::bit;
+use leaves::record::Bindings;
+use leaves::record::bind;
+use leaves::record::bit;
 ghost use mathlib.Core.Path.{_≡_};
 ghost use mathlib.Core.Option.{some};
 ghost use Prim.Native.Nat.{ℕ, _≤_, _<_};
 ghost use lib.ListN.{length};
 ghost use Rattle.meaning.specs.Answer.{bindingWords};
-ghost use Rattle.engine.specs.Record.{held};
+ghost use Rattle.leaves.specs.Record.{held};
 ghost use Rattle.marshtrundle.specs.Loaded.{Loaded, Opened};
 
 // The table in 32,768 words, zeros after its last; where something is known of an entry's first operand, it is noted in

@@ -3,16 +3,17 @@ use crate::loading::closed;
 use crate::loading::loaded;
 use crate::loading::opened;
 use crate::refusals::refusal;
-use engine::answers::Answer;
-use engine::answers::done;
-use engine::answers::told;
-use engine::visits::apply;
+use cycle::visits::apply;
+use leaves::answers::Answer;
+use leaves::answers::done;
+use leaves::answers::told;
 use words::clear_from;
 ghost use mathlib.Core.Path.{_≡_};
 ghost use Rattle.meaning.specs.Rules.{apply as applied};
-ghost use Rattle.engine.specs.Answers.{packed};
-ghost use Rattle.engine.specs.Record.{markOf, held};
-ghost use Rattle.engine.specs.Visits.{visit, Ready};
+ghost use Rattle.leaves.specs.Answers.{packed};
+ghost use Rattle.leaves.specs.Record.{markOf, held};
+ghost use Rattle.leaves.specs.Visits.{visit};
+ghost use Rattle.cycle.specs.Cycle.{Ready};
 ghost use Rattle.marshtrundle.specs.Run.{input, atReturn, runOf, cutNumber, Ends};
 
 // The five numbers that a run returns.

@@ -4,14 +4,14 @@ use mathlib.Core.List.{List}
 use mathlib.Core.Logic.{⊎-elim}
 use borrow.Author.Needs.{needs}
 use native.Mathlib.Omega.{arith}
-use Rattle.engine.specs.Record.{held}
-use Rattle.engine.proofs.Holding.{held-some}
+use Rattle.leaves.specs.Record.{held}
+use Rattle.leaves.proofs.Holding.{held-some}
 use Rattle.marshtrundle.proofs.Copying.{Written, written-none, written-more, written-all, word-some, word-none}
 use Rattle.marshtrundle.proofs.loading.closed.Statement.{statement}
 use Rattle.marshtrundle.proofs.loading.closed.Tie as tie
 use Rattle.marshtrundle.proofs.loading.closed.Reads as reads
 use Rattle.marshtrundle.proofs.loading.closed.Lts as lts
-use Rattle.engine.proofs.record.bit.Reads as bit-reads
+use Rattle.leaves.proofs.record.bit.Reads as bit-reads
 
 abbrev Inv-loop : tie.InvT-loop
 Inv-loop bindings₀ st mask v₀ bindings v = (v ≤ 32) × Written (held st) bindings v

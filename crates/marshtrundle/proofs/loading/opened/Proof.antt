@@ -8,7 +8,7 @@ use Rattle.marshtrundle.proofs.loading.opened.Statement.{statement}
 use Rattle.marshtrundle.proofs.loading.opened.Tie as tie
 use Rattle.marshtrundle.proofs.loading.opened.Reads as reads
 use Rattle.marshtrundle.proofs.loading.opened.Lts as lts
-use Rattle.engine.proofs.record.bind.Reads as bind-reads
+use Rattle.leaves.proofs.record.bind.Reads as bind-reads
 
 abbrev Inv-loop : tie.InvT-loop
 Inv-loop bindings mark words₀ v₀ words v = (v ≤ 32) × Filled bindings mark words v

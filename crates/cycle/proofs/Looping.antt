@@ -1,0 +1,234 @@
+-- The loop of `apply`: one turn is one visit, whose last operand the next turn visits one deeper.
+use mathlib.Core.Path.{_≡_, refl, ap, sym, _∙_, subst}
+use mathlib.Core.List.{List}
+use mathlib.Core.Logic.{_⊎_, inl, inr, ⊎-elim}
+use Prim.Native.Nat.{ℕ, zero, suc, _+_, _-_, _*_, _/_, _%_, _<_, _≤_, min}
+use native.Mathlib.Omega.{arith}
+use native.Mathlib.Nat.{eq-or-lt-of-le}
+use lib.ListN.{length}
+use Rattle.words.specs.Words.{wordAt}
+use Rattle.checks.specs.Good.{kindOf}
+use Rattle.meaning.specs.Bindings.{Bindings}
+use Rattle.meaning.specs.Rules.{apply}
+use Rattle.meaning.specs.Store.{Ran}
+use Rattle.meaning.specs.Demands.{Kept, Leaves}
+use denote.Enum.Declared.{tagOf}
+use Rattle.leaves.proofs.answers.Answer.{the-type}
+use Rattle.leaves.specs.declared.answers.Answer.{Answer}
+use Rattle.leaves.specs.declared.answers.Answer.the-variants.{Done, Failed, Cut}
+use Rattle.leaves.specs.Answers.{packed, nodeIn, unitsIn, unitsWord, nestingWord, failedWord, toldOf}
+use Rattle.leaves.specs.Record.{markOf, held, back, Framed}
+use Rattle.leaves.specs.Visits.{visit, ruled, out, countOf, Entries, Steady, Gives}
+use Rattle.cycle.specs.Cycle.{Ready, Last, Skips}
+use Rattle.leaves.proofs.Telling.{told-failed, out-failed, node-packed, units-packed, done-node, done-units, failed-few}
+use Rattle.leaves.proofs.Asking.{Tagged}
+use Rattle.leaves.proofs.Kind.{applied}
+use Rattle.leaves.proofs.Keeping.{apply-leaves, steady-kept, steady-after, leaves-done, leaves-failed, node-small}
+use Rattle.leaves.proofs.Holding.{held-back, mark-back, length-back, framed-back, framed-refl, framed-trans}
+use Rattle.leaves.proofs.Limited.{units-out, nesting-out}
+use Rattle.cycle.proofs.Ruling.{ready-operand, ruled-rec, ruled-call}
+use Rattle.cycle.proofs.Returning.{gives-itself}
+use Rattle.cycle.proofs.Operators.{seq-stops, seq-goes-on, left-stops, left-goes-on}
+
+-- what a turn of the loop has: the rest of the visits is the whole
+pub record Turn (t w₀ st₀ : List ℕ) (start given deep : ℕ) (w st : List ℕ) (e s d : ℕ) : Type 0 where
+  pub deeper : d ≤ deep
+  pub long : length w ≡ length w₀
+  pub ready : Ready t w st e s
+  pub frame : Framed st₀ st
+  pub wide : length st ≡ length st₀
+  pub word : s < 18446744073709551616
+  pub rest : visit t d (apply e (nodeIn s) (held st)) w (markOf st) (unitsIn s) ≡ visit t deep (apply start (nodeIn given) (held st₀)) w₀ (markOf st₀) (unitsIn given)
+
+-- one unit less is the same node
+pub same-node : (s : ℕ) → (unitsIn s ≡ 0 → ⊥) → nodeIn (s - 1) ≡ nodeIn s
+same-node s h = omega arith
+
+pub one-less : (s : ℕ) → (unitsIn s ≡ 0 → ⊥) → unitsIn (s - 1) ≡ unitsIn s - 1
+one-less s h = omega arith
+
+-- so are n units less, where there are so many
+same-node-by : (s n : ℕ) → n ≤ unitsIn s → nodeIn (s - n) ≡ nodeIn s
+same-node-by s n h = omega arith
+
+less-by : (s n : ℕ) → n ≤ unitsIn s → unitsIn (s - n) ≡ unitsIn s - n
+less-by s n h = omega arith
+
+few-by : (s n : ℕ) → unitsIn s - n < 4294967296
+few-by s n = omega arith
+
+fewer : (s n : ℕ) → s < 18446744073709551616 → s - 1 - n < 18446744073709551616
+fewer s n h = omega arith
+
+pred-le : (d e : ℕ) → d ≤ e → d - 1 ≤ e
+pred-le d e h = omega arith
+
+-- what is at most the units of a word is at most the word
+pub within : (s n i : ℕ) → n ≤ min i (unitsIn s) → n ≤ s
+within s n i h = omega arith
+
+-- what is at most the lesser of two is at most each
+under : (n i j : ℕ) → n ≤ min i j → (n ≤ i) × (n ≤ j)
+under n i j h = (omega arith, omega arith)
+
+-- a word of a node in a store fits
+pub fitting-word : (x u : ℕ) → x < 131072 → u < 4294967296 → packed x u < 18446744073709551616
+fitting-word x u h l = omega arith
+
+module _ {t w₀ st₀ : List ℕ} {start given deep : ℕ} {w st : List ℕ} {e s d : ℕ} (turn : Turn t w₀ st₀ start given deep w st e s d)
+    (units : unitsIn s ≡ 0 → ⊥) (nested : d ≡ 0 → ⊥) where
+  -- the visit is counted, and its rule gives the whole
+  pub counts : ruled t (d - 1) e (nodeIn (s - 1)) (held st) w (markOf st) (unitsIn (s - 1)) ≡ visit t deep (apply start (nodeIn given) (held st₀)) w₀ (markOf st₀) (unitsIn given)
+  counts = rw (same-node s units, one-less s units) (sym (applied t d e (nodeIn s) (held st) w (markOf st) (unitsIn s) units nested) ∙ turn .rest)
+
+  pub ready-next : (i x : ℕ) → i < 6 → x ≡ wordAt t e (2 + i) → Ready t w st x (s - 1)
+  ready-next i x l q = ready-operand (turn .ready) i x (s - 1) l q (rw (same-node s units) (turn .ready .subject))
+
+  pub ready-same : Ready t w st e (s - 1)
+  ready-same = record { entries = turn .ready .entries; hints = turn .ready .hints; long = turn .ready .long; inside = turn .ready .inside; steady = turn .ready .steady; subject = rw (same-node s units) (turn .ready .subject) }
+
+  -- REC and CALL
+  pub rec-turn : (x : ℕ) → x ≡ wordAt t e 2 → (kindOf t e ≡ 7) ⊎ (kindOf t e ≡ 8) → Turn t w₀ st₀ start given deep w st x (s - 1) (d - 1)
+  rec-turn x q k = record {
+    deeper = omega (arith, turn .deeper);
+    long = turn .long;
+    ready = ready-next 0 x (omega arith) q;
+    frame = turn .frame;
+    wide = turn .wide;
+    word = omega (arith, turn .word);
+    rest = ⊎-elim (λ h. sym (ruled-rec t (d - 1) e _ _ w _ _ x q h)) (λ h. sym (ruled-call t (d - 1) e _ _ w _ _ x q h)) k ∙ counts;
+  }
+
+  -- what returns here returns for the whole
+  pub whole : {r : ℕ} {st′ w′ : List ℕ} → Gives (ruled t (d - 1) e (nodeIn (s - 1)) (held st) w (markOf st) (unitsIn (s - 1))) st r st′ w′
+      → Gives (visit t deep (apply start (nodeIn given) (held st₀)) w₀ (markOf st₀) (unitsIn given)) st₀ r st′ w′
+  whole {st′ = st′} g = record { is = g .is ∙ counts; frame = framed-trans st₀ st st′ (turn .frame) (g .frame) }
+
+  -- ALL of a term without children
+  pub all-itself : kindOf t e ≡ 11 → countOf w (nodeIn s) ≡ 0
+      → Gives (visit t deep (apply start (nodeIn given) (held st₀)) w₀ (markOf st₀) (unitsIn given)) st₀ (s - 1) st w
+  all-itself h z = whole (gives-itself (d - 1) ready-same h (ap (countOf w) (same-node s units) ∙ z))
+
+  -- the first operand of SEQ, CHOICE or LEFT ran
+  module _ {x got : ℕ} {st′ w′ : List ℕ} (xe : x ≡ wordAt t e 2)
+      (gives : Gives (visit t (d - 1) (apply x (nodeIn (s - 1)) (held st)) w (markOf st) (unitsIn (s - 1))) st got st′ w′) {a : Answer} (told : a ≡ toldOf got) where
+    abbrev Whole : Type 0
+    Whole = Gives (visit t deep (apply start (nodeIn given) (held st₀)) w₀ (markOf st₀) (unitsIn given)) st₀ got st′ w′
+
+    inside : nodeIn (s - 1) < markOf st
+    inside = ready-same .subject
+
+    leaves : Leaves w (markOf st) (visit t (d - 1) (apply x (nodeIn (s - 1)) (held st)) w (markOf st) (unitsIn (s - 1)))
+    leaves = apply-leaves (turn .ready .steady) t (turn .ready .entries) (d - 1) x (nodeIn (s - 1)) (unitsIn (s - 1)) inside
+
+    long′ : length st′ ≡ 34
+    long′ = gives .frame .long ∙ turn .ready .long
+
+    pub seq-returns : {y : ℕ} → y ≡ wordAt t e 3 → kindOf t e ≡ 4 → Tagged a 1 2 → Whole
+    seq-returns {y} ye h g = whole (record { is = seq-stops t (d - 1) e (s - 1) st w x got st′ w′ xe (gives .is) a told y ye h g; frame = gives .frame })
+
+    pub seq-turn : {y z v : ℕ} → y ≡ wordAt t e 3 → kindOf t e ≡ 4 → a ≡ Done z v → length w′ ≡ length w → Turn t w₀ st₀ start given deep w′ st′ y got (d - 1)
+    seq-turn {y} {z} {v} ye h q l =
+        let n = done-node got z v (sym told ∙ q) in
+        let lv = leaves-done w (markOf st) _ leaves got st′ w′ (gives .is) a told z v q in
+        record {
+          deeper = omega (arith, turn .deeper);
+          long = l ∙ turn .long;
+          ready = record {
+            entries = turn .ready .entries;
+            hints = turn .ready .hints;
+            long = long′;
+            inside = rw ye (turn .ready .entries .operand e 1 (turn .ready .inside) (omega arith));
+            steady = steady-after (turn .ready .steady) w′ (markOf st′) z v (held st′) lv;
+            subject = subst (λ k. k < markOf st′) (n .0) (lv .2 .subject);
+          };
+          frame = framed-trans st₀ st st′ (turn .frame) (gives .frame);
+          wide = gives .frame .long ∙ turn .wide;
+          word = omega (arith, n .0, node-small (steady-after (turn .ready .steady) w′ (markOf st′) z v (held st′) lv) z (lv .2 .subject));
+          rest = sym (λ i. visit t (d - 1) (apply y (n .0 i) (held st′)) w′ (markOf st′) (n .1 i)) ∙ seq-goes-on t (d - 1) e (s - 1) st w x got st′ w′ xe (gives .is) a told y ye h z v q ∙ counts;
+        }
+
+    module _ (h : (kindOf t e ≡ 5) ⊎ (kindOf t e ≡ 6)) where
+      pub left-returns : {y : ℕ} → y ≡ wordAt t e 3 → Tagged a 0 2 → Whole
+      left-returns {y} ye g = whole (record { is = left-stops t (d - 1) e (s - 1) st w x got st′ w′ xe (gives .is) a told y ye h g; frame = gives .frame })
+
+      pub left-turn : {y v r : ℕ} → y ≡ wordAt t e 3 → a ≡ Failed v → r ≡ packed (nodeIn (s - 1)) v → length w′ ≡ length w → Turn t w₀ st₀ start given deep w′ (back st st′) y r (d - 1)
+      left-turn {y} {v} {r} ye q p l =
+          let few = failed-few got v a told q in
+          let held-as = held-back st st′ long′ (gives .frame) in
+          let mark-as = mark-back st st′ long′ in
+          let kept = leaves-failed w (markOf st) _ leaves got st′ w′ (gives .is) a told v q in
+          let tiny = node-small (turn .ready .steady) (nodeIn (s - 1)) inside in
+          let node-as : nodeIn r ≡ nodeIn (s - 1) = ap nodeIn p ∙ node-packed (nodeIn (s - 1)) v few in
+          let units-as : unitsIn r ≡ v = ap unitsIn p ∙ units-packed (nodeIn (s - 1)) v few in
+          record {
+            deeper = omega (arith, turn .deeper);
+            long = l ∙ turn .long;
+            ready = record {
+              entries = turn .ready .entries;
+              hints = turn .ready .hints;
+              long = length-back st st′ long′;
+              inside = rw ye (turn .ready .entries .operand e 1 (turn .ready .inside) (omega arith));
+              steady = rw (mark-as, held-as) (steady-kept (turn .ready .steady) kept);
+              subject = rw (node-as, mark-as) inside;
+            };
+            frame = framed-trans st₀ st (back st st′) (turn .frame) (framed-back st st′ long′ (gives .frame));
+            wide = length-back st st′ long′ ∙ sym (turn .ready .long) ∙ turn .wide;
+            word = rw p (fitting-word (nodeIn (s - 1)) v tiny few);
+            rest = rw (node-as, units-as, held-as, mark-as) (left-goes-on t (d - 1) e (s - 1) st w x got st′ w′ xe (gives .is) a told y ye h v q ∙ counts);
+          }
+
+  -- the first operand of CHOICE or LEFT fails after n visits, which are counted and not made
+  pub skip-turn : {x y n : ℕ} → x ≡ wordAt t e 2 → Skips t w x (nodeIn (s - 1)) (min (d - 1) (unitsIn (s - 1))) n → (n ≡ 0 → ⊥) → (kindOf t e ≡ 5) ⊎ (kindOf t e ≡ 6) → y ≡ wordAt t e 3
+      → Turn t w₀ st₀ start given deep w st y (s - 1 - n) (d - 1)
+  skip-turn {x} {y} {n} xe skips some h ye =
+      let enough = under n (d - 1) (unitsIn (s - 1)) (skips .few) in
+      let v : ℕ = unitsIn (s - 1) - n in
+      let few = few-by (s - 1) n in
+      let node-as = same-node-by (s - 1) n (enough .1) in
+      let units-as = less-by (s - 1) n (enough .1) in
+      let fails = skips .fails some .is (held st) (markOf st) (d - 1) (unitsIn (s - 1)) (enough .0) (enough .1) in
+      record {
+        deeper = pred-le d deep (turn .deeper);
+        long = turn .long;
+        ready = ready-operand (turn .ready) 1 y (s - 1 - n) (omega arith) ye (rw node-as (ready-same .subject));
+        frame = turn .frame;
+        wide = turn .wide;
+        word = fewer s n (turn .word);
+        rest = rw (node-as, units-as) (left-goes-on t (d - 1) e (s - 1) st w x (failedWord v) st w xe (out-failed st w v few ∙ sym fails) (Failed v) (sym (told-failed v few)) y ye h v refl ∙ counts);
+      }
+
+-- the loop begins
+pub first-turn : {t w st : List ℕ} {e s : ℕ} (d : ℕ) → Ready t w st e s → s < 18446744073709551616 → Turn t w st e s d w st e s d
+first-turn {st = st} d r f = record { deeper = omega arith; long = refl; ready = r; frame = framed-refl st; wide = refl; word = f; rest = refl }
+
+-- a limit met before a visit
+module _ {t w₀ st₀ : List ℕ} {start given deep : ℕ} {w st : List ℕ} {e s d : ℕ} (turn : Turn t w₀ st₀ start given deep w st e s d) (r : ℕ) where
+  abbrev Ends : Type 0
+  Ends = Gives (visit t deep (apply start (nodeIn given) (held st₀)) w₀ (markOf st₀) (unitsIn given)) st₀ r st w
+
+  pub ends-units : r ≡ unitsWord → unitsIn s ≡ 0 → Ends
+  ends-units p q = record { is = units-out t d _ w (markOf st) (unitsIn s) r st p q ∙ turn .rest; frame = turn .frame }
+
+  pub ends-nesting : r ≡ nestingWord (unitsIn s) → (unitsIn s ≡ 0 → ⊥) → d ≡ 0 → Ends
+  ends-nesting p q z = record { is = nesting-out t d _ w (markOf st) (unitsIn s) r st p (omega arith) q z ∙ turn .rest; frame = turn .frame }
+
+-- a number of two
+pub of-two : (k r i : ℕ) → r ≡ k → i ≤ r → r < i + 2 → (k ≡ i) ⊎ (k ≡ i + 1)
+of-two k r i e h l = ⊎-elim (λ q. inl (sym e ∙ sym q)) (λ q. inr (omega arith)) (eq-or-lt-of-le h)
+
+-- what is at least 4 and not 4 is at least 5
+pub five-up : (r : ℕ) → (r ≡ 4 → ⊥) → 4 ≤ r → 5 ≤ r
+five-up r n h = omega arith
+
+-- a kind that is in neither arm of the loop
+pub last-kind : (k r : ℕ) → r ≡ k → (r ≡ 4 → ⊥) → (r < 4) ⊎ (9 ≤ r) → Last k
+last-kind k r e n h = record { not-seq = λ q. n (e ∙ q); outside = ⊎-elim (λ l. inl (omega arith)) (λ l. inr (omega arith)) h }
+
+-- what is not zero is above it
+pub pos : (n : ℕ) → (n ≡ 0 → ⊥) → 0 < n
+pos n h = omega arith
+
+-- a kind is one number
+pub two-kinds : {k r i j : ℕ} → r ≡ k → r ≡ i → k ≡ j → j < i → ⊥
+two-kinds e f g l = omega arith

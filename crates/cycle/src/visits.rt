@@ -1,0 +1,548 @@
+// The cycle of visits. Applying an entry selects the rule by its kind; operands in a last position go round a loop; one
+// child walker serves ALL, SOME and CONG. The nesting left falls at each call.
+use crate::skipping::skipped;
+use leaves::answers::Answer;
+use leaves::answers::Heard;
+use leaves::answers::done;
+use leaves::answers::failure;
+use leaves::answers::hear;
+use leaves::answers::no_nesting;
+use leaves::answers::no_units;
+use leaves::answers::told;
+use leaves::builder::build;
+use leaves::builder::node;
+use leaves::matcher::matching;
+use leaves::reading::agree;
+use leaves::reading::count;
+use leaves::reading::entry;
+use leaves::reading::kind;
+use leaves::reading::row;
+use leaves::record::hide;
+use leaves::record::put_back;
+use words::word;
+ghost use mathlib.Core.Path.{_≡_};
+ghost use mathlib.Core.Logic.{_⊎_};
+ghost use Prim.Native.Nat.{_+_, _-_, _<_};
+ghost use Rattle.words.specs.Words.{wordAt};
+ghost use Rattle.words.specs.Tests.{if_then_else_};
+ghost use lib.Dec.{eqb, ltb};
+ghost use lib.ListN.{length, getD, set};
+ghost use Rattle.checks.specs.Good.{kindOf};
+ghost use Rattle.leaves.specs.Answers.{nodeIn, unitsIn};
+ghost use Rattle.leaves.specs.Record.{markOf, held};
+ghost use Rattle.leaves.specs.Visits.{plan, Roomy, Gives};
+ghost use Rattle.cycle.specs.Cycle.{walked, Applied, Follows, landed, finished, Counted, Hinted, Leaps, Ready, Last};
+
+// The kinds that have a rule here.
+const ID: u32 = 0;
+
+const TEST: u32 = 2;
+
+const NOT: u32 = 3;
+
+const SEQ: u32 = 4;
+
+const CHOICE: u32 = 5;
+
+const LEFT: u32 = 6;
+
+const REC: u32 = 7;
+
+const CALL: u32 = 8;
+
+const PATH: u32 = 9;
+
+const CONG: u32 = 10;
+
+const ALL: u32 = 11;
+
+const ONE: u32 = 12;
+
+const SOME: u32 = 13;
+
+const MATCH: u32 = 14;
+
+const BUILD: u32 = 15;
+
+const SCOPE: u32 = 16;
+
+const WHERE: u32 = 17;
+// Where the record has the mark and the mask of the bound variables; a node stands in the upper half of a word.
+const MARK: usize = 32;
+
+const MASK: usize = 33;
+
+const HALF: u64 = 1 << 32;
+
+// One visit: an entry applied as a strategy. Units first, then nesting; then it is counted. ALL, of which traversals are made,
+// is looked at here: a term without children is given back at once.
+pub fn apply(
+    table: &[u32; 32768],
+    store: &mut [u32],
+    st: &mut [u32; 34],
+    start: u32,
+    given: u64,
+    deep: u32,
+) -> u64
+    requires { ⌜ Ready (now table) (now store) (now st) start given ⌝ }
+    ensures { λ r. ⌜ Applied (now (table .entry)) (now (store .entry)) (now (st .entry)) start given deep r (now (st .exit)) (now (store .exit)) ⌝ }
+{
+    if kind(table, start) != ALL {
+        return turns(table, store, st, start, given, deep);
+    }
+    let left = (given % HALF) as u32;
+    if left == 0 {
+        return no_units();
+    }
+    if deep == 0 {
+        return no_nesting(left);
+    }
+    if count(store, (given / HALF) as u32) == 0 {
+        return given - 1;
+    }
+    walk(table, store, st, start, given - 1, deep - 1)
+}
+
+// The same for every kind. An operand in a last position goes round the loop.
+fn turns(
+    table: &[u32; 32768],
+    store: &mut [u32],
+    st: &mut [u32; 34],
+    start: u32,
+    given: u64,
+    deep: u32,
+) -> u64
+    requires { ⌜ Ready (now table) (now store) (now st) start given ⌝ }
+    ensures { λ r. ⌜ Applied (now (table .entry)) (now (store .entry)) (now (st .entry)) start given deep r (now (st .exit)) (now (store .exit)) ⌝ }
+{
+    let mut e = start;
+    let mut s = given;
+    let mut d = deep;
+    loop {
+        let left = (s % HALF) as u32;
+        if left == 0 {
+            return no_units();
+        }
+        if d == 0 {
+            return no_nesting(left);
+        }
+        d -= 1;
+        s -= 1;
+        let kind = kind(table, e);
+        match kind {
+            REC..=CALL => {
+                e = entry(table, e, 2);
+            }
+            SEQ => {
+                let got = apply(table, store, st, entry(table, e, 2), s, d);
+                let Answer::Done(_, _) = told(got) else {
+                    return got;
+                };
+                s = got;
+                e = entry(table, e, 3);
+            }
+            CHOICE..=LEFT => {
+                // Where the first operand fails at its head, its visits are counted and not made.
+                let first = entry(table, e, 2);
+                let fails = skipped(table, store, e, s, d);
+                if fails != 0 {
+                    s -= fails as u64;
+                    e = entry(table, e, 3);
+                    continue;
+                }
+                let mark = st[MARK];
+                let mask = st[MASK];
+                let got = turns(table, store, st, first, s, d);
+                let Answer::Failed(u) = told(got) else {
+                    return got;
+                };
+                st[MARK] = mark;
+                st[MASK] = mask;
+                s = done((s / HALF) as u32, u);
+                e = entry(table, e, 3);
+            }
+            _ => {
+                return rule(table, store, st, e, s, d);
+            }
+        }
+    }
+}
+
+// The rule of a kind with no operand in a last position.
+fn rule(table: &[u32; 32768], store: &mut [u32], st: &mut [u32; 34], e: u32, s: u64, d: u32) -> u64
+    requires { ⌜ Ready (now table) (now store) (now st) e s × Last (kindOf (now table) e) ⌝ }
+    ensures { λ r. ⌜ Follows (now (table .entry)) (now (store .entry)) (now (st .entry)) e s d r (now (st .exit)) (now (store .exit)) ⌝ }
+{
+    let kind = kind(table, e);
+    match kind {
+        ID => s,
+        TEST..=NOT => guard(table, store, st, e, s, d),
+        PATH => path(table, store, st, e, s, d),
+        CONG => cong(table, store, st, e, s, d),
+        ALL => walk(table, store, st, e, s, d),
+        ONE => one(table, store, st, e, s, d),
+        SOME => walk(table, store, st, e, s, d),
+        MATCH => matching(table, store, st, entry(table, e, 2), s, d),
+        BUILD => build(table, store, st, entry(table, e, 2), (s % HALF) as u32, d),
+        SCOPE => scope(table, store, st, e, s, d),
+        WHERE => aside(table, store, st, e, s, d),
+        _ => failure((s % HALF) as u32),
+    }
+}
+
+// TEST and NOT: mark and bindings as they were.
+fn guard(
+    table: &[u32; 32768],
+    store: &mut [u32],
+    st: &mut [u32; 34],
+    e: u32,
+    s: u64,
+    deep: u32,
+) -> u64
+    requires { ⌜ Ready (now table) (now store) (now st) e s × ((kindOf (now table) e ≡ 2) ⊎ (kindOf (now table) e ≡ 3)) ⌝ }
+    ensures { λ r. ⌜ Follows (now (table .entry)) (now (store .entry)) (now (st .entry)) e s deep r (now (st .exit)) (now (store .exit)) ⌝ }
+{
+    let mark = st[MARK];
+    let mask = st[MASK];
+    let got = apply(table, store, st, entry(table, e, 2), s, deep);
+    let Heard::Ended(yes, _, u) = hear(got) else {
+        return got;
+    };
+    st[MARK] = mark;
+    st[MASK] = mask;
+    if kind(table, e) == TEST {
+        if yes {
+            return done((s / HALF) as u32, u);
+        }
+        return failure(u);
+    }
+    if yes {
+        return failure(u);
+    }
+    done((s / HALF) as u32, u)
+}
+
+// WHERE: the term as it was, the new bindings kept.
+fn aside(
+    table: &[u32; 32768],
+    store: &mut [u32],
+    st: &mut [u32; 34],
+    e: u32,
+    s: u64,
+    deep: u32,
+) -> u64
+    requires { ⌜ Ready (now table) (now store) (now st) e s × (kindOf (now table) e ≡ 17) ⌝ }
+    ensures { λ r. ⌜ Follows (now (table .entry)) (now (store .entry)) (now (st .entry)) e s deep r (now (st .exit)) (now (store .exit)) ⌝ }
+{
+    let got = apply(table, store, st, entry(table, e, 2), s, deep);
+    let Answer::Done(_, u) = told(got) else {
+        return got;
+    };
+    done((s / HALF) as u32, u)
+}
+
+// PATH i: child i, counted from 1.
+fn path(
+    table: &[u32; 32768],
+    store: &mut [u32],
+    st: &mut [u32; 34],
+    e: u32,
+    s: u64,
+    deep: u32,
+) -> u64
+    requires { ⌜ Ready (now table) (now store) (now st) e s × (kindOf (now table) e ≡ 9) ⌝ }
+    ensures { λ r. ⌜ Follows (now (table .entry)) (now (store .entry)) (now (st .entry)) e s deep r (now (st .exit)) (now (store .exit)) ⌝ }
+{
+    let i = entry(table, e, 1);
+    let t = (s / HALF) as u32;
+    let left = (s % HALF) as u32;
+    if i == 0 {
+        return failure(left);
+    }
+    if count(store, t) < i {
+        return failure(left);
+    }
+    let got = apply(
+        table,
+        store,
+        st,
+        entry(table, e, 2),
+        done(word(store, t, 1 + i), left),
+        deep,
+    );
+    let Answer::Done(x, u) = told(got) else {
+        return got;
+    };
+    let mut made = row(store, t);
+    made[1 + (i as usize)] = x;
+    node(store, st, made, u)
+}
+
+// CONG: constructor and count must agree.
+fn cong(
+    table: &[u32; 32768],
+    store: &mut [u32],
+    st: &mut [u32; 34],
+    e: u32,
+    s: u64,
+    deep: u32,
+) -> u64
+    requires { ⌜ Ready (now table) (now store) (now st) e s × (kindOf (now table) e ≡ 10) ⌝ }
+    ensures { λ r. ⌜ Follows (now (table .entry)) (now (store .entry)) (now (st .entry)) e s deep r (now (st .exit)) (now (store .exit)) ⌝ }
+{
+    let t = (s / HALF) as u32;
+    if !agree(table, store, e, t) {
+        return failure((s % HALF) as u32);
+    }
+    walk(table, store, st, e, s, deep)
+}
+
+// The child walker: CONG with an operand for each child, ALL, and SOME, which keeps a child where its operand failed.
+fn walk(
+    table: &[u32; 32768],
+    store: &mut [u32],
+    st: &mut [u32; 34],
+    e: u32,
+    s: u64,
+    deep: u32,
+) -> u64
+    requires { ⌜ Ready (now table) (now store) (now st) e s × Counted (now table) (now store) e (nodeIn s) ⌝ }
+    ensures { λ r. ⌜ Gives (plan (now (table .entry)) deep (walked (now (table .entry)) (now (store .entry)) e (nodeIn s) (held (now (st .entry)))) (now (store .entry)) (markOf (now (st .entry))) (unitsIn s)) (now (st .entry)) r (now (st .exit)) (now (store .exit)) ⌝ }
+{
+    let t = (s / HALF) as u32;
+    let mut u = (s % HALF) as u32;
+    let kind = kind(table, e);
+    let n = count(store, t);
+    let name = word(store, t, 0);
+    let ahead = leap(table, e, deep);
+    let first = landing(table, e, ahead);
+    let mut won: u32 = 0;
+    let mut a: u32 = 0;
+    let mut b: u32 = 0;
+    let mut more = [0u32; 4];
+    let mut i: u32 = 0;
+    while i < n {
+        if u < ahead {
+            return no_units();
+        }
+        let c = word(store, t, 2 + i);
+        let mark = saved(st, kind, MARK);
+        let mask = saved(st, kind, MASK);
+        let got = apply(
+            table,
+            store,
+            st,
+            operand(table, e, kind, first, i),
+            done(c, u - ahead),
+            deep - ahead,
+        );
+        let Heard::Ended(yes, x, left) = hear(got) else {
+            return got;
+        };
+        let mut y = c;
+        if yes {
+            won = 1;
+            y = x;
+        } else {
+            if kind != SOME {
+                return got;
+            }
+            st[MARK] = mark;
+            st[MASK] = mask;
+        }
+        a = at(i, 0, y, a);
+        b = at(i, 1, y, b);
+        more = beyond(more, i, y);
+        u = left;
+        i += 1;
+    }
+    finish(
+        store,
+        st,
+        kind,
+        won,
+        n,
+        s,
+        [name, n, a, b, more[0], more[1], more[2], more[3]],
+        u,
+    )
+}
+
+// How many visits lead to the first work of ALL's or SOME's operand: those of a CALL and its REC, where it is known that
+// there is nothing else in them and the nesting is enough; else 0.
+fn leap(table: &[u32; 32768], e: u32, deep: u32) -> u32
+    requires { ⌜ Hinted (now table) × (e < 4096) ⌝ }
+    ensures { λ r. ⌜ Leaps (now (table .entry)) e deep r ⌝ }
+{
+    if deep < 2 {
+        return 0;
+    }
+    let kind = kind(table, e);
+    match kind {
+        ALL => entry(table, e, 5),
+        SOME => entry(table, e, 5),
+        _ => 0,
+    }
+}
+
+// The entry after so many visits.
+fn landing(table: &[u32; 32768], e: u32, ahead: u32) -> u32
+    requires { ⌜ e < 4096 ⌝ }
+    ensures { λ r. ⌜ r ≡ landed (now (table .entry)) e ahead ⌝ }
+{
+    if ahead == 0 {
+        return entry(table, e, 2);
+    }
+    entry(table, e, 4)
+}
+
+// The operand for child i: its own in CONG, else the one.
+fn operand(table: &[u32; 32768], e: u32, kind: u32, first: u32, i: u32) -> u32
+    requires { ⌜ (e < 4096) × (i < 6) ⌝ }
+    ensures { λ r. ⌜ r ≡ (if eqb kind 10 then wordAt (now (table .entry)) e (2 + i) else first) ⌝ }
+{
+    if kind == CONG {
+        return entry(table, e, 2 + i);
+    }
+    first
+}
+
+// The record's word j, for SOME, which may put it back.
+fn saved(st: &[u32; 34], kind: u32, j: usize) -> u32
+    requires { ⌜ j < 34 ⌝ }
+    ensures { λ r. ⌜ r ≡ (if eqb kind 13 then getD (now (st .entry)) j 0 else 0) ⌝ }
+{
+    if kind == SOME {
+        return st[j];
+    }
+    0
+}
+
+// The children that are made: the first and the second by themselves, so that a walk over two writes no array, the others
+// in four words.
+fn at(i: u32, place: u32, x: u32, old: u32) -> u32
+    ensures { λ r. ⌜ r ≡ (if eqb i place then x else old) ⌝ }
+{
+    if i == place {
+        return x;
+    }
+    old
+}
+
+fn beyond(more: [u32; 4], i: u32, x: u32) -> [u32; 4]
+    requires { ⌜ i < 6 ⌝ }
+    ensures { λ r. ⌜ r ≡ (if ltb i 2 then more else set more (i - 2) x) ⌝ }
+{
+    if i < 2 {
+        return more;
+    }
+    let mut set = more;
+    set[(i - 2) as usize] = x;
+    set
+}
+
+// The walk's end: SOME needs a success; a term without children is returned itself.
+fn finish(
+    store: &mut [u32],
+    st: &mut [u32; 34],
+    kind: u32,
+    won: u32,
+    n: u32,
+    s: u64,
+    made: [u32; 8],
+    left: u32,
+) -> u64
+    requires { ⌜ Roomy (now store) (markOf (now st)) × (length (now st) ≡ 34) × (nodeIn s < 131072) ⌝ }
+    ensures { λ r. ⌜ Gives (finished kind won n s made (now (st .entry)) (now (store .entry)) left) (now (st .entry)) r (now (st .exit)) (now (store .exit)) ⌝ }
+{
+    if kind == SOME {
+        if won == 0 {
+            return failure(left);
+        }
+        return node(store, st, made, left);
+    }
+    if n == 0 {
+        return s;
+    }
+    node(store, st, made, left)
+}
+
+// ONE: the leftmost child that succeeds.
+fn one(
+    table: &[u32; 32768],
+    store: &mut [u32],
+    st: &mut [u32; 34],
+    e: u32,
+    s: u64,
+    deep: u32,
+) -> u64
+    requires { ⌜ Ready (now table) (now store) (now st) e s × (kindOf (now table) e ≡ 12) ⌝ }
+    ensures { λ r. ⌜ Follows (now (table .entry)) (now (store .entry)) (now (st .entry)) e s deep r (now (st .exit)) (now (store .exit)) ⌝ }
+{
+    let t = (s / HALF) as u32;
+    let mut u = (s % HALF) as u32;
+    let n = count(store, t);
+    let mark = st[MARK];
+    let mask = st[MASK];
+    let op = entry(table, e, 2);
+    let mut i: u32 = 0;
+    while i < n {
+        let got = apply(table, store, st, op, done(word(store, t, 2 + i), u), deep);
+        let Heard::Ended(yes, x, left) = hear(got) else {
+            return got;
+        };
+        if yes {
+            let mut made = row(store, t);
+            made[2 + (i as usize)] = x;
+            return node(store, st, made, left);
+        }
+        st[MARK] = mark;
+        st[MASK] = mask;
+        u = left;
+        i += 1;
+    }
+    failure(u)
+}
+
+// SCOPE: nothing is saved where no masked variable is bound.
+fn scope(
+    table: &[u32; 32768],
+    store: &mut [u32],
+    st: &mut [u32; 34],
+    e: u32,
+    s: u64,
+    deep: u32,
+) -> u64
+    requires { ⌜ Ready (now table) (now store) (now st) e s × (kindOf (now table) e ≡ 16) ⌝ }
+    ensures { λ r. ⌜ Follows (now (table .entry)) (now (store .entry)) (now (st .entry)) e s deep r (now (st .exit)) (now (store .exit)) ⌝ }
+{
+    let mask = entry(table, e, 1);
+    if st[MASK] & mask != 0 {
+        return hiding(table, store, st, e, s, deep);
+    }
+    let got = apply(table, store, st, entry(table, e, 2), s, deep);
+    st[MASK] = hide(st[MASK], mask);
+    got
+}
+
+// SCOPE where some masked variable is bound: its word is put back, on failure too.
+fn hiding(
+    table: &[u32; 32768],
+    store: &mut [u32],
+    st: &mut [u32; 34],
+    e: u32,
+    s: u64,
+    deep: u32,
+) -> u64
+    requires { ⌜ Ready (now table) (now store) (now st) e s × (kindOf (now table) e ≡ 16) ⌝ }
+    ensures { λ r. ⌜ Follows (now (table .entry)) (now (store .entry)) (now (st .entry)) e s deep r (now (st .exit)) (now (store .exit)) ⌝ }
+{
+    let mask = entry(table, e, 1);
+    let hidden = st[MASK] & mask;
+    let outer = *st;
+    st[MASK] = hide(st[MASK], mask);
+    let got = apply(table, store, st, entry(table, e, 2), s, deep);
+    put_back(st, outer, hidden);
+    st[MASK] = hide(st[MASK], mask) | hidden;
+    got
+}

@@ -1,0 +1,14 @@
+-- Laws that belong to no one function.
+pub mod Element
+pub mod Telling
+pub mod Asking
+pub mod Kind
+pub mod Keeping
+pub mod Holding
+pub mod Children
+pub mod Walking
+pub mod Limited
+pub mod Patterns
+pub mod Building
+pub mod Comparing
+pub mod Matching

@@ -1,0 +1,491 @@
+-- MATCH over the store's words: a visit of a pattern by its kind, and the children of a PCON one at a time.
+use mathlib.Core.Path.{_≡_, refl, ap, sym, _∙_}
+use mathlib.Core.Bool.{Bool, true, false}
+use mathlib.Core.Option.{none, some}
+use mathlib.Core.Logic.{⊎-elim, inl, inr}
+use mathlib.Core.List.{List, [], _∷_, _++_}
+use Prim.Native.Nat.{ℕ, _+_, _-_, _≤_, _<_}
+use native.Mathlib.Omega.{arith}
+use lib.Dec.{eqb}
+use borrow.Author.Tests.{eqb-true, eqb-false}
+use lib.ListN.{length, getD, drop}
+use Rattle.words.specs.Words.{wordAt}
+use Rattle.checks.specs.Good.{kindOf, operandCount, argumentOf}
+use Rattle.meaning.specs.Bindings.{Bindings, bind}
+use Rattle.meaning.specs.Table.{table, operands}
+use Rattle.meaning.specs.Plan.{ret}
+use Rattle.meaning.specs.Rules.{Visit, match, compare, Do, does, matching, variable, agree, when, walk, zip}
+use Rattle.meaning.specs.Limits.{units, nesting, ended, lost, runPlan}
+use Rattle.meaning.specs.Store.{on, Ran, children}
+use Rattle.leaves.specs.declared.answers.Answer.{Answer}
+use Rattle.leaves.specs.declared.answers.Answer.the-variants.{Done, Failed, Cut}
+use Rattle.leaves.specs.Answers.{toldOf, packed, nodeIn, unitsIn, failedWord, unitsWord, nestingWord, stoppedWord}
+use Rattle.leaves.specs.Record.{markOf, maskOf, bitOf, held, bound, Framed}
+use Rattle.leaves.specs.Visits.{countOf, agreeing, visit, plan, meaning, out, giving, kept, Pattern, Entries, Matchable, Gives, Fitting}
+use Rattle.leaves.proofs.Telling.{stopped-units, stopped-nesting, told-stopped, out-done, out-failed, out-told, kept-done, kept-failed, kept-units, kept-nesting, kept-told, node-packed, units-packed, packed-again, done-node}
+use Rattle.leaves.proofs.Asking.{Tagged, last}
+use Rattle.leaves.proofs.Kind.{counted, no-units, no-nesting, pattern-variable, pattern-con}
+use Rattle.leaves.proofs.Keeping.{node-small}
+use Rattle.leaves.proofs.Limited.{units-out, nesting-out}
+use Rattle.leaves.proofs.Holding.{framed-refl, framed-trans, framed-bound, held-bound, mark-bound, held-some, held-none}
+use Rattle.leaves.proofs.Children.{part-next, part-end}
+use Rattle.leaves.proofs.Walking.{walk-end, walk-done, walk-failed, walk-cut, kept-on, kept-stop, returned, failing}
+use Rattle.leaves.proofs.Patterns.{no-variable, operand-pattern, agree-is, agreed-count}
+
+-- the children of node k by the operands of entry p, from the i-th on
+abbrev pub pairs : List ℕ → List ℕ → ℕ → ℕ → ℕ → List ℕ → Bindings ℕ → Do ℕ
+pairs t w p k i gs b = walk (zip match (drop i (operands t p)) (drop i (children w k))) gs b (λ gs b′. ret k b′)
+
+-- a visit of the pattern q on node x
+module _ (t : List ℕ) (n q x : ℕ) (b : Bindings ℕ) (w : List ℕ) (m u : ℕ) (h : u ≡ 0 → ⊥) (d : n ≡ 0 → ⊥) where
+  opened : visit t n (match q x b) w m u ≡ plan t (n - 1) (matching (table t .patterns q) x b) w m (u - 1)
+  unfolding does
+  opened = counted t n (match q x b) w m u h d
+
+  -- a variable
+  module _ (v : ℕ) (kind : kindOf t q ≡ 18) (ve : v ≡ argumentOf t q) where
+    at-variable : visit t n (match q x b) w m u ≡ plan t (n - 1) (variable (b v) v x b) w m (u - 1)
+    unfolding matching
+    at-variable = opened ∙ rw (pattern-variable t q kind, ve)
+
+    pub variable-bound : (g : ℕ) → b v ≡ some g → visit t n (match q x b) w m u ≡ visit t (n - 1) (compare g x b) w m (u - 1)
+    unfolding variable
+    variable-bound g e = at-variable ∙ rw e (last t (n - 1) w m (u - 1) (compare g x b))
+
+    pub variable-free : b v ≡ none → visit t n (match q x b) w m u ≡ ended x (bind v x b) (on w m) (u - 1)
+    unfolding variable
+    variable-free e = at-variable ∙ rw e (returned t (n - 1) w m (u - 1) x (bind v x b))
+
+  -- a constructor
+  module _ (en : Entries t) (inside : q < 4096) (kind : kindOf t q ≡ 19) where
+    looked : visit t n (match q x b) w m u ≡ plan t (n - 1) (when (agree (argumentOf t q) (operands t q) (wordAt w x 0) (children w x)) (pairs t w q x 0 [] b)) w m (u - 1)
+    unfolding matching plan runPlan
+    looked = opened ∙ rw (pattern-con t q kind)
+
+    at-constructor : (a : Bool) → agreeing t w q x ≡ a → visit t n (match q x b) w m u ≡ plan t (n - 1) (when a (pairs t w q x 0 [] b)) w m (u - 1)
+    at-constructor a e = looked ∙ ap (λ a. plan t (n - 1) (when a (pairs t w q x 0 [] b)) w m (u - 1)) (agree-is t en w q x inside ∙ e)
+
+    pub differs : agreeing t w q x ≡ false → visit t n (match q x b) w m u ≡ lost w (u - 1)
+    unfolding when
+    differs e = at-constructor false e ∙ failing t (n - 1) w m (u - 1)
+
+    pub agrees : agreeing t w q x ≡ true → visit t n (match q x b) w m u ≡ plan t (n - 1) (pairs t w q x 0 [] b) w m (u - 1)
+    unfolding when
+    agrees e = at-constructor true e
+
+    pub agrees-leaf : agreeing t w q x ≡ true → operandCount t q ≡ 0 → visit t n (match q x b) w m u ≡ ended x b (on w m) (u - 1)
+    unfolding zip
+    agrees-leaf e z = agrees e ∙ walk-end t (n - 1) w m (u - 1) [] b _ _ (rw z) ∙ returned t (n - 1) w m (u - 1) x b
+
+-- what holds before child i, with the record st and the units u, in what follows the visit of entry p on the node of g: the
+-- rest goes on to the whole, whatever the mark
+pub record Matched (t w : List ℕ) (n p g : ℕ) (b st : List ℕ) (u i : ℕ) : Type 0 where
+  pub goes-on : (m : ℕ) → (gs : List ℕ) × (plan t n (pairs t w p (nodeIn g) i gs (held st)) w m u ≡ plan t n (pairs t w p (nodeIn g) 0 [] (held b)) w m (unitsIn g))
+  pub frame : Framed b st
+  pub mark : markOf st ≡ markOf b
+
+pub matched-none : (t w : List ℕ) (n p g : ℕ) (b : List ℕ) → Matched t w n p g b b (unitsIn g) 0
+matched-none t w n p g b = record { goes-on = λ m. ([], refl); frame = framed-refl b; mark = refl }
+
+-- the same at values that are equal
+pub matched-at : (t w : List ℕ) (n p g : ℕ) (b st st′ : List ℕ) (u u′ i : ℕ) → st′ ≡ st → u′ ≡ u → u < 4294967296 → Matched t w n p g b st u i → (u′ < 4294967296) × Matched t w n p g b st′ u′ i
+matched-at t w n p g b st st′ u u′ i e f l c = rw (e, f) (l, c)
+
+-- a word told as a success
+kept-is : (w : List ℕ) (r x : ℕ) (b : Bindings ℕ) (m : ℕ) (a : Answer) → a ≡ toldOf r → (y v : ℕ) → a ≡ Done y v → kept r x b w m ≡ ended x b (on w m) v
+unfolding giving
+kept-is w r x b m a e y v f = kept-told w w x b m r a e ∙ rw f
+
+-- all children fit, and the word r says so
+matched-end : (t w : List ℕ) (n p g : ℕ) (b st : List ℕ) (u i r : ℕ) → Matched t w n p g b st u i → operandCount t p ≤ i → ((m : ℕ) → kept r (nodeIn g) (held st) w m ≡ ended (nodeIn g) (held st) (on w m) u) → Fitting t w n p g b r st
+unfolding zip
+matched-end t w n p g b st u i r c h e = record {
+  is = λ m.
+      e m
+      ∙ sym (walk-end t n w m u (c .goes-on m .0) (held st) _ _ (rw (part-end t p (operandCount t p) i (omega arith))) ∙ returned t n w m u (nodeIn g) (held st))
+      ∙ c .goes-on m .1;
+  frame = c .frame;
+  mark = c .mark;
+}
+
+pub matched-all : (t w : List ℕ) (n p g : ℕ) (b st : List ℕ) (u i r : ℕ) → Matched t w n p g b st u i → operandCount t p ≤ i → r ≡ packed 0 u → u < 4294967296 → Fitting t w n p g b r st
+matched-all t w n p g b st u i r c h e l =
+    matched-end t w n p g b st u i r c h (λ m. ap (λ r. kept r (nodeIn g) (held st) w m) e ∙ kept-done w w (nodeIn g) (held st) m 0 u (omega arith) l)
+
+-- before child i: the operand q is next, on the child x
+pub record Turn (t w : List ℕ) (n p g : ℕ) (b st : List ℕ) (u i q x : ℕ) : Type 0 where
+  pub so-far : Matched t w n p g b st u i
+  pub entries : Entries t
+  pub inside : p < 4096
+  pub kind : kindOf t p ≡ 19
+  pub agreed : agreeing t w p (nodeIn g) ≡ true
+  pub below : i < operandCount t p
+  pub operand : q ≡ wordAt t p (2 + i)
+  pub child : x ≡ wordAt w (nodeIn g) (2 + i)
+  pub few : u < 4294967296
+
+module _ {t w : List ℕ} {n p g : ℕ} {b st : List ℕ} {u i q x : ℕ} (c : Turn t w n p g b st u i q x) where
+  pub operand-is : (q < 4096) × Pattern t q
+  operand-is = operand-pattern t (c .entries) p i q (c .inside) (c .kind) (c .below) (c .operand)
+
+  pub variable-small : {v : ℕ} → kindOf t q ≡ 18 → v ≡ argumentOf t q → v < 32
+  variable-small k e = omega (arith, c .entries .variable q (operand-is .0) k, e)
+
+  pub constructor-is : {k : ℕ} → k ≡ kindOf t q → (k ≡ 18 → ⊥) → kindOf t q ≡ 19
+  constructor-is {k} e n = no-variable t q k (operand-is .1) e n
+
+  abbrev before : ℕ → List ℕ
+  before m = c .so-far .goes-on m .0
+
+  abbrev rest : List (Bindings ℕ → Visit ℕ)
+  rest = zip match (drop (i + 1) (operands t p)) (drop (i + 1) (children w (nodeIn g)))
+
+  next : (m : ℕ) → plan t n (walk (match q x ∷ rest) (before m) (held st) (λ gs b′. ret (nodeIn g) b′)) w m u ≡ plan t n (pairs t w p (nodeIn g) 0 [] (held b)) w m (unitsIn g)
+  unfolding zip
+  next m =
+      let e : operandCount t p ≡ countOf w (nodeIn g) = agreed-count t w p (nodeIn g) (c .agreed) in
+      let f : operandCount t p ≤ 6 = c .entries .few p (c .inside) in
+      let h : i < operandCount t p = c .below in
+      (λ k. plan t n (walk (match (c .operand k) (c .child k) ∷ rest) (before m) (held st) (λ gs b′. ret (nodeIn g) b′)) w m u)
+      ∙ sym (rw (part-next t p (operandCount t p) i (omega arith), part-next w (nodeIn g) (wordAt w (nodeIn g) 1) i (omega arith)))
+      ∙ c .so-far .goes-on m .1
+
+  -- its visit does not succeed, and the word r says so
+  fitting : (r : ℕ) → ((m : ℕ) → kept r (nodeIn g) (held st) w m ≡ plan t n (walk (match q x ∷ rest) (before m) (held st) (λ gs b′. ret (nodeIn g) b′)) w m u) → Fitting t w n p g b r st
+  fitting r e = record { is = λ m. e m ∙ next m; frame = c .so-far .frame; mark = c .so-far .mark }
+
+  pub fits-units : {r : ℕ} → r ≡ unitsWord → u ≡ 0 → Fitting t w n p g b r st
+  fits-units {r} e z =
+      fitting r (λ m.
+      ap (λ r. kept r (nodeIn g) (held st) w m) e
+      ∙ kept-units w w (nodeIn g) (held st) m
+      ∙ sym (walk-cut t n w m u (before m) (held st) _ (match q x) rest 0 w units (no-units t n _ w m u z)))
+
+  pub fits-nesting : {r : ℕ} → r ≡ nestingWord u → (u ≡ 0 → ⊥) → n ≡ 0 → Fitting t w n p g b r st
+  fits-nesting {r} e z d =
+      fitting r (λ m.
+      ap (λ r. kept r (nodeIn g) (held st) w m) e
+      ∙ kept-nesting w w (nodeIn g) (held st) m u (c .few)
+      ∙ sym (walk-cut t n w m u (before m) (held st) _ (match q x) rest u w nesting (no-nesting t n _ w m u z d)))
+
+  fits-stopped : {r : ℕ} → r ≡ stoppedWord u → n ≡ 0 → Fitting t w n p g b r st
+  fits-stopped {r} e d = go (eqb u 0) refl
+    where
+      go : (a : Bool) → eqb u 0 ≡ a → Fitting t w n p g b r st
+      go true h = let z : u ≡ 0 = eqb-true u 0 h in fits-units (e ∙ stopped-units u z) z
+      go false h = let z : u ≡ 0 → ⊥ = eqb-false u 0 h in fits-nesting (e ∙ stopped-nesting u z) z d
+
+  module _ (z : u ≡ 0 → ⊥) (d : n ≡ 0 → ⊥) where
+    less : u - 1 < 4294967296
+    less = let l : u < 4294967296 = c .few in omega arith
+
+    -- it succeeds with the record st′
+    ended-by : (st′ : List ℕ) (v : ℕ) → Framed st st′ → markOf st′ ≡ markOf st → ((m : ℕ) → visit t n (match q x (held st)) w m u ≡ ended x (held st′) (on w m) v) → Matched t w n p g b st′ v (i + 1)
+    ended-by st′ v f k e = record {
+      goes-on = λ m. (before m ++ (x ∷ []), sym (walk-done t n w m u (before m) (held st) _ (match q x) rest x m v w (held st′) (e m)) ∙ next m);
+      frame = framed-trans b st st′ (c .so-far .frame) f;
+      mark = k ∙ c .so-far .mark;
+    }
+
+    -- its answer's word r, told as a, with the record st′
+    module _ (r : ℕ) (st′ : List ℕ) (f : Framed st st′) (k : markOf st′ ≡ markOf st) (is : (m : ℕ) → kept r x (held st′) w m ≡ visit t n (match q x (held st)) w m u) (a : Answer) (told : a ≡ toldOf r) where
+      answered : (y v : ℕ) → a ≡ Done y v → Matched t w n p g b st′ v (i + 1)
+      answered y v e = record {
+        goes-on = λ m. (before m ++ (x ∷ []), sym (kept-on t n w m u (before m) (held st) _ (match q x) rest r x (held st′) (is m) a told y v e) ∙ next m);
+        frame = framed-trans b st st′ (c .so-far .frame) f;
+        mark = k ∙ c .so-far .mark;
+      }
+
+      stopped : Tagged a 1 2 → Fitting t w n p g b r st′
+      stopped e = record {
+        is = λ m. kept-stop t n w m u (before m) (held st) _ (match q x) rest r x (held st′) (is m) a told e (nodeIn g) (held st′) ∙ next m;
+        frame = framed-trans b st st′ (c .so-far .frame) f;
+        mark = k ∙ c .so-far .mark;
+      }
+
+      -- the same with the record as it was
+      refused : Tagged a 1 2 → Fitting t w n p g b r st
+      refused e = fitting r (λ m. kept-stop t n w m u (before m) (held st) _ (match q x) rest r x (held st′) (is m) a told e (nodeIn g) (held st))
+
+    -- a variable
+    module _ {v : ℕ} (kind : kindOf t q ≡ 18) (ve : v ≡ argumentOf t q) where
+      pub free-matched : {st′ : List ℕ} → length st ≡ 34 → (bitOf (maskOf st) v ≡ 1 → ⊥) → st′ ≡ bound st v x → Matched t w n p g b st′ (u - 1) (i + 1)
+      free-matched long e s =
+          let l : v < 32 = variable-small kind ve in
+          rw s (ended-by (bound st v x) (u - 1) (framed-bound st v x l long e) (mark-bound st v x l)
+          (λ m. variable-free t n q x (held st) w m u z d v kind ve (held-none st v e) ∙ rw (held-bound st v x l long)))
+
+      -- a bound one: the comparison's word r
+      module _ (e : bitOf (maskOf st) v ≡ 1) (r : ℕ) (is : (m : ℕ) → kept r x (held st) w m ≡ visit t (n - 1) (compare (getD st v 0) x (held st)) w m (u - 1)) (a : Answer) (told : a ≡ toldOf r) where
+        compared : (m : ℕ) → kept r x (held st) w m ≡ visit t n (match q x (held st)) w m u
+        compared m = is m ∙ sym (variable-bound t n q x (held st) w m u z d v kind ve (getD st v 0) (held-some st v (variable-small kind ve) e))
+
+        pub bound-matched : (y k : ℕ) → a ≡ Done y k → Matched t w n p g b st k (i + 1)
+        bound-matched y k f = answered r st (framed-refl st) refl compared a told y k f
+
+        pub bound-stops : Tagged a 1 2 → Fitting t w n p g b r st
+        bound-stops f = stopped r st (framed-refl st) refl compared a told f
+
+    -- a constructor
+    module _ (kind : kindOf t q ≡ 19) where
+      pub other : {r : ℕ} → r ≡ failedWord (u - 1) → agreeing t w q x ≡ false → Fitting t w n p g b r st
+      other {r} e f =
+          fitting r (λ m.
+          ap (λ r. kept r (nodeIn g) (held st) w m) e
+          ∙ kept-failed w w (nodeIn g) (held st) m (u - 1) less
+          ∙ sym (walk-failed t n w m u (before m) (held st) _ (match q x) rest (u - 1) w (differs t n q x (held st) w m u z d (c .entries) (operand-is .0) kind f)))
+
+      module _ (e : agreeing t w q x ≡ true) where
+        pub leaf-matched : operandCount t q ≡ 0 → Matched t w n p g b st (u - 1) (i + 1)
+        leaf-matched f = ended-by st (u - 1) (framed-refl st) refl (λ m. agrees-leaf t n q x (held st) w m u z d (c .entries) (operand-is .0) kind e f)
+
+        -- its own children: the word s is handed over
+        module _ {s : ℕ} (se : s ≡ packed x (u - 1)) where
+          node-handed : nodeIn s ≡ x
+          node-handed = ap (λ s. nodeIn s) se ∙ node-packed x (u - 1) less
+
+          units-handed : unitsIn s ≡ u - 1
+          units-handed = ap (λ s. unitsIn s) se ∙ units-packed x (u - 1) less
+
+          pub handed : agreeing t w q (nodeIn s) ≡ true
+          handed = ap (λ x. agreeing t w q x) node-handed ∙ e
+
+          -- and the word r comes back
+          module _ (r : ℕ) (st′ : List ℕ) (f : Fitting t w (n - 1) q s st r st′) (a : Answer) (told : a ≡ toldOf r) where
+            fitted : (m : ℕ) → kept r x (held st′) w m ≡ visit t n (match q x (held st)) w m u
+            fitted m = (rw (node-handed, units-handed) at (f .is m)) ∙ sym (agrees t n q x (held st) w m u z d (c .entries) (operand-is .0) kind e)
+
+            pub inner-matched : (y k : ℕ) → a ≡ Done y k → Matched t w n p g b st′ k (i + 1)
+            inner-matched y k j = answered r st′ (f .frame) (f .mark) fitted a told y k j
+
+            pub inner-stops : Tagged a 1 2 → Fitting t w n p g b r st′
+            inner-stops j = stopped r st′ (f .frame) (f .mark) fitted a told j
+
+            pub inner-refused : Tagged a 1 2 → Fitting t w n p g b r st
+            inner-refused j = refused r st′ (f .frame) (f .mark) fitted a told j
+
+          -- the last child's: what answers them answers all
+          pub last-fits : i + 1 ≡ operandCount t p → (r : ℕ) (st′ : List ℕ) → Fitting t w (n - 1) q s st r st′ → Fitting t w n p g b r st′
+          last-fits h r st′ f = go (toldOf r) refl
+            where
+              go : (a : Answer) → a ≡ toldOf r → Fitting t w n p g b r st′
+              go (Done y v) e =
+                  matched-end t w n p g b st′ v (i + 1) r (inner-matched r st′ f (Done y v) e y v refl) (omega arith)
+                  (λ m. kept-is w r (nodeIn g) (held st′) m (Done y v) e y v refl)
+              go (Failed v) e = inner-stops r st′ f (Failed v) e (inl refl)
+              go (Cut k) e = inner-stops r st′ f (Cut k) e (inr refl)
+
+-- with no nesting left no child is visited
+nothing-fits : (t w : List ℕ) (n p g : ℕ) (b : List ℕ) → Entries t → p < 4096 → kindOf t p ≡ 19 → agreeing t w p (nodeIn g) ≡ true → (operandCount t p ≡ 0 → ⊥) → n ≡ 0 → {r : ℕ} → r ≡ stoppedWord (unitsIn g) → Fitting t w n p g b r b
+nothing-fits t w n p g b en inside kind agreed o d e =
+    fits-stopped
+    {q = wordAt t p 2}
+    {x = wordAt w (nodeIn g) 2}
+    (record {
+      so-far = matched-none t w n p g b;
+      entries = en;
+      inside = inside;
+      kind = kind;
+      agreed = agreed;
+      below = omega (arith, o);
+      operand = refl;
+      child = refl;
+      few = omega arith;
+    })
+    e
+    d
+
+-- so that an operand with children of its own stops the walk
+pub inner-stopped : {t w : List ℕ} {n p g : ℕ} {b st : List ℕ} {u i q x : ℕ} (c : Turn t w n p g b st u i q x) → (u ≡ 0 → ⊥) → kindOf t q ≡ 19 → agreeing t w q x ≡ true → (operandCount t q ≡ 0 → ⊥) → n ≡ 1 → {r : ℕ} → r ≡ stoppedWord (u - 1) → Fitting t w n p g b r st
+inner-stopped {t} {w} {n} {p} {g} {b} {st} {u} {i} {q} {x} c z kind e o d {r} f =
+    let l : u - 1 < 4294967296 = omega (arith, c .few) in
+    let x-is : nodeIn (packed x (u - 1)) ≡ x = node-packed x (u - 1) l in
+    let u-is : unitsIn (packed x (u - 1)) ≡ u - 1 = units-packed x (u - 1) l in
+    inner-stops c z (λ a. omega arith) kind e refl r st
+    (nothing-fits t w (n - 1) q (packed x (u - 1)) st (c .entries) (operand-is c .0) kind (ap (λ x. agreeing t w q x) x-is ∙ e) o (omega arith) (f ∙ ap (λ u. stoppedWord u) (sym u-is)))
+    (Cut r)
+    (sym (ap (λ r. toldOf r) f ∙ told-stopped (u - 1) l ∙ ap (λ r. Cut r) (sym f)))
+    (inr refl)
+
+-- a walk that goes on in place with the children of the last child: it is before child i of entry p on node k, with the
+-- record st, and a word that answers the children of p answers those of p₀, where it began
+pub record Going (t w : List ℕ) (n₀ p₀ g₀ : ℕ) (b₀ : List ℕ) (n p k : ℕ) (st : List ℕ) (u i : ℕ) : Type 0 where
+  pub given : ℕ
+  pub held-then : List ℕ
+  pub node : nodeIn given ≡ k
+  pub inside : p < 4096
+  pub kind : kindOf t p ≡ 19
+  pub agreed : agreeing t w p (nodeIn given) ≡ true
+  pub so-far : Matched t w n p given held-then st u i
+  pub whole : (r : ℕ) (c : List ℕ) → Fitting t w n p given held-then r c → Fitting t w n₀ p₀ g₀ b₀ r c
+
+pub going-none : (t w : List ℕ) (n p g : ℕ) (b : List ℕ) → p < 4096 → kindOf t p ≡ 19 → agreeing t w p (nodeIn g) ≡ true → Going t w n p g b n p (nodeIn g) b (unitsIn g) 0
+going-none t w n p g b inside kind agreed = record {
+  given = g;
+  held-then = b;
+  node = refl;
+  inside = inside;
+  kind = kind;
+  agreed = agreed;
+  so-far = matched-none t w n p g b;
+  whole = λ r c f. f;
+}
+
+module _ {t w : List ℕ} {n₀ p₀ g₀ : ℕ} {b₀ : List ℕ} {n p k : ℕ} {st : List ℕ} {u i : ℕ} (c : Going t w n₀ p₀ g₀ b₀ n p k st u i) where
+  -- operand and child are read
+  pub going-turn : {q x : ℕ} → Entries t → i < operandCount t p → q ≡ wordAt t p (2 + i) → x ≡ wordAt w k (2 + i) → u < 4294967296 → Turn t w n p (c .given) (c .held-then) st u i q x
+  going-turn en below e f l = record {
+    so-far = c .so-far;
+    entries = en;
+    inside = c .inside;
+    kind = c .kind;
+    agreed = c .agreed;
+    below = below;
+    operand = e;
+    child = f ∙ ap (λ k. wordAt w k (2 + i)) (sym (c .node));
+    few = l;
+  }
+
+  pub going-on : {st′ : List ℕ} {v j : ℕ} → Matched t w n p (c .given) (c .held-then) st′ v j → Going t w n₀ p₀ g₀ b₀ n p k st′ v j
+  going-on f = record {
+    given = c .given;
+    held-then = c .held-then;
+    node = c .node;
+    inside = c .inside;
+    kind = c .kind;
+    agreed = c .agreed;
+    so-far = f;
+    whole = c .whole;
+  }
+
+  -- the record keeps its length
+  pub going-long : {st′ : List ℕ} {v j : ℕ} → length st ≡ 34 → Matched t w n p (c .given) (c .held-then) st′ v j → length st′ ≡ 34
+  going-long l f = f .frame .long ∙ sym (c .so-far .frame .long) ∙ l
+
+  -- the last child, whose children are next
+  pub going-down : {q x : ℕ} → Turn t w n p (c .given) (c .held-then) st u i q x → (u ≡ 0 → ⊥) → (n ≡ 0 → ⊥) → kindOf t q ≡ 19 → agreeing t w q x ≡ true → i + 1 ≡ operandCount t p → Going t w n₀ p₀ g₀ b₀ (n - 1) q x st (u - 1) 0
+  going-down {q} {x} a z d kind e h =
+      let l : u - 1 < 4294967296 = omega (arith, a .few) in
+      record {
+        given = packed x (u - 1);
+        held-then = st;
+        node = node-packed x (u - 1) l;
+        inside = operand-is a .0;
+        kind = kind;
+        agreed = handed a z d kind e refl;
+        so-far = rw (units-packed x (u - 1) l) at (matched-none t w (n - 1) q (packed x (u - 1)) st);
+        whole = λ r st′ f. c .whole r st′ (last-fits a z d kind e refl h r st′ f);
+      }
+
+-- an answer's word, told as a: with any record where it is no success
+out-kept : (st w : List ℕ) (r x : ℕ) (b : Bindings ℕ) (m : ℕ) (a : Answer) → a ≡ toldOf r → Tagged a 1 2 → out r st w ≡ kept r x b w m
+unfolding meaning giving
+out-kept st w r x b m a e h = out-told st w r a e ∙ go a h ∙ sym (kept-told st w x b m r a e)
+  where
+    go : (a : Answer) → Tagged a 1 2 → meaning a st w ≡ giving a x b w m
+    go (Done y v) h = absurd (⊎-elim (λ z. omega arith) (λ z. omega arith) h)
+    go (Failed v) h = refl
+    go (Cut d) h = refl
+
+-- the root: a visit of the pattern p on the node of g, with the record st
+module _ {t w st : List ℕ} {p g : ℕ} (c : Matchable t w st p g) (n : ℕ) where
+  abbrev root : Ran
+  root = visit t n (match p (nodeIn g) (held st)) w (markOf st) (unitsIn g)
+
+  pub root-units : {r : ℕ} → r ≡ unitsWord → unitsIn g ≡ 0 → Gives root st r st w
+  root-units {r} e z = record { is = units-out t n _ w (markOf st) (unitsIn g) r st e z; frame = framed-refl st }
+
+  pub root-nesting : {r : ℕ} → r ≡ nestingWord (unitsIn g) → (unitsIn g ≡ 0 → ⊥) → n ≡ 0 → Gives root st r st w
+  root-nesting {r} e z d = record { is = nesting-out t n _ w (markOf st) (unitsIn g) r st e (omega arith) z d; frame = framed-refl st }
+
+  -- the root's node with the units v, and the record st′
+  ended-root : (r v : ℕ) (st′ : List ℕ) → r ≡ packed (nodeIn g) v → v < 4294967296 → markOf st′ ≡ markOf st → Framed st st′ → root ≡ ended (nodeIn g) (held st′) (on w (markOf st)) v → Gives root st r st′ w
+  ended-root r v st′ e l k f o = record {
+    is =
+        ap (λ r. out r st′ w) e
+        ∙ out-done st′ w (nodeIn g) v (omega (arith, node-small (c .steady) (nodeIn g) (c .subject))) l
+        ∙ ap (λ (m : ℕ). ended (nodeIn g) (held st′) (on w m) v) k
+        ∙ sym o;
+    frame = f;
+  }
+
+  -- a word that is no success, whose units are the root's
+  stopped-root : (r : ℕ) (st′ : List ℕ) → Framed st st′ → (a : Answer) → a ≡ toldOf r → Tagged a 1 2 → kept r (nodeIn g) (held st′) w (markOf st) ≡ root → Gives root st r st′ w
+  stopped-root r st′ f a e h o = record { is = out-kept st′ w r (nodeIn g) (held st′) (markOf st) a e h ∙ o; frame = f }
+
+  module _ (z : unitsIn g ≡ 0 → ⊥) (d : n ≡ 0 → ⊥) where
+    -- the root's word with one unit less
+    one-less : g - 1 ≡ packed (nodeIn g) (unitsIn g - 1)
+    one-less = omega (arith, packed-again g)
+
+    pub node-less : nodeIn (g - 1) ≡ nodeIn g
+    node-less = ap (λ s. nodeIn s) one-less ∙ node-packed (nodeIn g) (unitsIn g - 1) (omega arith)
+
+    units-less : unitsIn (g - 1) ≡ unitsIn g - 1
+    units-less = ap (λ s. unitsIn s) one-less ∙ units-packed (nodeIn g) (unitsIn g - 1) (omega arith)
+
+    -- a variable
+    module _ {v : ℕ} (kind : kindOf t p ≡ 18) (ve : v ≡ argumentOf t p) where
+      pub root-small : v < 32
+      root-small = omega (arith, c .entries .variable p (c .inside) kind, ve)
+
+      pub root-free : {st′ : List ℕ} → (bitOf (maskOf st) v ≡ 1 → ⊥) → st′ ≡ bound st v (nodeIn g) → Gives root st (g - 1) st′ w
+      root-free e s =
+          rw s (ended-root (g - 1) (unitsIn g - 1) (bound st v (nodeIn g)) one-less (omega arith) (mark-bound st v (nodeIn g) root-small) (framed-bound st v (nodeIn g) root-small (c .long) e)
+          (variable-free t n p (nodeIn g) (held st) w (markOf st) (unitsIn g) z d v kind ve (held-none st v e) ∙ rw (held-bound st v (nodeIn g) root-small (c .long))))
+
+      module _ (e : bitOf (maskOf st) v ≡ 1) (r : ℕ) (is : kept r (nodeIn g) (held st) w (markOf st) ≡ visit t (n - 1) (compare (getD st v 0) (nodeIn g) (held st)) w (markOf st) (unitsIn g - 1)) (a : Answer) (told : a ≡ toldOf r) where
+        root-compared : kept r (nodeIn g) (held st) w (markOf st) ≡ root
+        root-compared = is ∙ sym (variable-bound t n p (nodeIn g) (held st) w (markOf st) (unitsIn g) z d v kind ve (getD st v 0) (held-some st v root-small e))
+
+        pub root-bound-stops : Tagged a 1 2 → Gives root st r st w
+        root-bound-stops h = stopped-root r st (framed-refl st) a told h root-compared
+
+        pub root-bound : (y k r′ : ℕ) → a ≡ Done y k → r′ ≡ packed (nodeIn g) k → Gives root st r′ st w
+        root-bound y k r′ f s =
+            ended-root r′ k st s (omega (arith, done-node r y k (sym told ∙ f))) refl (framed-refl st)
+            (sym root-compared ∙ kept-is w r (nodeIn g) (held st) (markOf st) a told y k f)
+
+    -- a constructor
+    module _ (kind : kindOf t p ≡ 19) where
+      pub root-other : {r : ℕ} → r ≡ failedWord (unitsIn g - 1) → agreeing t w p (nodeIn g) ≡ false → Gives root st r st w
+      root-other {r} e f = record {
+        is =
+            ap (λ r. out r st w) e
+            ∙ out-failed st w (unitsIn g - 1) (omega arith)
+            ∙ sym (differs t n p (nodeIn g) (held st) w (markOf st) (unitsIn g) z d (c .entries) (c .inside) kind f);
+        frame = framed-refl st;
+      }
+
+      module _ (e : agreeing t w p (nodeIn g) ≡ true) where
+        pub root-leaf : operandCount t p ≡ 0 → Gives root st (g - 1) st w
+        root-leaf f =
+            ended-root (g - 1) (unitsIn g - 1) st one-less (omega arith) refl (framed-refl st)
+            (agrees-leaf t n p (nodeIn g) (held st) w (markOf st) (unitsIn g) z d (c .entries) (c .inside) kind e f)
+
+        pub root-handed : agreeing t w p (nodeIn (g - 1)) ≡ true
+        root-handed = ap (λ x. agreeing t w p x) node-less ∙ e
+
+        -- its children: the word r comes back, with the record st′
+        module _ (r : ℕ) (st′ : List ℕ) (f : Fitting t w (n - 1) p (g - 1) st r st′) (a : Answer) (told : a ≡ toldOf r) where
+          root-fitted : kept r (nodeIn g) (held st′) w (markOf st) ≡ root
+          root-fitted =
+              (rw (node-less, units-less) at (f .is (markOf st)))
+              ∙ sym (agrees t n p (nodeIn g) (held st) w (markOf st) (unitsIn g) z d (c .entries) (c .inside) kind e)
+
+          pub root-stops : Tagged a 1 2 → Gives root st r st′ w
+          root-stops h = stopped-root r st′ (f .frame) a told h root-fitted
+
+          pub root-fits : (y k r′ : ℕ) → a ≡ Done y k → r′ ≡ packed (nodeIn g) k → Gives root st r′ st′ w
+          root-fits y k r′ h s =
+              ended-root r′ k st′ s (omega (arith, done-node r y k (sym told ∙ h))) (f .mark) (f .frame)
+              (sym root-fitted ∙ kept-is w r (nodeIn g) (held st′) (markOf st) a told y k h)
+
+        -- no nesting is left for them
+        pub root-stopped : (operandCount t p ≡ 0 → ⊥) → n ≡ 1 → {r : ℕ} → r ≡ stoppedWord (unitsIn g - 1) → Gives root st r st w
+        root-stopped o k {r} f =
+            root-stops r st
+            (nothing-fits t w (n - 1) p (g - 1) st (c .entries) (c .inside) kind root-handed o (omega arith) (f ∙ ap (λ u. stoppedWord u) (sym units-less)))
+            (Cut r)
+            (sym (ap (λ r. toldOf r) f ∙ told-stopped (unitsIn g - 1) (omega arith) ∙ ap (λ r. Cut r) (sym f)))
+            (inr refl)

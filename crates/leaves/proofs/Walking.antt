@@ -1,0 +1,76 @@
+-- Visits from left to right: a walk's next step by the answer of its first visit, over any visits and whatever follows them.
+use mathlib.Core.Path.{_≡_, refl, sym, _∙_}
+use mathlib.Core.List.{List, [], _∷_, _++_}
+use mathlib.Core.Logic.{⊎-elim}
+use Prim.Native.Nat.{ℕ}
+use native.Mathlib.Omega.{arith}
+use Rattle.meaning.specs.Bindings.{Bindings}
+use Rattle.meaning.specs.Plan.{keep, ret, fail}
+use Rattle.meaning.specs.Rules.{Visit, Do, walk}
+use Rattle.meaning.specs.Limits.{Limit, ended, lost, cut, runPlan}
+use Rattle.meaning.specs.Store.{on}
+use Rattle.leaves.specs.declared.answers.Answer.{Answer}
+use Rattle.leaves.specs.declared.answers.Answer.the-variants.{Done, Failed, Cut}
+use Rattle.leaves.specs.Answers.{unitsIn, toldOf}
+use Rattle.leaves.specs.Record.{markOf, held}
+use Rattle.leaves.specs.Visits.{visit, plan, limitOf, out, giving, kept}
+use Rattle.leaves.proofs.Telling.{kept-told}
+use Rattle.leaves.proofs.Asking.{Tagged, ask-done, ask-failed, ask-cut, goes-on, not-done}
+
+-- a plan that ends
+module _ (t : List ℕ) (n : ℕ) (w : List ℕ) (m u : ℕ) where
+  pub returned : (x : ℕ) (b : Bindings ℕ) → plan t n (ret x b) w m u ≡ ended x b (on w m) u
+  unfolding plan runPlan
+  returned x b = refl
+
+  pub failing : plan t n fail w m u ≡ lost w u
+  unfolding plan runPlan
+  failing = refl
+
+module _ (t : List ℕ) (n : ℕ) (w : List ℕ) (m u : ℕ) (gs : List ℕ) (b : Bindings ℕ) (k : List ℕ → Bindings ℕ → Do ℕ) where
+  -- no visit is left
+  pub walk-end : (qs : List (Bindings ℕ → Visit ℕ)) → qs ≡ [] → plan t n (walk qs gs b k) w m u ≡ plan t n (k gs b) w m u
+  unfolding walk
+  walk-end qs e = rw e
+
+  -- the first visit q
+  module _ (q : Bindings ℕ → Visit ℕ) (qs : List (Bindings ℕ → Visit ℕ)) where
+    pub walk-done : (x m′ v : ℕ) (w′ : List ℕ) (b′ : Bindings ℕ) → visit t n (q b) w m u ≡ ended x b′ (on w′ m′) v → plan t n (walk (q ∷ qs) gs b k) w m u ≡ plan t n (walk qs (gs ++ (x ∷ [])) b′ k) w′ m′ v
+    unfolding walk
+    walk-done x m′ v w′ b′ e = ask-done t n w m u (q b) (λ g c. walk qs (gs ++ (g ∷ [])) c k) fail v w′ x m′ b′ e
+
+    pub walk-failed : (v : ℕ) (w′ : List ℕ) → visit t n (q b) w m u ≡ lost w′ v → plan t n (walk (q ∷ qs) gs b k) w m u ≡ lost w′ v
+    unfolding walk
+    walk-failed v w′ e = ask-failed t n w m u (q b) (λ g c. walk qs (gs ++ (g ∷ [])) c k) fail v w′ keep e ∙ failing t n w′ m v
+
+    pub walk-cut : (v : ℕ) (w′ : List ℕ) (c : Limit) → visit t n (q b) w m u ≡ cut c w′ v → plan t n (walk (q ∷ qs) gs b k) w m u ≡ cut c w′ v
+    unfolding walk
+    walk-cut v w′ c e = ask-cut t n w m u (q b) (λ g c. walk qs (gs ++ (g ∷ [])) c k) fail v w′ keep c e
+
+    -- by its answer's word r, told as a, with record and store
+    module _ (r : ℕ) (st w′ : List ℕ) (is : out r st w′ ≡ visit t n (q b) w m u) (a : Answer) (told : a ≡ toldOf r) where
+      pub walk-on : (x v : ℕ) → a ≡ Done x v → plan t n (walk (q ∷ qs) gs b k) w m u ≡ plan t n (walk qs (gs ++ (x ∷ [])) (held st) k) w′ (markOf st) v
+      unfolding walk
+      walk-on x v e = goes-on t n w m u (q b) r st w′ is a told (λ g c. walk qs (gs ++ (g ∷ [])) c k) fail x v e
+
+      pub walk-stop : Tagged a 1 2 → out r st w′ ≡ plan t n (walk (q ∷ qs) gs b k) w m u
+      unfolding walk
+      walk-stop h = not-done t n w m u (q b) r st w′ is a told keep (λ g c. walk qs (gs ++ (g ∷ [])) c k) h
+
+    -- by its answer's word r, told as a, of which only the units count
+    module _ (r x : ℕ) (b′ : Bindings ℕ) (is : kept r x b′ w m ≡ visit t n (q b) w m u) (a : Answer) (told : a ≡ toldOf r) where
+      says : visit t n (q b) w m u ≡ giving a x b′ w m
+      says = sym is ∙ kept-told w w x b′ m r a told
+
+      pub kept-on : (y v : ℕ) → a ≡ Done y v → plan t n (walk (q ∷ qs) gs b k) w m u ≡ plan t n (walk qs (gs ++ (x ∷ [])) b′ k) w m v
+      unfolding giving
+      kept-on y v e = walk-done x m v w b′ (says ∙ rw e)
+
+      pub kept-stop : Tagged a 1 2 → (y : ℕ) (c : Bindings ℕ) → kept r y c w m ≡ plan t n (walk (q ∷ qs) gs b k) w m u
+      unfolding giving
+      kept-stop h y c = kept-told w w y c m r a told ∙ go a refl h
+        where
+          go : (a′ : Answer) → a ≡ a′ → Tagged a′ 1 2 → giving a y c w m ≡ plan t n (walk (q ∷ qs) gs b k) w m u
+          go (Done z v) e g = absurd (⊎-elim (λ z. omega arith) (λ z. omega arith) g)
+          go (Failed v) e g = rw e (sym (walk-failed v w (says ∙ rw e)))
+          go (Cut d) e g = rw e (sym (walk-cut (unitsIn d) w (limitOf d) (says ∙ rw e)))

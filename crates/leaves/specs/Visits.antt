@@ -1,0 +1,120 @@
+-- What the contracts of the leaves say: a visit, or what follows it, over the store's words, by the meaning's rules.
+use mathlib.Core.Path.{_≡_}
+use mathlib.Core.Bool.{Bool, true, _&&_}
+use mathlib.Core.Option.{some}
+use mathlib.Core.Logic.{_⊎_}
+use mathlib.Core.List.{List, [], _∷_}
+use Prim.Native.Nat.{ℕ, _+_, _-_, _%_, _≤_, _<_, min}
+use lib.Dec.{eqb, leb}
+use lib.ListN.{length}
+use Rattle.words.specs.Words.{wordAt, rows, putRow}
+use Rattle.words.specs.Tests.{if_then_else_}
+use Rattle.checks.specs.Good.{kindOf, operandCount, argumentOf, goodNode}
+use Rattle.meaning.specs.Bindings.{Bindings}
+use Rattle.meaning.specs.Table.{table, operands}
+use Rattle.meaning.specs.Plan.{ret}
+use Rattle.meaning.specs.Rules.{Visit, match, Do, does, strategy, walk, zip}
+use Rattle.meaning.specs.Limits.{Limit, units, room, nesting, ended, lost, cut, run, runPlan, roomFor}
+use Rattle.meaning.specs.Store.{on, stored, Ran, children}
+use Rattle.leaves.specs.declared.answers.Answer.{Answer}
+use Rattle.leaves.specs.declared.answers.Answer.the-variants.{Done, Failed, Cut}
+use Rattle.leaves.specs.Answers.{toldOf, nodeIn, unitsIn}
+use Rattle.leaves.specs.Record.{markOf, held, Framed}
+
+-- a node's child count, read as at most 6; its eight words
+abbrev pub countOf : List ℕ → ℕ → ℕ
+countOf w k = min (wordAt w k 1) 6
+
+abbrev pub rowAt : List ℕ → ℕ → List ℕ
+rowAt w k = wordAt w k 0 ∷ wordAt w k 1 ∷ wordAt w k 2 ∷ wordAt w k 3 ∷ wordAt w k 4 ∷ wordAt w k 5 ∷ wordAt w k 6 ∷ wordAt w k 7 ∷ []
+
+-- entry p's constructor and count are node k's
+unfoldable pub agreeing : List ℕ → List ℕ → ℕ → ℕ → Bool
+agreeing t w p k = eqb (argumentOf t p) (wordAt w k 0) && eqb (operandCount t p) (countOf w k)
+
+-- a visit by the table t with nesting n; a plan whose visits have nesting n
+unfoldable pub visit : List ℕ → ℕ → Visit ℕ → List ℕ → ℕ → ℕ → Ran
+visit t n q w m u = run stored (does (table t)) n q (on w m) u
+
+unfoldable pub plan : List ℕ → ℕ → Do ℕ → List ℕ → ℕ → ℕ → Ran
+plan t n p w m u = runPlan stored (run stored (does (table t)) n) p (on w m) u
+
+-- what follows the visit of entry e as a strategy
+abbrev pub ruled : List ℕ → ℕ → ℕ → ℕ → Bindings ℕ → List ℕ → ℕ → ℕ → Ran
+ruled t n e k b w m u = plan t n (strategy (table t .strategies e) k b) w m u
+
+-- the limit that a cut-off's word names
+unfoldable pub limitOf : ℕ → Limit
+limitOf c = if eqb (nodeIn c) 4294967294 then units else if eqb (nodeIn c) 4294967293 then room else nesting
+
+-- an answer with the record and the store at its return
+unfoldable pub meaning : Answer → List ℕ → List ℕ → Ran
+meaning (Done x u) st w = ended x (held st) (on w (markOf st)) u
+meaning (Failed u) st w = lost w u
+meaning (Cut c) st w = cut (limitOf c) w (unitsIn c)
+
+unfoldable pub out : ℕ → List ℕ → List ℕ → Ran
+out r st w = meaning (toldOf r) st w
+
+-- an answer of which only the units count: success gives the node k and the bindings b back, with nothing made
+unfoldable pub giving : Answer → ℕ → Bindings ℕ → List ℕ → ℕ → Ran
+giving (Done x u) k b w m = ended k b (on w m) u
+giving (Failed u) k b w m = lost w u
+giving (Cut c) k b w m = cut (limitOf c) w (unitsIn c)
+
+unfoldable pub kept : ℕ → ℕ → Bindings ℕ → List ℕ → ℕ → Ran
+kept r k b w m = giving (toldOf r) k b w m
+
+-- entry p is a pattern
+abbrev pub Pattern : List ℕ → ℕ → Type 0
+Pattern t p = (kindOf t p ≡ 18) ⊎ (kindOf t p ≡ 19)
+
+-- what the engine needs of a checked table, held in 32,768 words with zeros after its last entry
+pub record Entries (t : List ℕ) : Type 0 where
+  pub long : length t ≡ 32768
+  pub operand : (e i : ℕ) → e < 4096 → i < 6 → wordAt t e (2 + i) < 4096
+  pub few : (e : ℕ) → e < 4096 → operandCount t e ≤ 6
+  pub variable : (e : ℕ) → e < 4096 → kindOf t e ≡ 18 → argumentOf t e < 32
+  pub constructor : (e : ℕ) → e < 4096 → kindOf t e ≡ 19 → argumentOf t e ≤ 65535
+  pub matched : (e : ℕ) → e < 4096 → kindOf t e ≡ 14 → Pattern t (wordAt t e 2)
+  pub built : (e : ℕ) → e < 4096 → kindOf t e ≡ 15 → Pattern t (wordAt t e 2)
+  pub parts : (e i : ℕ) → e < 4096 → kindOf t e ≡ 19 → i < operandCount t e → Pattern t (wordAt t e (2 + i))
+
+-- the store has whole nodes, at most 131,072, of which m are in use, each of them good; the bindings lie below the mark
+pub record Steady (w : List ℕ) (m : ℕ) (b : Bindings ℕ) : Type 0 where
+  pub nodes : length w % 8 ≡ 0
+  pub small : length w ≤ 1048576
+  pub used : 0 < m
+  pub fits : m ≤ rows w
+  pub good : (j : ℕ) → j < m → goodNode w j ≡ true
+  pub bound : (v j : ℕ) → b v ≡ some j → j < m
+
+-- the store has whole nodes, at most 131,072, and at most these are in use
+pub record Roomy (w : List ℕ) (m : ℕ) : Type 0 where
+  pub nodes : length w % 8 ≡ 0
+  pub small : length w ≤ 1048576
+  pub fits : m ≤ rows w
+
+-- what a MATCH of entry p requires: the node and the units are in the word g
+pub record Matchable (t w st : List ℕ) (p g : ℕ) : Type 0 where
+  pub entries : Entries t
+  pub long : length st ≡ 34
+  pub inside : p < 4096
+  pub steady : Steady w (markOf st) (held st)
+  pub subject : nodeIn g < markOf st
+
+-- the answer r, with the record and the store at return, is o; and the words of the variables bound before are as they were
+pub record Gives (o : Ran) (st : List ℕ) (r : ℕ) (st′ w′ : List ℕ) : Type 0 where
+  pub is : out r st′ w′ ≡ o
+  pub frame : Framed st st′
+
+-- what follows a MATCH of entry p on node k, whose constructor and count agree, whatever the mark: the record is b before
+-- and c after, and its mark is as it was
+pub record Fitting (t w : List ℕ) (n p g : ℕ) (b : List ℕ) (r : ℕ) (c : List ℕ) : Type 0 where
+  pub is : (m : ℕ) → kept r (nodeIn g) (held c) w m ≡ plan t n (walk (zip match (operands t p) (children w (nodeIn g))) [] (held b) (λ gs b′. ret (nodeIn g) b′)) w m (unitsIn g)
+  pub frame : Framed b c
+  pub mark : markOf c ≡ markOf b
+
+-- a new node of these eight words
+unfoldable pub noded : List ℕ → List ℕ → List ℕ → ℕ → Ran
+noded made st w u = roomFor (leb (rows w) (markOf st)) w u (ended (markOf st) (held st) (on (putRow w (markOf st) made) (markOf st + 1)) u)

@@ -1,0 +1,82 @@
+// The answer of a visit in one word: node × 2³² + units left. The four highest node numbers, which no store has, stand
+// for failed, units, room and nesting. A word crosses a call in one register, and is told as an enum on the spot.
+ghost use mathlib.Core.Path.{_≡_};
+ghost use Rattle.leaves.specs.Answers.{packed, failedWord, unitsWord, roomWord, nestingWord, stoppedWord, toldOf, heardOf};
+
+// A visit's answer: the node and the units left, or the units left, or the word of a cut-off.
+pub enum Answer {
+    Done(u32, u32),
+    Failed(u32),
+    Cut(u64),
+}
+
+// What an operator hears that goes on after a failure: whether its operand succeeded, the node, the units left.
+pub enum Heard {
+    Ended(bool, u32, u32),
+    Cut(u64),
+}
+
+pub fn told(r: u64) -> Answer
+    ensures { λ a. ⌜ a ≡ toldOf r ⌝ }
+{
+    let t = r / 4294967296;
+    let left = (r % 4294967296) as u32;
+    if t < 4294967292 {
+        return Answer::Done(t as u32, left);
+    }
+    if t == 4294967295 {
+        return Answer::Failed(left);
+    }
+    Answer::Cut(r)
+}
+
+pub fn hear(r: u64) -> Heard
+    ensures { λ a. ⌜ a ≡ heardOf (toldOf r) ⌝ }
+{
+    let a = told(r);
+    match a {
+        Answer::Done(x, left) => Heard::Ended(true, x, left),
+        Answer::Failed(left) => Heard::Ended(false, 0, left),
+        Answer::Cut(c) => Heard::Cut(c),
+    }
+}
+
+pub fn done(t: u32, left: u32) -> u64
+    ensures { λ r. ⌜ r ≡ packed t left ⌝ }
+{
+    t as u64 * 4294967296 + left as u64
+}
+
+pub fn failure(left: u32) -> u64
+    ensures { λ r. ⌜ r ≡ failedWord left ⌝ }
+{
+    18446744069414584320 + left as u64
+}
+
+pub fn no_units() -> u64
+    ensures { λ r. ⌜ r ≡ unitsWord ⌝ }
+{
+    18446744065119617024
+}
+
+pub fn no_room(left: u32) -> u64
+    ensures { λ r. ⌜ r ≡ roomWord left ⌝ }
+{
+    18446744060824649728 + left as u64
+}
+
+pub fn no_nesting(left: u32) -> u64
+    ensures { λ r. ⌜ r ≡ nestingWord left ⌝ }
+{
+    18446744056529682432 + left as u64
+}
+
+// What stops a visit for which no nesting is left: the units, which are tested first, where none of them are left either.
+pub fn stopped(left: u32) -> u64
+    ensures { λ r. ⌜ r ≡ stoppedWord left ⌝ }
+{
+    if left == 0 {
+        return no_units();
+    }
+    no_nesting(left)
+}

@@ -1,0 +1,74 @@
+// A new node at the mark, and the builder: nodes after their children, left to right.
+use crate::answers::Answer;
+use crate::answers::done;
+use crate::answers::failure;
+use crate::answers::no_nesting;
+use crate::answers::no_room;
+use crate::answers::no_units;
+use crate::answers::told;
+use crate::reading::entry;
+use crate::reading::kind;
+use crate::reading::operands;
+use crate::record::bit;
+use words::put_row;
+ghost use mathlib.Core.Path.{_≡_};
+ghost use Prim.Native.Nat.{ℕ, _<_};
+ghost use lib.ListN.{length};
+ghost use Rattle.meaning.specs.Rules.{build as built};
+ghost use Rattle.leaves.specs.Record.{markOf, held};
+ghost use Rattle.leaves.specs.Visits.{visit, noded, Pattern, Entries, Steady, Roomy, Gives};
+
+// The node of these eight words at the mark; no room where the mark equals the store's nodes.
+pub fn node(store: &mut [u32], st: &mut [u32; 34], made: [u32; 8], left: u32) -> u64
+    requires { ⌜ Roomy (now store) (markOf (now st)) × (length (now st) ≡ 34) ⌝ }
+    ensures { λ r. ⌜ Gives (noded made (now (st .entry)) (now (store .entry)) left) (now (st .entry)) r (now (st .exit)) (now (store .exit)) ⌝ }
+{
+    let k = st[32];
+    if store.len() < 8 * (k as usize) + 8 {
+        return no_room(left);
+    }
+    put_row(store, k, made);
+    st[32] = k + 1;
+    done(k, left)
+}
+
+// BUILD of the pattern p.
+pub fn build(
+    table: &[u32; 32768],
+    store: &mut [u32],
+    st: &mut [u32; 34],
+    p: u32,
+    left: u32,
+    deep: u32,
+) -> u64
+    requires { ⌜ Entries (now table) × (p < 4096) × Pattern (now table) p × Steady (now store) (markOf (now st)) (held (now st)) × (length (now st) ≡ 34) ⌝ }
+    ensures { λ r. ⌜ ((k : ℕ) → Gives (visit (now (table .entry)) deep (built p k (held (now (st .entry)))) (now (store .entry)) (markOf (now (st .entry))) left) (now (st .entry)) r (now (st .exit)) (now (store .exit))) ⌝ }
+{
+    if left == 0 {
+        return no_units();
+    }
+    if deep == 0 {
+        return no_nesting(left);
+    }
+    let mut u = left - 1;
+    if kind(table, p) == 18 {
+        let v = entry(table, p, 1);
+        if bit(st[33], v) == 1 {
+            return done(st[v as usize], u);
+        }
+        return failure(u);
+    }
+    let n = operands(table, p);
+    let mut made = [entry(table, p, 1), n, 0, 0, 0, 0, 0, 0];
+    let mut i: u32 = 0;
+    while i < n {
+        let got = build(table, store, st, entry(table, p, 2 + i), u, deep - 1);
+        let Answer::Done(x, rest) = told(got) else {
+            return got;
+        };
+        made[2 + (i as usize)] = x;
+        u = rest;
+        i += 1;
+    }
+    node(store, st, made, u)
+}

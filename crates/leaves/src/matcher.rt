@@ -1,0 +1,218 @@
+// The matcher: pattern and term walked together, left to right. The bindings are one record that it fills as it walks: the
+// run's own, in place, for the children of a MATCH's pattern; below that its core takes and returns the record by value.
+use crate::answers::Answer;
+use crate::answers::done;
+use crate::answers::failure;
+use crate::answers::no_nesting;
+use crate::answers::no_units;
+use crate::answers::stopped;
+use crate::answers::told;
+use crate::compare::same;
+use crate::reading::agree;
+use crate::reading::entry;
+use crate::reading::kind;
+use crate::reading::operands;
+use crate::record::Bindings;
+use crate::record::bind;
+use crate::record::bit;
+use crate::record::put_variable;
+use words::word;
+ghost use mathlib.Core.Path.{_≡_};
+ghost use mathlib.Core.Bool.{true};
+ghost use Prim.Native.Nat.{_<_};
+ghost use lib.ListN.{length};
+ghost use Rattle.meaning.specs.Rules.{match as met};
+ghost use Rattle.checks.specs.Good.{kindOf};
+ghost use Rattle.leaves.specs.Answers.{nodeIn, unitsIn};
+ghost use Rattle.leaves.specs.Record.{markOf, held};
+ghost use Rattle.leaves.specs.Visits.{visit, Pattern, Entries, agreeing, Matchable, Gives, Fitting};
+
+pub struct Fitted {
+    pub got: u64,
+    pub binds: Bindings,
+}
+
+// A PCON whose constructor and count agree with the node's, after its own visit: child by child. Some nesting is left for
+// the children, so that the loop does not test it; its caller does.
+fn fits(table: &[u32; 32768], store: &[u32], p: u32, s: u64, b: Bindings, deep: u32) -> Fitted
+    requires { ⌜ Entries (now table) × (p < 4096) × (kindOf (now table) p ≡ 19) × (agreeing (now table) (now store) p (nodeIn s) ≡ true) × (0 < deep) ⌝ }
+    ensures { λ r. ⌜ Fitting (now (table .entry)) (now (store .entry)) deep p s (b .words) (r .got) (r .binds .words) ⌝ }
+{
+    let t = (s / 4294967296) as u32;
+    let mut u = (s % 4294967296) as u32;
+    let mut words = b.words;
+    let n = operands(table, p);
+    let mut i: u32 = 0;
+    while i < n {
+        let q = entry(table, p, 2 + i);
+        let c = word(store, t, 2 + i);
+        if u == 0 {
+            return Fitted {
+                got: no_units(),
+                binds: Bindings { words },
+            };
+        }
+        u -= 1;
+        if kind(table, q) == 18 {
+            let v = entry(table, q, 1);
+            if bit(words[33], v) == 1 {
+                let got = same(store, words[v as usize], c, u, deep - 1);
+                let Answer::Done(_, left) = told(got) else {
+                    return Fitted {
+                        got,
+                        binds: Bindings { words },
+                    };
+                };
+                u = left;
+            } else {
+                words[v as usize] = c;
+                words[33] = words[33] | (1 << v);
+            }
+        } else {
+            if !agree(table, store, q, c) {
+                return Fitted {
+                    got: failure(u),
+                    binds: Bindings { words },
+                };
+            }
+            if operands(table, q) != 0 {
+                if deep == 1 {
+                    return Fitted {
+                        got: stopped(u),
+                        binds: Bindings { words },
+                    };
+                }
+                let f = fits(table, store, q, done(c, u), Bindings { words }, deep - 1);
+                let got = f.got;
+                let Answer::Done(_, left) = told(got) else {
+                    return f;
+                };
+                u = left;
+                let filled = f.binds;
+                words = filled.words;
+            }
+        }
+        i += 1;
+    }
+    Fitted {
+        got: done(0, u),
+        binds: Bindings { words },
+    }
+}
+
+// The same in the run's record, for the children of a MATCH's own pattern. The last child goes round the loop: its children
+// are next, with a level of nesting less. A failure leaves the bindings made so far, which are of no account then.
+fn filled(table: &[u32; 32768], store: &[u32], st: &mut [u32; 34], p: u32, s: u64, deep: u32) -> u64
+    requires { ⌜ Entries (now table) × (p < 4096) × (kindOf (now table) p ≡ 19) × (agreeing (now table) (now store) p (nodeIn s) ≡ true) × (0 < deep) × (length (now st) ≡ 34) ⌝ }
+    ensures { λ r. ⌜ Fitting (now (table .entry)) (now (store .entry)) deep p s (now (st .entry)) r (now (st .exit)) ⌝ }
+{
+    let mut x = p;
+    let mut t = (s / 4294967296) as u32;
+    let mut u = (s % 4294967296) as u32;
+    let mut d = deep;
+    let mut n = operands(table, x);
+    let mut i: u32 = 0;
+    while i < n {
+        let q = entry(table, x, 2 + i);
+        let c = word(store, t, 2 + i);
+        if u == 0 {
+            return no_units();
+        }
+        u -= 1;
+        i += 1;
+        if kind(table, q) == 18 {
+            let v = entry(table, q, 1);
+            if bit(st[33], v) == 1 {
+                let words = store;
+                let got = same(words, st[v as usize], c, u, d - 1);
+                let Answer::Done(_, left) = told(got) else {
+                    return got;
+                };
+                u = left;
+            } else {
+                put_variable(st, v, c);
+            }
+        } else {
+            if !agree(table, store, q, c) {
+                return failure(u);
+            }
+            let m = operands(table, q);
+            if m != 0 {
+                if d == 1 {
+                    return stopped(u);
+                }
+                if i == n {
+                    x = q;
+                    t = c;
+                    d -= 1;
+                    n = m;
+                    i = 0;
+                } else {
+                    let words = store;
+                    let f = fits(table, words, q, done(c, u), Bindings { words: *st }, d - 1);
+                    let got = f.got;
+                    let Answer::Done(_, left) = told(got) else {
+                        return got;
+                    };
+                    u = left;
+                    let b = f.binds;
+                    let w = b.words;
+                    *st = w;
+                }
+            }
+        }
+    }
+    done(0, u)
+}
+
+// MATCH of the pattern p on a node: the root is looked at first.
+pub fn matching(
+    table: &[u32; 32768],
+    store: &[u32],
+    st: &mut [u32; 34],
+    p: u32,
+    s: u64,
+    deep: u32,
+) -> u64
+    requires { ⌜ Matchable (now table) (now store) (now st) p s × Pattern (now table) p ⌝ }
+    ensures { λ r. ⌜ Gives (visit (now (table .entry)) deep (met p (nodeIn s) (held (now (st .entry)))) (now (store .entry)) (markOf (now (st .entry))) (unitsIn s)) (now (st .entry)) r (now (st .exit)) (now (store .entry)) ⌝ }
+{
+    let left = (s % 4294967296) as u32;
+    if left == 0 {
+        return no_units();
+    }
+    if deep == 0 {
+        return no_nesting(left);
+    }
+    let t = (s / 4294967296) as u32;
+    if kind(table, p) == 18 {
+        let v = entry(table, p, 1);
+        if bit(st[33], v) == 1 {
+            let words = store;
+            let got = same(words, st[v as usize], t, left - 1, deep - 1);
+            let Answer::Done(_, u) = told(got) else {
+                return got;
+            };
+            return done(t, u);
+        }
+        let set = bind(Bindings { words: *st }, v, t);
+        let w = set.words;
+        *st = w;
+        return s - 1;
+    }
+    if !agree(table, store, p, t) {
+        return failure(left - 1);
+    }
+    if operands(table, p) == 0 {
+        return s - 1;
+    }
+    if deep == 1 {
+        return stopped(left - 1);
+    }
+    let words = store;
+    let got = filled(table, words, st, p, s - 1, deep - 1);
+    let Answer::Done(_, u) = told(got) else {
+        return got;
+    };
+    done(t, u)
+}

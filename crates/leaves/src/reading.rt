@@ -1,0 +1,65 @@
+// Reading the table, which a run holds in 32,768 words, and the store. A node's count is read as at most 6.
+use words::word;
+ghost use mathlib.Core.Path.{_≡_};
+ghost use Prim.Native.Nat.{_<_, _+_, min};
+ghost use mathlib.Core.Bool.{true, false};
+ghost use Rattle.words.specs.Words.{wordAt};
+ghost use Rattle.checks.specs.Good.{kindOf, operandCount};
+ghost use Rattle.leaves.specs.Visits.{countOf, rowAt, agreeing};
+
+// Word j of the entry e.
+pub fn entry(table: &[u32; 32768], e: u32, j: u32) -> u32
+    requires { ⌜ (e < 4096) × (j < 8) ⌝ }
+    ensures { λ r. ⌜ r ≡ wordAt (now (table .entry)) e j ⌝ }
+{
+    table[8 * (e as usize) + (j as usize)]
+}
+
+pub fn kind(table: &[u32; 32768], e: u32) -> u32
+    requires { ⌜ e < 4096 ⌝ }
+    ensures { λ r. ⌜ r ≡ kindOf (now (table .entry)) e ⌝ }
+{
+    entry(table, e, 0) / 16
+}
+
+pub fn operands(table: &[u32; 32768], e: u32) -> u32
+    requires { ⌜ e < 4096 ⌝ }
+    ensures { λ r. ⌜ r ≡ operandCount (now (table .entry)) e ⌝ }
+{
+    entry(table, e, 0) % 16
+}
+
+// The child count of node k, at most 6.
+pub fn count(store: &[u32], k: u32) -> u32
+    ensures { λ r. ⌜ r ≡ countOf (now (store .entry)) k ⌝ }
+{
+    let n = word(store, k, 1);
+    if n < 6 { n } else { 6 }
+}
+
+// The eight words of node k.
+pub fn row(store: &[u32], k: u32) -> [u32; 8]
+    ensures { λ r. ⌜ r ≡ rowAt (now (store .entry)) k ⌝ }
+{
+    [
+        word(store, k, 0),
+        word(store, k, 1),
+        word(store, k, 2),
+        word(store, k, 3),
+        word(store, k, 4),
+        word(store, k, 5),
+        word(store, k, 6),
+        word(store, k, 7),
+    ]
+}
+
+// Whether the constructor and the count of entry p are those of node k.
+pub fn agree(table: &[u32; 32768], store: &[u32], p: u32, k: u32) -> bool
+    requires { ⌜ p < 4096 ⌝ }
+    ensures { λ r. ⌜ r ≡ agreeing (now (table .entry)) (now (store .entry)) p k ⌝ }
+{
+    if entry(table, p, 1) != word(store, k, 0) {
+        return false;
+    }
+    operands(table, p) == count(store, k)
+}
