@@ -4,6 +4,47 @@ ghost use Prim.Native.Nat.{_≤_};
 ghost use Rattle.checks.specs.Kinds.{kind, lowest, highest, sortOf};
 ghost use Rattle.checks.specs.Kinds as table;
 
+// The kinds by document 01's names.
+pub const ID: u32 = 0;
+
+pub const FAIL: u32 = 1;
+
+pub const TEST: u32 = 2;
+
+pub const NOT: u32 = 3;
+
+pub const SEQ: u32 = 4;
+
+pub const CHOICE: u32 = 5;
+
+pub const LEFT: u32 = 6;
+
+pub const REC: u32 = 7;
+
+pub const CALL: u32 = 8;
+
+pub const PATH: u32 = 9;
+
+pub const CONG: u32 = 10;
+
+pub const ALL: u32 = 11;
+
+pub const ONE: u32 = 12;
+
+pub const SOME: u32 = 13;
+
+pub const MATCH: u32 = 14;
+
+pub const BUILD: u32 = 15;
+
+pub const SCOPE: u32 = 16;
+
+pub const WHERE: u32 = 17;
+
+pub const PVAR: u32 = 18;
+
+pub const PCON: u32 = 19;
+
 // What an entry may be used as. A kind above 19 has no sort.
 pub enum Sort {
     Strategy,
@@ -113,8 +154,8 @@ pub fn sort_of(k: u32) -> Sort
     ensures { λ r. ⌜ r ≡ sortOf k ⌝ }
 {
     match k {
-        0..=17 => Sort::Strategy,
-        18..=19 => Sort::Pattern,
+        ID..=WHERE => Sort::Strategy,
+        PVAR..=PCON => Sort::Pattern,
         _ => Sort::Neither,
     }
 }

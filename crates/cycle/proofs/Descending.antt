@@ -21,7 +21,7 @@ use Rattle.leaves.specs.declared.answers.Answer.the-variants.{Done, Failed}
 use Rattle.leaves.specs.declared.answers.Heard.{Heard}
 use Rattle.leaves.specs.declared.answers.Heard.the-variants.{Ended, Cut as Off}
 use Rattle.leaves.specs.Answers.{packed, nodeIn, unitsIn, failedWord, toldOf, heardOf}
-use Rattle.leaves.specs.Record.{markOf, held, back, Framed}
+use Rattle.leaves.specs.Record.{recordLong, markOf, held, back, Framed}
 use Rattle.leaves.specs.Visits.{visit, plan, ruled, out, countOf, rowAt, noded, Entries, Steady, Roomy, Gives}
 use Rattle.cycle.specs.Cycle.{Ready}
 use Rattle.leaves.proofs.Telling.{node-packed, units-packed, gave-failed, failed-few, heard-yes, heard-no, heard-off}
@@ -254,7 +254,7 @@ module _ {t w₀ st₀ : List ℕ} {e s : ℕ} (n : ℕ) (ready : Ready t w₀ s
         wide′ : length st′ ≡ length st₀
         wide′ = gives .frame .long ∙ turn .wide
 
-        long′ : length st′ ≡ 34
+        long′ : length st′ ≡ recordLong
         long′ = wide′ ∙ ready .long
 
         pub gives-one-off : {d : ℕ} → a ≡ Off d → Gave got st′ w′

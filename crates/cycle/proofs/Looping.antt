@@ -17,7 +17,7 @@ use Rattle.leaves.proofs.answers.Answer.{the-type}
 use Rattle.leaves.specs.declared.answers.Answer.{Answer}
 use Rattle.leaves.specs.declared.answers.Answer.the-variants.{Done, Failed, Cut}
 use Rattle.leaves.specs.Answers.{packed, nodeIn, unitsIn, unitsWord, nestingWord, failedWord, toldOf}
-use Rattle.leaves.specs.Record.{markOf, held, back, Framed}
+use Rattle.leaves.specs.Record.{recordLong, markOf, held, back, Framed}
 use Rattle.leaves.specs.Visits.{visit, ruled, out, countOf, Entries, Steady, Gives}
 use Rattle.cycle.specs.Cycle.{Ready, Last, Skips}
 use Rattle.leaves.proofs.Telling.{told-failed, out-failed, node-packed, units-packed, done-node, done-units, failed-few}
@@ -121,7 +121,7 @@ module _ {t w₀ st₀ : List ℕ} {start given deep : ℕ} {w st : List ℕ} {e
     leaves : Leaves w (markOf st) (visit t (d - 1) (apply x (nodeIn (s - 1)) (held st)) w (markOf st) (unitsIn (s - 1)))
     leaves = apply-leaves (turn .ready .steady) t (turn .ready .entries) (d - 1) x (nodeIn (s - 1)) (unitsIn (s - 1)) inside
 
-    long′ : length st′ ≡ 34
+    long′ : length st′ ≡ recordLong
     long′ = gives .frame .long ∙ turn .ready .long
 
     pub seq-returns : {y : ℕ} → y ≡ wordAt t e 3 → kindOf t e ≡ 4 → Tagged a 1 2 → Whole

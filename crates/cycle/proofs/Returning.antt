@@ -13,7 +13,7 @@ use Rattle.leaves.specs.declared.answers.Answer.the-variants.{Done, Failed, Cut
 use Rattle.leaves.specs.declared.answers.Heard.{Heard}
 use Rattle.leaves.specs.declared.answers.Heard.the-variants.{Ended, Cut as Off}
 use Rattle.leaves.specs.Answers.{packed, nodeIn, unitsIn, failedWord, toldOf, heardOf}
-use Rattle.leaves.specs.Record.{markOf, held, back, Framed}
+use Rattle.leaves.specs.Record.{recordLong, markOf, held, back, Framed}
 use Rattle.meaning.specs.Limits.{lost}
 use Rattle.meaning.specs.Store.{Ran}
 use native.Mathlib.Omega.{arith}
@@ -37,7 +37,7 @@ module _ {t w st : List ℕ} {e s x got : ℕ} {st′ w′ : List ℕ} (n : ℕ)
   small : nodeIn s < 131072
   small = node-small (ready .steady) (nodeIn s) (ready .subject)
 
-  long : length st′ ≡ 34
+  long : length st′ ≡ recordLong
   long = gives .frame .long ∙ ready .long
 
   module _ {a : Answer} (told : a ≡ toldOf got) (h : kindOf t e ≡ 17) where

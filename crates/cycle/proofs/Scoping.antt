@@ -18,7 +18,7 @@ use Rattle.meaning.specs.Rules.{Visit, apply}
 use Rattle.leaves.specs.declared.answers.Answer.{Answer}
 use Rattle.leaves.specs.declared.answers.Answer.the-variants.{Done, Failed, Cut}
 use Rattle.leaves.specs.Answers.{nodeIn, unitsIn, toldOf}
-use Rattle.leaves.specs.Record.{markOf, maskOf, held, without}
+use Rattle.leaves.specs.Record.{masking, recordLong, markOf, maskOf, held, without}
 use Rattle.leaves.specs.Visits.{visit, plan, ruled, meaning, out, Steady, Gives}
 use Rattle.cycle.specs.Cycle.{Ready}
 use Rattle.leaves.proofs.Telling.{out-told}
@@ -61,12 +61,12 @@ module _ {t w st : List ℕ} {e s x i : ℕ} (n : ℕ) (ready : Ready t w st e s
 
   -- nothing masked is bound
   module _ {got : ℕ} {st′ w′ : List ℕ} (gives : Gives (visit t n (apply x (nodeIn s) (held st)) w (markOf st) (unitsIn s)) st got st′ w′) where
-    long′ : length st′ ≡ 34
+    long′ : length st′ ≡ recordLong
     long′ = gives .frame .long ∙ ready .long
 
-    pub gives-scope : {y : ℕ} → kindOf t e ≡ 16 → bitAnd (maskOf st) i ≡ 0 → y ≡ without (maskOf st′) i → Returns got (set st′ 33 y) w′
+    pub gives-scope : {y : ℕ} → kindOf t e ≡ 16 → bitAnd (maskOf st) i ≡ 0 → y ≡ without (maskOf st′) i → Returns got (masking st′ y) w′
     gives-scope h apart ye =
-        subst (λ y. Returns got (set st′ 33 y) w′) (sym ye) (
+        subst (λ y. Returns got (masking st′ y) w′) (sym ye) (
         record {
           is = rebound t n inner w (markOf st) (unitsIn s) got st′ w′ (gives .is ∙ ap (λ b. visit t n (apply x (nodeIn s) b) w (markOf st) (unitsIn s)) (held-apart st i apart)) (hidden st′ i) (masked i (held st)) (held-unscope st i apart st′ long′ small) (mark-hidden st′ i long′ small)
               ∙ sym (ruled-scope t n e (nodeIn s) (held st) w (markOf st) (unitsIn s) x xe i ie h);
@@ -75,9 +75,9 @@ module _ {t w st : List ℕ} {e s x i : ℕ} (n : ℕ) (ready : Ready t w st e s
         )
 
   -- some masked variable is bound, and they are hidden
-  pub ready-hiding : {z : ℕ} → z ≡ without (maskOf st) i → Ready t w (set st 33 z) x s
+  pub ready-hiding : {z : ℕ} → z ≡ without (maskOf st) i → Ready t w (masking st z) x s
   ready-hiding ze =
-      subst (λ z. Ready t w (set st 33 z) x s) (sym ze) (
+      subst (λ z. Ready t w (masking st z) x s) (sym ze) (
       record {
         entries = ready .entries;
         hints = ready .hints;
@@ -89,7 +89,7 @@ module _ {t w st : List ℕ} {e s x i : ℕ} (n : ℕ) (ready : Ready t w st e s
       )
 
   module _ {got : ℕ} {st′ w′ : List ℕ} (gives : Gives (visit t n (apply x (nodeIn s) (held (hidden st i))) w (markOf (hidden st i)) (unitsIn s)) (hidden st i) got st′ w′) where
-    long″ : length st′ ≡ 34
+    long″ : length st′ ≡ recordLong
     long″ = gives .frame .long ∙ length-hidden st i (ready .long) small
 
     gives-shown : kindOf t e ≡ 16 → Returns got (shown st i st′) w′
@@ -99,11 +99,11 @@ module _ {t w st : List ℕ} {e s x i : ℕ} (n : ℕ) (ready : Ready t w st e s
       frame = framed-shown st i st′ long″ small (ready .long) (gives .frame);
     }
 
-  pub gives-hiding : {z got y : ℕ} {st′ w′ p : List ℕ} → z ≡ without (maskOf st) i → Gives (visit t n (apply x (nodeIn s) (held (set st 33 z))) w (markOf (set st 33 z)) (unitsIn s)) (set st 33 z) got st′ w′
-      → kindOf t e ≡ 16 → p ≡ restored st i st′ → y ≡ without (maskOf p) i → Returns got (set p 33 (bitOr y (bitAnd (maskOf st) i))) w′
+  pub gives-hiding : {z got y : ℕ} {st′ w′ p : List ℕ} → z ≡ without (maskOf st) i → Gives (visit t n (apply x (nodeIn s) (held (masking st z))) w (markOf (masking st z)) (unitsIn s)) (masking st z) got st′ w′
+      → kindOf t e ≡ 16 → p ≡ restored st i st′ → y ≡ without (maskOf p) i → Returns got (masking p (bitOr y (bitAnd (maskOf st) i))) w′
   gives-hiding {got = got} {st′ = st′} {w′ = w′} {p = p} ze gives h pe ye =
-      subst (λ y. Returns got (set p 33 (bitOr y (bitAnd (maskOf st) i))) w′) (sym ye) (
-      subst (λ p. Returns got (set p 33 (bitOr (without (maskOf p) i) (bitAnd (maskOf st) i))) w′) (sym pe) (
-      gives-shown (subst (λ z. Gives (visit t n (apply x (nodeIn s) (held (set st 33 z))) w (markOf (set st 33 z)) (unitsIn s)) (set st 33 z) got st′ w′) ze gives) h
+      subst (λ y. Returns got (masking p (bitOr y (bitAnd (maskOf st) i))) w′) (sym ye) (
+      subst (λ p. Returns got (masking p (bitOr (without (maskOf p) i) (bitAnd (maskOf st) i))) w′) (sym pe) (
+      gives-shown (subst (λ z. Gives (visit t n (apply x (nodeIn s) (held (masking st z))) w (markOf (masking st z)) (unitsIn s)) (masking st z) got st′ w′) ze gives) h
       )
       )

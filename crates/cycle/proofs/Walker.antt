@@ -25,7 +25,7 @@ use Rattle.leaves.specs.declared.answers.Answer.the-variants.{Done, Failed, Cut
 use Rattle.leaves.specs.declared.answers.Heard.{Heard}
 use Rattle.leaves.specs.declared.answers.Heard.the-variants.{Ended, Cut as Off}
 use Rattle.leaves.specs.Answers.{packed, nodeIn, unitsIn, unitsWord, toldOf, heardOf}
-use Rattle.leaves.specs.Record.{markOf, held, back, Framed}
+use Rattle.leaves.specs.Record.{marking, maskOf, masking, recordLong, markOf, held, back, Framed}
 use Rattle.leaves.specs.Visits.{out, visit, plan, countOf, noded, Steady, Roomy, Gives}
 use Rattle.cycle.specs.Cycle.{Counted, operandFor, visits, walked, finished, landed, Leads, Leaps, Ready}
 use Rattle.leaves.proofs.Telling.{node-packed, units-packed, done-units, failed-few, heard-yes, heard-no, heard-off, out-units}
@@ -156,8 +156,8 @@ four (a ∷ b ∷ c ∷ d ∷ []) h = refl
 four (a ∷ b ∷ c ∷ d ∷ e ∷ l) h = absurd (omega arith)
 
 -- what SOME saved is put back
-pub saving : (κ mark mask : ℕ) (st st′ : List ℕ) → mark ≡ (if eqb κ 13 then getD st 32 0 else 0) → mask ≡ (if eqb κ 13 then getD st 33 0 else 0) → κ ≡ 13
-    → set (set st′ 32 mark) 33 mask ≡ back st st′
+pub saving : (κ mark mask : ℕ) (st st′ : List ℕ) → mark ≡ (if eqb κ 13 then markOf st else 0) → mask ≡ (if eqb κ 13 then maskOf st else 0) → κ ≡ 13
+    → masking (marking st′ mark) mask ≡ back st st′
 saving κ mark mask st st′ p q k = rw (p, q, k)
 
 pub four-still : {more′ : List ℕ} (more : List ℕ) (i y : ℕ) → length more ≡ 4 → more′ ≡ (if ltb i 2 then more else set more (i - 2) y) → length more′ ≡ 4
@@ -248,7 +248,7 @@ module _ {t w₀ st₀ : List ℕ} {e s deep : ℕ} {w st : List ℕ} {u won : �
     framed′ : Framed st₀ st′
     framed′ = framed-trans st₀ st st′ (g .frame) (gives .frame)
 
-    long′ : length st′ ≡ 34
+    long′ : length st′ ≡ recordLong
     long′ = gives .frame .long ∙ g .wide ∙ ready .long
 
     -- a cut-off, and a failure that nothing catches
@@ -298,8 +298,8 @@ module _ {t w₀ st₀ : List ℕ} {e s deep : ℕ} {w st : List ℕ} {u won : �
           })
 
       -- SOME keeps child i, which failed
-      pub going-no : {k r mark mask : ℕ} {st″ made″ : List ℕ} → b ≡ false → k ≡ kindOf t e → k ≡ 13 → mark ≡ (if eqb k 13 then getD st 32 0 else 0) → mask ≡ (if eqb k 13 then getD st 33 0 else 0)
-          → st″ ≡ set (set st′ 32 mark) 33 mask → r ≡ won → made″ ≡ set made (2 + i) c → Going t w₀ st₀ e s deep w′ st″ v r made″ (i + 1)
+      pub going-no : {k r mark mask : ℕ} {st″ made″ : List ℕ} → b ≡ false → k ≡ kindOf t e → k ≡ 13 → mark ≡ (if eqb k 13 then markOf st else 0) → mask ≡ (if eqb k 13 then maskOf st else 0)
+          → st″ ≡ masking (marking st′ mark) mask → r ≡ won → made″ ≡ set made (2 + i) c → Going t w₀ st₀ e s deep w′ st″ v r made″ (i + 1)
       going-no {k} {r} {mark} {mask} {st″} {made″} z ke k13 p q saved re me =
           let se : st″ ≡ back st st′ = saved ∙ saving k mark mask st st′ p q k13 in
           let f = failed-as z in
@@ -374,7 +374,7 @@ module _ {t w₀ st₀ : List ℕ} {e s deep : ℕ} {w st : List ℕ} {u won : �
   pub going-small : nodeIn s < 131072
   going-small = node-small (ready .steady) (nodeIn s) (ready .subject)
 
-  pub going-long : length st ≡ 34
+  pub going-long : length st ≡ recordLong
   going-long = g .wide ∙ ready .long
 
   all : length (g .done) ≡ countOf w₀ (nodeIn s)

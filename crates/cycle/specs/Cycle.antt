@@ -15,7 +15,7 @@ use Rattle.meaning.specs.Rules.{Visit, apply, Do, does, walk, someOf, again, zi
 use Rattle.meaning.specs.Limits.{units, nesting, ended, lost, cut}
 use Rattle.meaning.specs.Store.{on, Ran, children}
 use Rattle.leaves.specs.Answers.{nodeIn, unitsIn}
-use Rattle.leaves.specs.Record.{markOf, held}
+use Rattle.leaves.specs.Record.{recordLong, markOf, held}
 use Rattle.leaves.specs.Visits.{countOf, agreeing, visit, ruled, Entries, Steady, Gives, noded}
 
 -- a kind with no operand in a last position: neither SEQ, CHOICE, LEFT, REC nor CALL
@@ -48,7 +48,7 @@ pub record Hinted (t : List ℕ) : Type 0 where
 pub record Ready (t w st : List ℕ) (e g : ℕ) : Type 0 where
   pub entries : Entries t
   pub hints : Hinted t
-  pub long : length st ≡ 34
+  pub long : length st ≡ recordLong
   pub inside : e < 4096
   pub steady : Steady w (markOf st) (held st)
   pub subject : nodeIn g < markOf st

@@ -1,5 +1,8 @@
 // A strategy that is bound to fail at its head, found by a look at the node. What begins a rewrite rule is a MATCH, which
 // fails where constructor or count differ. Its visits are counted without being made.
+use leaves::answers::HALF;
+use leaves::reading::HINT_ENTRY;
+use leaves::reading::HINT_VISITS;
 use leaves::reading::agree;
 use leaves::reading::entry;
 ghost use mathlib.Core.Path.{_≡_};
@@ -16,14 +19,14 @@ pub(crate) fn skipped(table: &[u32; 32768], store: &[u32], e: u32, s: u64, d: u3
     requires { ⌜ Hinted (now table) × (e < 4096) × (wordAt (now table) e 4 < 4096) × ((kindOf (now table) e ≡ 5) ⊎ (kindOf (now table) e ≡ 6)) ⌝ }
     ensures { λ r. ⌜ Skips (now (table .entry)) (now (store .entry)) (wordAt (now (table .entry)) e 2) (nodeIn s) (min d (unitsIn s)) r ⌝ }
 {
-    let n = entry(table, e, 5);
+    let n = entry(table, e, HINT_VISITS);
     if n == 0 {
         return 0;
     }
-    if agree(table, store, entry(table, e, 4), (s / 4294967296) as u32) {
+    if agree(table, store, entry(table, e, HINT_ENTRY), (s / HALF) as u32) {
         return 0;
     }
-    if s % 4294967296 < 4 {
+    if s % HALF < 4 {
         return 0;
     }
     if d < 4 {

@@ -1,7 +1,25 @@
 // The cycle of visits. Applying an entry selects the rule by its kind; operands in a last position go round a loop; one
 // child walker serves ALL, SOME and CONG. The nesting left falls at each call.
 use crate::skipping::skipped;
+use checks::kinds::ALL;
+use checks::kinds::BUILD;
+use checks::kinds::CALL;
+use checks::kinds::CHOICE;
+use checks::kinds::CONG;
+use checks::kinds::ID;
+use checks::kinds::LEFT;
+use checks::kinds::MATCH;
+use checks::kinds::NOT;
+use checks::kinds::ONE;
+use checks::kinds::PATH;
+use checks::kinds::REC;
+use checks::kinds::SCOPE;
+use checks::kinds::SEQ;
+use checks::kinds::SOME;
+use checks::kinds::TEST;
+use checks::kinds::WHERE;
 use leaves::answers::Answer;
+use leaves::answers::HALF;
 use leaves::answers::Heard;
 use leaves::answers::done;
 use leaves::answers::failure;
@@ -12,13 +30,19 @@ use leaves::answers::told;
 use leaves::builder::build;
 use leaves::builder::node;
 use leaves::matcher::matching;
+use leaves::reading::HINT_ENTRY;
+use leaves::reading::HINT_VISITS;
 use leaves::reading::agree;
 use leaves::reading::count;
 use leaves::reading::entry;
 use leaves::reading::kind;
 use leaves::reading::row;
+use leaves::record::MARK;
+use leaves::record::MASK;
+use leaves::record::RECORD;
 use leaves::record::hide;
 use leaves::record::put_back;
+use leaves::record::restore;
 use words::word;
 ghost use mathlib.Core.Path.{_≡_};
 ghost use mathlib.Core.Logic.{_⊎_};
@@ -29,57 +53,16 @@ ghost use lib.Dec.{eqb, ltb};
 ghost use lib.ListN.{length, getD, set};
 ghost use Rattle.checks.specs.Good.{kindOf};
 ghost use Rattle.leaves.specs.Answers.{nodeIn, unitsIn};
-ghost use Rattle.leaves.specs.Record.{markOf, held};
+ghost use Rattle.leaves.specs.Record.{markOf, held, recordLong};
 ghost use Rattle.leaves.specs.Visits.{plan, Roomy, Gives};
 ghost use Rattle.cycle.specs.Cycle.{walked, Applied, Follows, landed, finished, Counted, Hinted, Leaps, Ready, Last};
-
-// The kinds that have a rule here.
-const ID: u32 = 0;
-
-const TEST: u32 = 2;
-
-const NOT: u32 = 3;
-
-const SEQ: u32 = 4;
-
-const CHOICE: u32 = 5;
-
-const LEFT: u32 = 6;
-
-const REC: u32 = 7;
-
-const CALL: u32 = 8;
-
-const PATH: u32 = 9;
-
-const CONG: u32 = 10;
-
-const ALL: u32 = 11;
-
-const ONE: u32 = 12;
-
-const SOME: u32 = 13;
-
-const MATCH: u32 = 14;
-
-const BUILD: u32 = 15;
-
-const SCOPE: u32 = 16;
-
-const WHERE: u32 = 17;
-// Where the record has the mark and the mask of the bound variables; a node stands in the upper half of a word.
-const MARK: usize = 32;
-
-const MASK: usize = 33;
-
-const HALF: u64 = 1 << 32;
 
 // One visit: an entry applied as a strategy. Units first, then nesting; then it is counted. ALL, of which traversals are made,
 // is looked at here: a term without children is given back at once.
 pub fn apply(
     table: &[u32; 32768],
     store: &mut [u32],
-    st: &mut [u32; 34],
+    st: &mut [u32; RECORD],
     start: u32,
     given: u64,
     deep: u32,
@@ -107,7 +90,7 @@ pub fn apply(
 fn turns(
     table: &[u32; 32768],
     store: &mut [u32],
-    st: &mut [u32; 34],
+    st: &mut [u32; RECORD],
     start: u32,
     given: u64,
     deep: u32,
@@ -156,8 +139,7 @@ fn turns(
                 let Answer::Failed(u) = told(got) else {
                     return got;
                 };
-                st[MARK] = mark;
-                st[MASK] = mask;
+                restore(st, mark, mask);
                 s = done((s / HALF) as u32, u);
                 e = entry(table, e, 3);
             }
@@ -169,7 +151,14 @@ fn turns(
 }
 
 // The rule of a kind with no operand in a last position.
-fn rule(table: &[u32; 32768], store: &mut [u32], st: &mut [u32; 34], e: u32, s: u64, d: u32) -> u64
+fn rule(
+    table: &[u32; 32768],
+    store: &mut [u32],
+    st: &mut [u32; RECORD],
+    e: u32,
+    s: u64,
+    d: u32,
+) -> u64
     requires { ⌜ Ready (now table) (now store) (now st) e s × Last (kindOf (now table) e) ⌝ }
     ensures { λ r. ⌜ Follows (now (table .entry)) (now (store .entry)) (now (st .entry)) e s d r (now (st .exit)) (now (store .exit)) ⌝ }
 {
@@ -194,7 +183,7 @@ fn rule(table: &[u32; 32768], store: &mut [u32], st: &mut [u32; 34], e: u32, s: 
 fn guard(
     table: &[u32; 32768],
     store: &mut [u32],
-    st: &mut [u32; 34],
+    st: &mut [u32; RECORD],
     e: u32,
     s: u64,
     deep: u32,
@@ -208,8 +197,7 @@ fn guard(
     let Heard::Ended(yes, _, u) = hear(got) else {
         return got;
     };
-    st[MARK] = mark;
-    st[MASK] = mask;
+    restore(st, mark, mask);
     if kind(table, e) == TEST {
         if yes {
             return done((s / HALF) as u32, u);
@@ -226,7 +214,7 @@ fn guard(
 fn aside(
     table: &[u32; 32768],
     store: &mut [u32],
-    st: &mut [u32; 34],
+    st: &mut [u32; RECORD],
     e: u32,
     s: u64,
     deep: u32,
@@ -245,7 +233,7 @@ fn aside(
 fn path(
     table: &[u32; 32768],
     store: &mut [u32],
-    st: &mut [u32; 34],
+    st: &mut [u32; RECORD],
     e: u32,
     s: u64,
     deep: u32,
@@ -282,7 +270,7 @@ fn path(
 fn cong(
     table: &[u32; 32768],
     store: &mut [u32],
-    st: &mut [u32; 34],
+    st: &mut [u32; RECORD],
     e: u32,
     s: u64,
     deep: u32,
@@ -301,7 +289,7 @@ fn cong(
 fn walk(
     table: &[u32; 32768],
     store: &mut [u32],
-    st: &mut [u32; 34],
+    st: &mut [u32; RECORD],
     e: u32,
     s: u64,
     deep: u32,
@@ -347,8 +335,7 @@ fn walk(
             if kind != SOME {
                 return got;
             }
-            st[MARK] = mark;
-            st[MASK] = mask;
+            restore(st, mark, mask);
         }
         a = at(i, 0, y, a);
         b = at(i, 1, y, b);
@@ -379,8 +366,8 @@ fn leap(table: &[u32; 32768], e: u32, deep: u32) -> u32
     }
     let kind = kind(table, e);
     match kind {
-        ALL => entry(table, e, 5),
-        SOME => entry(table, e, 5),
+        ALL => entry(table, e, HINT_VISITS),
+        SOME => entry(table, e, HINT_VISITS),
         _ => 0,
     }
 }
@@ -393,7 +380,7 @@ fn landing(table: &[u32; 32768], e: u32, ahead: u32) -> u32
     if ahead == 0 {
         return entry(table, e, 2);
     }
-    entry(table, e, 4)
+    entry(table, e, HINT_ENTRY)
 }
 
 // The operand for child i: its own in CONG, else the one.
@@ -408,8 +395,8 @@ fn operand(table: &[u32; 32768], e: u32, kind: u32, first: u32, i: u32) -> u32
 }
 
 // The record's word j, for SOME, which may put it back.
-fn saved(st: &[u32; 34], kind: u32, j: usize) -> u32
-    requires { ⌜ j < 34 ⌝ }
+fn saved(st: &[u32; RECORD], kind: u32, j: usize) -> u32
+    requires { ⌜ j < recordLong ⌝ }
     ensures { λ r. ⌜ r ≡ (if eqb kind 13 then getD (now (st .entry)) j 0 else 0) ⌝ }
 {
     if kind == SOME {
@@ -444,7 +431,7 @@ fn beyond(more: [u32; 4], i: u32, x: u32) -> [u32; 4]
 // The walk's end: SOME needs a success; a term without children is returned itself.
 fn finish(
     store: &mut [u32],
-    st: &mut [u32; 34],
+    st: &mut [u32; RECORD],
     kind: u32,
     won: u32,
     n: u32,
@@ -452,7 +439,7 @@ fn finish(
     made: [u32; 8],
     left: u32,
 ) -> u64
-    requires { ⌜ Roomy (now store) (markOf (now st)) × (length (now st) ≡ 34) × (nodeIn s < 131072) ⌝ }
+    requires { ⌜ Roomy (now store) (markOf (now st)) × (length (now st) ≡ recordLong) × (nodeIn s < 131072) ⌝ }
     ensures { λ r. ⌜ Gives (finished kind won n s made (now (st .entry)) (now (store .entry)) left) (now (st .entry)) r (now (st .exit)) (now (store .exit)) ⌝ }
 {
     if kind == SOME {
@@ -471,7 +458,7 @@ fn finish(
 fn one(
     table: &[u32; 32768],
     store: &mut [u32],
-    st: &mut [u32; 34],
+    st: &mut [u32; RECORD],
     e: u32,
     s: u64,
     deep: u32,
@@ -496,8 +483,7 @@ fn one(
             made[2 + (i as usize)] = x;
             return node(store, st, made, left);
         }
-        st[MARK] = mark;
-        st[MASK] = mask;
+        restore(st, mark, mask);
         u = left;
         i += 1;
     }
@@ -508,7 +494,7 @@ fn one(
 fn scope(
     table: &[u32; 32768],
     store: &mut [u32],
-    st: &mut [u32; 34],
+    st: &mut [u32; RECORD],
     e: u32,
     s: u64,
     deep: u32,
@@ -529,7 +515,7 @@ fn scope(
 fn hiding(
     table: &[u32; 32768],
     store: &mut [u32],
-    st: &mut [u32; 34],
+    st: &mut [u32; RECORD],
     e: u32,
     s: u64,
     deep: u32,
@@ -542,7 +528,7 @@ fn hiding(
     let outer = *st;
     st[MASK] = hide(st[MASK], mask);
     let got = apply(table, store, st, entry(table, e, 2), s, deep);
-    put_back(st, outer, hidden);
+    put_back(st, &outer, hidden);
     st[MASK] = hide(st[MASK], mask) | hidden;
     got
 }

@@ -12,6 +12,8 @@ ghost use Rattle.free.specs.Passes.{joinedOperands, ruled, grown, grows,
 ghost use Rattle.free.specs.Promises.{GoodTable, StrategyOf};
 use checks::entries::kind_of;
 use checks::entries::operand_count;
+use checks::kinds::PVAR;
+use checks::kinds::SCOPE;
 use checks::rows::held;
 use words::word;
 
@@ -44,8 +46,8 @@ fn rule(table: &[u32], masks: &[u32], e: u32) -> u32
     ensures { λ r. ⌜ r ≡ ruled (now (table .entry)) (now (masks .entry)) e ⌝ }
 {
     match kind_of(table, e) {
-        16 => joined(table, masks, e) & (4294967295 - word(table, e, 1)),
-        18 => 1 << word(table, e, 1),
+        SCOPE => joined(table, masks, e) & (4294967295 - word(table, e, 1)),
+        PVAR => 1 << word(table, e, 1),
         _ => joined(table, masks, e),
     }
 }

@@ -6,6 +6,7 @@ use Prim.Native.Nat.{ℕ, _+_, _-_, _*_, _≤_, _<_}
 use native.Mathlib.Omega.{arith}
 use lib.ListN.{length, getD, set, drop}
 use borrow.Author.Tests.{le-leb, lt-leb}
+use Rattle.checks.specs.Kinds.{variables}
 use Rattle.words.specs.Words.{wordAt, rows, putRow}
 use Rattle.checks.specs.Good.{kindOf, operandCount, argumentOf}
 use Rattle.meaning.specs.Bindings.{Bindings}
@@ -17,13 +18,13 @@ use Rattle.meaning.specs.Store.{on, row, Ran}
 use Rattle.leaves.specs.declared.answers.Answer.{Answer}
 use Rattle.leaves.specs.declared.answers.Answer.the-variants.{Done}
 use Rattle.leaves.specs.Answers.{toldOf, packed, failedWord, roomWord}
-use Rattle.leaves.specs.Record.{markOf, maskOf, bitOf, held, Framed}
+use Rattle.leaves.specs.Record.{marking, recordLong, wordOf, markOf, maskOf, bitOf, held, Framed}
 use Rattle.leaves.specs.Visits.{visit, plan, out, noded, Entries, Steady, Roomy, Gives}
 use Rattle.leaves.proofs.Telling.{out-done, out-failed, out-room}
 use Rattle.leaves.proofs.Asking.{Tagged}
 use Rattle.leaves.proofs.Kind.{counted, pattern-variable, pattern-con}
 use Rattle.leaves.proofs.Keeping.{build-leaves, steady-after, node-small, leaves-done}
-use Rattle.leaves.proofs.Holding.{framed-refl, framed-trans, framed-mark, held-mark, mark-mark, held-some, held-none}
+use Rattle.leaves.proofs.Holding.{framed-refl, framed-trans, framed-mark, held-mark, mark-marking, held-some, held-none}
 use Rattle.leaves.proofs.Children.{part-next, part-end, filled, filled-next, filled-row, one-more}
 use Rattle.leaves.proofs.Walking.{walk-end, walk-on, walk-stop, returned, failing}
 
@@ -36,15 +37,15 @@ module _ (made st w : List ℕ) (u r : ℕ) (s : Roomy w (markOf st)) (l : u < 4
       let f : rows w ≤ markOf st = omega (arith, s .nodes) in
       record { is = ap (λ r. out r st w) e ∙ out-room st w u l ∙ rw (le-leb (rows w) (markOf st) f); frame = framed-refl st }
 
-  pub node-made : length st ≡ 34 → 8 * markOf st + 8 ≤ length w → r ≡ packed (markOf st) u → Gives (noded made st w u) st r (set st 32 (markOf st + 1)) (putRow w (markOf st) made)
+  pub node-made : length st ≡ recordLong → 8 * markOf st + 8 ≤ length w → r ≡ packed (markOf st) u → Gives (noded made st w u) st r (marking st (markOf st + 1)) (putRow w (markOf st) made)
   unfolding noded roomFor
   node-made long h e =
       let f : markOf st < rows w = omega arith in
       record {
         is =
-            ap (λ r. out r (set st 32 (markOf st + 1)) (putRow w (markOf st) made)) e
-            ∙ out-done (set st 32 (markOf st + 1)) (putRow w (markOf st) made) (markOf st) u (omega (arith, s .small)) l
-            ∙ rw (lt-leb (rows w) (markOf st) f, held-mark st (markOf st + 1), mark-mark st (markOf st + 1) long);
+            ap (λ r. out r (marking st (markOf st + 1)) (putRow w (markOf st) made)) e
+            ∙ out-done (marking st (markOf st + 1)) (putRow w (markOf st) made) (markOf st) u (omega (arith, s .small)) l
+            ∙ rw (lt-leb (rows w) (markOf st) f, held-mark st (markOf st + 1), mark-marking st (markOf st + 1) long);
         frame = framed-mark st (markOf st + 1);
       }
 
@@ -78,15 +79,15 @@ module _ (t : List ℕ) (n p : ℕ) (w st : List ℕ) (u : ℕ) (h : u ≡ 0 →
     unfolding building
     at-variable = opened k ∙ rw (pattern-variable t p kind, ve)
 
-    pub variable-built : Steady w (markOf st) (held st) → v < 32 → bitOf (maskOf st) v ≡ 1 → r ≡ packed (getD st v 0) (u - 1) → Gives (visit t n (build p k (held st)) w (markOf st) u) st r st w
+    pub variable-built : Steady w (markOf st) (held st) → v < variables → bitOf (maskOf st) v ≡ 1 → {y : ℕ} → y ≡ wordOf st v → r ≡ packed y (u - 1) → Gives (visit t n (build p k (held st)) w (markOf st) u) st r st w
     unfolding given
-    variable-built s small b e =
-        let j : held st v ≡ some (getD st v 0) = held-some st v small b in
-        let x : getD st v 0 < 131072 = node-small s _ (s .bound v _ j) in
+    variable-built s small b ye e =
+        let j : held st v ≡ some (wordOf st v) = held-some st v small b in
+        let x : wordOf st v < 131072 = node-small s _ (s .bound v _ j) in
         record {
           is =
-              ap (λ r. out r st w) e ∙ out-done st w (getD st v 0) (u - 1) (omega arith) (omega arith)
-              ∙ sym (at-variable ∙ rw j (returned t (n - 1) w (markOf st) (u - 1) (getD st v 0) (held st)));
+              ap (λ r. out r st w) (e ∙ ap (λ y. packed y (u - 1)) ye) ∙ out-done st w (wordOf st v) (u - 1) (omega arith) (omega arith)
+              ∙ sym (at-variable ∙ rw j (returned t (n - 1) w (markOf st) (u - 1) (wordOf st v) (held st)));
           frame = framed-refl st;
         }
 

@@ -9,6 +9,7 @@ use native.Mathlib.Omega.{arith}
 use lib.Dec.{eqb}
 use borrow.Author.Tests.{eqb-true, eqb-false}
 use lib.ListN.{length, getD, drop}
+use Rattle.checks.specs.Kinds.{variables}
 use Rattle.words.specs.Words.{wordAt}
 use Rattle.checks.specs.Good.{kindOf, operandCount, argumentOf}
 use Rattle.meaning.specs.Bindings.{Bindings, bind}
@@ -20,7 +21,7 @@ use Rattle.meaning.specs.Store.{on, Ran, children}
 use Rattle.leaves.specs.declared.answers.Answer.{Answer}
 use Rattle.leaves.specs.declared.answers.Answer.the-variants.{Done, Failed, Cut}
 use Rattle.leaves.specs.Answers.{toldOf, packed, nodeIn, unitsIn, failedWord, unitsWord, nestingWord, stoppedWord}
-use Rattle.leaves.specs.Record.{markOf, maskOf, bitOf, held, bound, Framed}
+use Rattle.leaves.specs.Record.{recordLong, wordOf, markOf, maskOf, bitOf, held, bound, Framed}
 use Rattle.leaves.specs.Visits.{countOf, agreeing, visit, plan, meaning, out, giving, kept, Pattern, Entries, Matchable, Gives, Fitting}
 use Rattle.leaves.proofs.Telling.{stopped-units, stopped-nesting, told-stopped, out-done, out-failed, out-told, kept-done, kept-failed, kept-units, kept-nesting, kept-told, node-packed, units-packed, packed-again, done-node}
 use Rattle.leaves.proofs.Asking.{Tagged, last}
@@ -128,7 +129,7 @@ module _ {t w : List ℕ} {n p g : ℕ} {b st : List ℕ} {u i q x : ℕ} (c : T
   pub operand-is : (q < 4096) × Pattern t q
   operand-is = operand-pattern t (c .entries) p i q (c .inside) (c .kind) (c .below) (c .operand)
 
-  pub variable-small : {v : ℕ} → kindOf t q ≡ 18 → v ≡ argumentOf t q → v < 32
+  pub variable-small : {v : ℕ} → kindOf t q ≡ 18 → v ≡ argumentOf t q → v < variables
   variable-small k e = omega (arith, c .entries .variable q (operand-is .0) k, e)
 
   pub constructor-is : {k : ℕ} → k ≡ kindOf t q → (k ≡ 18 → ⊥) → kindOf t q ≡ 19
@@ -209,19 +210,19 @@ module _ {t w : List ℕ} {n p g : ℕ} {b st : List ℕ} {u i q x : ℕ} (c : T
 
     -- a variable
     module _ {v : ℕ} (kind : kindOf t q ≡ 18) (ve : v ≡ argumentOf t q) where
-      pub free-matched : {st′ : List ℕ} → length st ≡ 34 → (bitOf (maskOf st) v ≡ 1 → ⊥) → st′ ≡ bound st v x → Matched t w n p g b st′ (u - 1) (i + 1)
+      pub free-matched : {st′ : List ℕ} → length st ≡ recordLong → (bitOf (maskOf st) v ≡ 1 → ⊥) → st′ ≡ bound st v x → Matched t w n p g b st′ (u - 1) (i + 1)
       free-matched long e s =
-          let l : v < 32 = variable-small kind ve in
+          let l : v < variables = variable-small kind ve in
           rw s (ended-by (bound st v x) (u - 1) (framed-bound st v x l long e) (mark-bound st v x l)
           (λ m. variable-free t n q x (held st) w m u z d v kind ve (held-none st v e) ∙ rw (held-bound st v x l long)))
 
       -- a bound one: the comparison's word r
-      module _ (e : bitOf (maskOf st) v ≡ 1) (r : ℕ) (is : (m : ℕ) → kept r x (held st) w m ≡ visit t (n - 1) (compare (getD st v 0) x (held st)) w m (u - 1)) (a : Answer) (told : a ≡ toldOf r) where
+      module _ (e : bitOf (maskOf st) v ≡ 1) {y : ℕ} (ye : y ≡ wordOf st v) (r : ℕ) (is : (m : ℕ) → kept r x (held st) w m ≡ visit t (n - 1) (compare y x (held st)) w m (u - 1)) (a : Answer) (told : a ≡ toldOf r) where
         compared : (m : ℕ) → kept r x (held st) w m ≡ visit t n (match q x (held st)) w m u
-        compared m = is m ∙ sym (variable-bound t n q x (held st) w m u z d v kind ve (getD st v 0) (held-some st v (variable-small kind ve) e))
+        compared m = is m ∙ ap (λ y. visit t (n - 1) (compare y x (held st)) w m (u - 1)) ye ∙ sym (variable-bound t n q x (held st) w m u z d v kind ve (wordOf st v) (held-some st v (variable-small kind ve) e))
 
-        pub bound-matched : (y k : ℕ) → a ≡ Done y k → Matched t w n p g b st k (i + 1)
-        bound-matched y k f = answered r st (framed-refl st) refl compared a told y k f
+        pub bound-matched : (j k : ℕ) → a ≡ Done j k → Matched t w n p g b st k (i + 1)
+        bound-matched j k f = answered r st (framed-refl st) refl compared a told j k f
 
         pub bound-stops : Tagged a 1 2 → Fitting t w n p g b r st
         bound-stops f = stopped r st (framed-refl st) refl compared a told f
@@ -359,7 +360,7 @@ module _ {t w : List ℕ} {n₀ p₀ g₀ : ℕ} {b₀ : List ℕ} {n p k : ℕ}
   }
 
   -- the record keeps its length
-  pub going-long : {st′ : List ℕ} {v j : ℕ} → length st ≡ 34 → Matched t w n p (c .given) (c .held-then) st′ v j → length st′ ≡ 34
+  pub going-long : {st′ : List ℕ} {v j : ℕ} → length st ≡ recordLong → Matched t w n p (c .given) (c .held-then) st′ v j → length st′ ≡ recordLong
   going-long l f = f .frame .long ∙ sym (c .so-far .frame .long) ∙ l
 
   -- the last child, whose children are next
@@ -426,7 +427,7 @@ module _ {t w st : List ℕ} {p g : ℕ} (c : Matchable t w st p g) (n : ℕ) wh
 
     -- a variable
     module _ {v : ℕ} (kind : kindOf t p ≡ 18) (ve : v ≡ argumentOf t p) where
-      pub root-small : v < 32
+      pub root-small : v < variables
       root-small = omega (arith, c .entries .variable p (c .inside) kind, ve)
 
       pub root-free : {st′ : List ℕ} → (bitOf (maskOf st) v ≡ 1 → ⊥) → st′ ≡ bound st v (nodeIn g) → Gives root st (g - 1) st′ w
@@ -434,17 +435,17 @@ module _ {t w st : List ℕ} {p g : ℕ} (c : Matchable t w st p g) (n : ℕ) wh
           rw s (ended-root (g - 1) (unitsIn g - 1) (bound st v (nodeIn g)) one-less (omega arith) (mark-bound st v (nodeIn g) root-small) (framed-bound st v (nodeIn g) root-small (c .long) e)
           (variable-free t n p (nodeIn g) (held st) w (markOf st) (unitsIn g) z d v kind ve (held-none st v e) ∙ rw (held-bound st v (nodeIn g) root-small (c .long))))
 
-      module _ (e : bitOf (maskOf st) v ≡ 1) (r : ℕ) (is : kept r (nodeIn g) (held st) w (markOf st) ≡ visit t (n - 1) (compare (getD st v 0) (nodeIn g) (held st)) w (markOf st) (unitsIn g - 1)) (a : Answer) (told : a ≡ toldOf r) where
+      module _ (e : bitOf (maskOf st) v ≡ 1) {y : ℕ} (ye : y ≡ wordOf st v) (r : ℕ) (is : kept r (nodeIn g) (held st) w (markOf st) ≡ visit t (n - 1) (compare y (nodeIn g) (held st)) w (markOf st) (unitsIn g - 1)) (a : Answer) (told : a ≡ toldOf r) where
         root-compared : kept r (nodeIn g) (held st) w (markOf st) ≡ root
-        root-compared = is ∙ sym (variable-bound t n p (nodeIn g) (held st) w (markOf st) (unitsIn g) z d v kind ve (getD st v 0) (held-some st v root-small e))
+        root-compared = is ∙ ap (λ y. visit t (n - 1) (compare y (nodeIn g) (held st)) w (markOf st) (unitsIn g - 1)) ye ∙ sym (variable-bound t n p (nodeIn g) (held st) w (markOf st) (unitsIn g) z d v kind ve (wordOf st v) (held-some st v root-small e))
 
         pub root-bound-stops : Tagged a 1 2 → Gives root st r st w
         root-bound-stops h = stopped-root r st (framed-refl st) a told h root-compared
 
-        pub root-bound : (y k r′ : ℕ) → a ≡ Done y k → r′ ≡ packed (nodeIn g) k → Gives root st r′ st w
-        root-bound y k r′ f s =
-            ended-root r′ k st s (omega (arith, done-node r y k (sym told ∙ f))) refl (framed-refl st)
-            (sym root-compared ∙ kept-is w r (nodeIn g) (held st) (markOf st) a told y k f)
+        pub root-bound : (j k r′ : ℕ) → a ≡ Done j k → r′ ≡ packed (nodeIn g) k → Gives root st r′ st w
+        root-bound j k r′ f s =
+            ended-root r′ k st s (omega (arith, done-node r j k (sym told ∙ f))) refl (framed-refl st)
+            (sym root-compared ∙ kept-is w r (nodeIn g) (held st) (markOf st) a told j k f)
 
     -- a constructor
     module _ (kind : kindOf t p ≡ 19) where

@@ -9,6 +9,7 @@ use lib.Dec.{eqb, leb}
 use lib.ListN.{length}
 use Rattle.words.specs.Words.{wordAt, rows, putRow}
 use Rattle.words.specs.Tests.{if_then_else_}
+use Rattle.checks.specs.Kinds.{variables}
 use Rattle.checks.specs.Good.{kindOf, operandCount, argumentOf, goodNode}
 use Rattle.meaning.specs.Bindings.{Bindings}
 use Rattle.meaning.specs.Table.{table, operands}
@@ -19,7 +20,7 @@ use Rattle.meaning.specs.Store.{on, stored, Ran, children}
 use Rattle.leaves.specs.declared.answers.Answer.{Answer}
 use Rattle.leaves.specs.declared.answers.Answer.the-variants.{Done, Failed, Cut}
 use Rattle.leaves.specs.Answers.{toldOf, nodeIn, unitsIn}
-use Rattle.leaves.specs.Record.{markOf, held, Framed}
+use Rattle.leaves.specs.Record.{recordLong, markOf, held, Framed}
 
 -- a node's child count, read as at most 6; its eight words
 abbrev pub countOf : List ℕ → ℕ → ℕ
@@ -74,7 +75,7 @@ pub record Entries (t : List ℕ) : Type 0 where
   pub long : length t ≡ 32768
   pub operand : (e i : ℕ) → e < 4096 → i < 6 → wordAt t e (2 + i) < 4096
   pub few : (e : ℕ) → e < 4096 → operandCount t e ≤ 6
-  pub variable : (e : ℕ) → e < 4096 → kindOf t e ≡ 18 → argumentOf t e < 32
+  pub variable : (e : ℕ) → e < 4096 → kindOf t e ≡ 18 → argumentOf t e < variables
   pub constructor : (e : ℕ) → e < 4096 → kindOf t e ≡ 19 → argumentOf t e ≤ 65535
   pub matched : (e : ℕ) → e < 4096 → kindOf t e ≡ 14 → Pattern t (wordAt t e 2)
   pub built : (e : ℕ) → e < 4096 → kindOf t e ≡ 15 → Pattern t (wordAt t e 2)
@@ -98,7 +99,7 @@ pub record Roomy (w : List ℕ) (m : ℕ) : Type 0 where
 -- what a MATCH of entry p requires: the node and the units are in the word g
 pub record Matchable (t w st : List ℕ) (p g : ℕ) : Type 0 where
   pub entries : Entries t
-  pub long : length st ≡ 34
+  pub long : length st ≡ recordLong
   pub inside : p < 4096
   pub steady : Steady w (markOf st) (held st)
   pub subject : nodeIn g < markOf st

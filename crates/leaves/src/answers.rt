@@ -3,6 +3,18 @@
 ghost use mathlib.Core.Path.{_≡_};
 ghost use Rattle.leaves.specs.Answers.{packed, failedWord, unitsWord, roomWord, nestingWord, stoppedWord, toldOf, heardOf};
 
+// A word's half: a node stands above it, and the units left below.
+pub const HALF: u64 = 1 << 32;
+
+// The upper halves that are no node's.
+pub const FAILED: u64 = 4294967295;
+
+pub const UNITS: u64 = 4294967294;
+
+pub const ROOM: u64 = 4294967293;
+
+pub const NESTING: u64 = 4294967292;
+
 // A visit's answer: the node and the units left, or the units left, or the word of a cut-off.
 pub enum Answer {
     Done(u32, u32),
@@ -19,12 +31,12 @@ pub enum Heard {
 pub fn told(r: u64) -> Answer
     ensures { λ a. ⌜ a ≡ toldOf r ⌝ }
 {
-    let t = r / 4294967296;
-    let left = (r % 4294967296) as u32;
-    if t < 4294967292 {
+    let t = r / HALF;
+    let left = (r % HALF) as u32;
+    if t < NESTING {
         return Answer::Done(t as u32, left);
     }
-    if t == 4294967295 {
+    if t == FAILED {
         return Answer::Failed(left);
     }
     Answer::Cut(r)
@@ -44,31 +56,31 @@ pub fn hear(r: u64) -> Heard
 pub fn done(t: u32, left: u32) -> u64
     ensures { λ r. ⌜ r ≡ packed t left ⌝ }
 {
-    t as u64 * 4294967296 + left as u64
+    t as u64 * HALF + left as u64
 }
 
 pub fn failure(left: u32) -> u64
     ensures { λ r. ⌜ r ≡ failedWord left ⌝ }
 {
-    18446744069414584320 + left as u64
+    FAILED * HALF + left as u64
 }
 
 pub fn no_units() -> u64
     ensures { λ r. ⌜ r ≡ unitsWord ⌝ }
 {
-    18446744065119617024
+    UNITS * HALF
 }
 
 pub fn no_room(left: u32) -> u64
     ensures { λ r. ⌜ r ≡ roomWord left ⌝ }
 {
-    18446744060824649728 + left as u64
+    ROOM * HALF + left as u64
 }
 
 pub fn no_nesting(left: u32) -> u64
     ensures { λ r. ⌜ r ≡ nestingWord left ⌝ }
 {
-    18446744056529682432 + left as u64
+    NESTING * HALF + left as u64
 }
 
 // What stops a visit for which no nesting is left: the units, which are tested first, where none of them are left either.

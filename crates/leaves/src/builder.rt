@@ -9,26 +9,31 @@ use crate::answers::told;
 use crate::reading::entry;
 use crate::reading::kind;
 use crate::reading::operands;
+use crate::record::MARK;
+use crate::record::MASK;
+use crate::record::RECORD;
 use crate::record::bit;
+use crate::record::word_of;
+use checks::kinds::PVAR;
 use words::put_row;
 ghost use mathlib.Core.Path.{_≡_};
 ghost use Prim.Native.Nat.{ℕ, _<_};
 ghost use lib.ListN.{length};
 ghost use Rattle.meaning.specs.Rules.{build as built};
-ghost use Rattle.leaves.specs.Record.{markOf, held};
+ghost use Rattle.leaves.specs.Record.{markOf, held, recordLong};
 ghost use Rattle.leaves.specs.Visits.{visit, noded, Pattern, Entries, Steady, Roomy, Gives};
 
 // The node of these eight words at the mark; no room where the mark equals the store's nodes.
-pub fn node(store: &mut [u32], st: &mut [u32; 34], made: [u32; 8], left: u32) -> u64
-    requires { ⌜ Roomy (now store) (markOf (now st)) × (length (now st) ≡ 34) ⌝ }
+pub fn node(store: &mut [u32], st: &mut [u32; RECORD], made: [u32; 8], left: u32) -> u64
+    requires { ⌜ Roomy (now store) (markOf (now st)) × (length (now st) ≡ recordLong) ⌝ }
     ensures { λ r. ⌜ Gives (noded made (now (st .entry)) (now (store .entry)) left) (now (st .entry)) r (now (st .exit)) (now (store .exit)) ⌝ }
 {
-    let k = st[32];
+    let k = st[MARK];
     if store.len() < 8 * (k as usize) + 8 {
         return no_room(left);
     }
     put_row(store, k, made);
-    st[32] = k + 1;
+    st[MARK] = k + 1;
     done(k, left)
 }
 
@@ -36,12 +41,12 @@ pub fn node(store: &mut [u32], st: &mut [u32; 34], made: [u32; 8], left: u32) ->
 pub fn build(
     table: &[u32; 32768],
     store: &mut [u32],
-    st: &mut [u32; 34],
+    st: &mut [u32; RECORD],
     p: u32,
     left: u32,
     deep: u32,
 ) -> u64
-    requires { ⌜ Entries (now table) × (p < 4096) × Pattern (now table) p × Steady (now store) (markOf (now st)) (held (now st)) × (length (now st) ≡ 34) ⌝ }
+    requires { ⌜ Entries (now table) × (p < 4096) × Pattern (now table) p × Steady (now store) (markOf (now st)) (held (now st)) × (length (now st) ≡ recordLong) ⌝ }
     ensures { λ r. ⌜ ((k : ℕ) → Gives (visit (now (table .entry)) deep (built p k (held (now (st .entry)))) (now (store .entry)) (markOf (now (st .entry))) left) (now (st .entry)) r (now (st .exit)) (now (store .exit))) ⌝ }
 {
     if left == 0 {
@@ -51,10 +56,10 @@ pub fn build(
         return no_nesting(left);
     }
     let mut u = left - 1;
-    if kind(table, p) == 18 {
+    if kind(table, p) == PVAR {
         let v = entry(table, p, 1);
-        if bit(st[33], v) == 1 {
-            return done(st[v as usize], u);
+        if bit(st[MASK], v) == 1 {
+            return done(word_of(st, v), u);
         }
         return failure(u);
     }

@@ -1,6 +1,7 @@
 // The matcher: pattern and term walked together, left to right. The bindings are one record that it fills as it walks: the
 // run's own, in place, for the children of a MATCH's pattern; below that its core takes and returns the record by value.
 use crate::answers::Answer;
+use crate::answers::HALF;
 use crate::answers::done;
 use crate::answers::failure;
 use crate::answers::no_nesting;
@@ -13,9 +14,14 @@ use crate::reading::entry;
 use crate::reading::kind;
 use crate::reading::operands;
 use crate::record::Bindings;
+use crate::record::FIRST;
+use crate::record::MASK;
+use crate::record::RECORD;
 use crate::record::bind;
 use crate::record::bit;
 use crate::record::put_variable;
+use crate::record::word_of;
+use checks::kinds::PVAR;
 use words::word;
 ghost use mathlib.Core.Path.{_≡_};
 ghost use mathlib.Core.Bool.{true};
@@ -24,7 +30,7 @@ ghost use lib.ListN.{length};
 ghost use Rattle.meaning.specs.Rules.{match as met};
 ghost use Rattle.checks.specs.Good.{kindOf};
 ghost use Rattle.leaves.specs.Answers.{nodeIn, unitsIn};
-ghost use Rattle.leaves.specs.Record.{markOf, held};
+ghost use Rattle.leaves.specs.Record.{markOf, held, recordLong};
 ghost use Rattle.leaves.specs.Visits.{visit, Pattern, Entries, agreeing, Matchable, Gives, Fitting};
 
 pub struct Fitted {
@@ -38,8 +44,8 @@ fn fits(table: &[u32; 32768], store: &[u32], p: u32, s: u64, b: Bindings, deep: 
     requires { ⌜ Entries (now table) × (p < 4096) × (kindOf (now table) p ≡ 19) × (agreeing (now table) (now store) p (nodeIn s) ≡ true) × (0 < deep) ⌝ }
     ensures { λ r. ⌜ Fitting (now (table .entry)) (now (store .entry)) deep p s (b .words) (r .got) (r .binds .words) ⌝ }
 {
-    let t = (s / 4294967296) as u32;
-    let mut u = (s % 4294967296) as u32;
+    let t = (s / HALF) as u32;
+    let mut u = (s % HALF) as u32;
     let mut words = b.words;
     let n = operands(table, p);
     let mut i: u32 = 0;
@@ -53,10 +59,10 @@ fn fits(table: &[u32; 32768], store: &[u32], p: u32, s: u64, b: Bindings, deep: 
             };
         }
         u -= 1;
-        if kind(table, q) == 18 {
+        if kind(table, q) == PVAR {
             let v = entry(table, q, 1);
-            if bit(words[33], v) == 1 {
-                let got = same(store, words[v as usize], c, u, deep - 1);
+            if bit(words[MASK], v) == 1 {
+                let got = same(store, word_of(&words, v), c, u, deep - 1);
                 let Answer::Done(_, left) = told(got) else {
                     return Fitted {
                         got,
@@ -65,8 +71,8 @@ fn fits(table: &[u32; 32768], store: &[u32], p: u32, s: u64, b: Bindings, deep: 
                 };
                 u = left;
             } else {
-                words[v as usize] = c;
-                words[33] = words[33] | (1 << v);
+                words[FIRST + v as usize] = c;
+                words[MASK] = words[MASK] | (1 << v);
             }
         } else {
             if !agree(table, store, q, c) {
@@ -102,13 +108,20 @@ fn fits(table: &[u32; 32768], store: &[u32], p: u32, s: u64, b: Bindings, deep: 
 
 // The same in the run's record, for the children of a MATCH's own pattern. The last child goes round the loop: its children
 // are next, with a level of nesting less. A failure leaves the bindings made so far, which are of no account then.
-fn filled(table: &[u32; 32768], store: &[u32], st: &mut [u32; 34], p: u32, s: u64, deep: u32) -> u64
-    requires { ⌜ Entries (now table) × (p < 4096) × (kindOf (now table) p ≡ 19) × (agreeing (now table) (now store) p (nodeIn s) ≡ true) × (0 < deep) × (length (now st) ≡ 34) ⌝ }
+fn filled(
+    table: &[u32; 32768],
+    store: &[u32],
+    st: &mut [u32; RECORD],
+    p: u32,
+    s: u64,
+    deep: u32,
+) -> u64
+    requires { ⌜ Entries (now table) × (p < 4096) × (kindOf (now table) p ≡ 19) × (agreeing (now table) (now store) p (nodeIn s) ≡ true) × (0 < deep) × (length (now st) ≡ recordLong) ⌝ }
     ensures { λ r. ⌜ Fitting (now (table .entry)) (now (store .entry)) deep p s (now (st .entry)) r (now (st .exit)) ⌝ }
 {
     let mut x = p;
-    let mut t = (s / 4294967296) as u32;
-    let mut u = (s % 4294967296) as u32;
+    let mut t = (s / HALF) as u32;
+    let mut u = (s % HALF) as u32;
     let mut d = deep;
     let mut n = operands(table, x);
     let mut i: u32 = 0;
@@ -120,11 +133,11 @@ fn filled(table: &[u32; 32768], store: &[u32], st: &mut [u32; 34], p: u32, s: u6
         }
         u -= 1;
         i += 1;
-        if kind(table, q) == 18 {
+        if kind(table, q) == PVAR {
             let v = entry(table, q, 1);
-            if bit(st[33], v) == 1 {
+            if bit(st[MASK], v) == 1 {
                 let words = store;
-                let got = same(words, st[v as usize], c, u, d - 1);
+                let got = same(words, word_of(st, v), c, u, d - 1);
                 let Answer::Done(_, left) = told(got) else {
                     return got;
                 };
@@ -169,7 +182,7 @@ fn filled(table: &[u32; 32768], store: &[u32], st: &mut [u32; 34], p: u32, s: u6
 pub fn matching(
     table: &[u32; 32768],
     store: &[u32],
-    st: &mut [u32; 34],
+    st: &mut [u32; RECORD],
     p: u32,
     s: u64,
     deep: u32,
@@ -177,19 +190,19 @@ pub fn matching(
     requires { ⌜ Matchable (now table) (now store) (now st) p s × Pattern (now table) p ⌝ }
     ensures { λ r. ⌜ Gives (visit (now (table .entry)) deep (met p (nodeIn s) (held (now (st .entry)))) (now (store .entry)) (markOf (now (st .entry))) (unitsIn s)) (now (st .entry)) r (now (st .exit)) (now (store .entry)) ⌝ }
 {
-    let left = (s % 4294967296) as u32;
+    let left = (s % HALF) as u32;
     if left == 0 {
         return no_units();
     }
     if deep == 0 {
         return no_nesting(left);
     }
-    let t = (s / 4294967296) as u32;
-    if kind(table, p) == 18 {
+    let t = (s / HALF) as u32;
+    if kind(table, p) == PVAR {
         let v = entry(table, p, 1);
-        if bit(st[33], v) == 1 {
+        if bit(st[MASK], v) == 1 {
             let words = store;
-            let got = same(words, st[v as usize], t, left - 1, deep - 1);
+            let got = same(words, word_of(st, v), t, left - 1, deep - 1);
             let Answer::Done(_, u) = told(got) else {
                 return got;
             };

@@ -7,6 +7,11 @@ ghost use Rattle.words.specs.Words.{wordAt};
 ghost use Rattle.checks.specs.Good.{kindOf, operandCount};
 ghost use Rattle.leaves.specs.Visits.{countOf, rowAt, agreeing};
 
+// The words of an entry that a run may note a hint in, where they are no operands: an entry, and a number of visits.
+pub const HINT_ENTRY: u32 = 4;
+
+pub const HINT_VISITS: u32 = 5;
+
 // Word j of the entry e.
 pub fn entry(table: &[u32; 32768], e: u32, j: u32) -> u32
     requires { ⌜ (e < 4096) × (j < 8) ⌝ }

@@ -1,33 +1,54 @@
-// The run's one record: the nodes of the 32 variables, the mark, and the mask of the variables that are bound. The word of
-// an unbound variable means nothing.
+// The run's one record: control words, and then a node for each variable. The control words are the mark and the mask of the
+// variables that are bound. The word of an unbound variable means nothing.
 ghost use mathlib.Core.Path.{_≡_};
 ghost use Prim.Native.Nat.{_<_};
-ghost use Rattle.leaves.specs.Record.{bitOf, bound, without, putBack};
+ghost use Rattle.checks.specs.Kinds.{variables};
+ghost use Rattle.leaves.specs.Record.{wordOf, bitOf, bound, without, putBack, marking, masking};
+
+// The control words.
+pub const MARK: usize = 0;
+
+pub const MASK: usize = 1;
+
+// Where the words of the variables begin, how many variables there are, and the record's words in all.
+pub const FIRST: usize = 2;
+
+pub const VARIABLES: usize = 32;
+
+pub const RECORD: usize = FIRST + VARIABLES;
 
 pub struct Bindings {
-    pub words: [u32; 34],
+    pub words: [u32; RECORD],
 }
 
 // 1 where variable v is in the mask, else 0.
 pub fn bit(mask: u32, v: u32) -> u32
-    requires { ⌜ v < 32 ⌝ }
+    requires { ⌜ v < variables ⌝ }
     ensures { λ r. ⌜ r ≡ bitOf mask v ⌝ }
 {
     (mask >> v) % 2
 }
 
-// Sets one variable of the record: v is bound to node t.
-pub(crate) fn set_variable(b: &mut Bindings, v: u32, t: u32)
-    requires { ⌜ v < 32 ⌝ }
-    ensures { λ _. ⌜ now (b .exit) .words ≡ bound (now (b .entry) .words) v t ⌝ }
+// The word of variable v: its node, where it is bound.
+pub fn word_of(st: &[u32; RECORD], v: u32) -> u32
+    requires { ⌜ v < variables ⌝ }
+    ensures { λ r. ⌜ r ≡ wordOf (now (st .entry)) v ⌝ }
 {
-    b.words[v as usize] = t;
-    b.words[33] = b.words[33] | (1 << v);
+    st[FIRST + v as usize]
 }
 
-// The same by value: what a MATCH of a variable alone calls.
+// Sets one variable of the record: v is bound to node t.
+pub(crate) fn set_variable(b: &mut Bindings, v: u32, t: u32)
+    requires { ⌜ v < variables ⌝ }
+    ensures { λ _. ⌜ now (b .exit) .words ≡ bound (now (b .entry) .words) v t ⌝ }
+{
+    b.words[FIRST + v as usize] = t;
+    b.words[MASK] = b.words[MASK] | (1 << v);
+}
+
+// Sets one variable of a record by value: what a MATCH of a variable alone calls.
 pub fn bind(b: Bindings, v: u32, t: u32) -> Bindings
-    requires { ⌜ v < 32 ⌝ }
+    requires { ⌜ v < variables ⌝ }
     ensures { λ r. ⌜ r .words ≡ bound (b .words) v t ⌝ }
 {
     let mut set = b;
@@ -35,13 +56,21 @@ pub fn bind(b: Bindings, v: u32, t: u32) -> Bindings
     set
 }
 
-// The same in the words that a run holds.
-pub(crate) fn put_variable(st: &mut [u32; 34], v: u32, t: u32)
-    requires { ⌜ v < 32 ⌝ }
+// Sets one variable in the words that a run holds.
+pub(crate) fn put_variable(st: &mut [u32; RECORD], v: u32, t: u32)
+    requires { ⌜ v < variables ⌝ }
     ensures { λ _. ⌜ now (st .exit) ≡ bound (now (st .entry)) v t ⌝ }
 {
-    st[v as usize] = t;
-    st[33] = st[33] | (1 << v);
+    st[FIRST + v as usize] = t;
+    st[MASK] = st[MASK] | (1 << v);
+}
+
+// Puts mark and mask back: a failure leaves no node and no binding.
+pub fn restore(st: &mut [u32; RECORD], mark: u32, mask: u32)
+    ensures { λ _. ⌜ now (st .exit) ≡ masking (marking (now (st .entry)) mark) mask ⌝ }
+{
+    st[MARK] = mark;
+    st[MASK] = mask;
 }
 
 // The mask without the hidden variables.
@@ -51,17 +80,17 @@ pub fn hide(mask: u32, hidden: u32) -> u32
     mask & (4294967295 - hidden)
 }
 
-// The outer words of the variables of the mask, put back.
-pub fn put_back(st: &mut [u32; 34], outer: [u32; 34], mask: u32)
-    ensures { λ _. ⌜ now (st .exit) ≡ putBack 32 0 mask outer (now (st .entry)) ⌝ }
+// Puts the outer words of the variables of the mask back. It ends with the last of them.
+pub fn put_back(st: &mut [u32; RECORD], outer: &[u32; RECORD], mask: u32)
+    ensures { λ _. ⌜ now (st .exit) ≡ putBack variables 0 mask (now (outer .entry)) (now (st .entry)) ⌝ }
 {
     let mut rest = mask;
-    let mut k: usize = 0;
-    while k < 32 {
+    let mut v: usize = 0;
+    while rest != 0 {
         if rest % 2 == 1 {
-            st[k] = outer[k];
+            st[FIRST + v] = outer[FIRST + v];
         }
         rest = rest / 2;
-        k += 1;
+        v += 1;
     }
 }

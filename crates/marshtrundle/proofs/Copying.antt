@@ -17,9 +17,9 @@ use Rattle.words.proofs.Tests.{below-or-from}
 use Rattle.meaning.specs.Bindings.{Bindings, bind}
 use Rattle.meaning.specs.Store.{named, bindings}
 use Rattle.meaning.specs.Answer.{bindingWord, bindingWords}
-use Rattle.leaves.specs.Record.{markOf, maskOf, bitOf, held, bound}
+use Rattle.leaves.specs.Record.{markAt, recordLong, markOf, maskOf, wordOf, marking, bitOf, held, bound}
 use Rattle.meaning.proofs.Bits.{bit-has, has-nothing}
-use Rattle.leaves.proofs.Holding.{held-some, held-none, held-mark, held-bound, length-bound, mark-bound, mark-mark}
+use Rattle.leaves.proofs.Holding.{held-some, held-none, held-mark, held-bound, length-bound, mark-bound, mark-marking}
 use Rattle.marshtrundle.specs.Loaded.{Noted, given, Loaded, Opened}
 
 -- A word of a list of zeros is zero.
@@ -112,7 +112,7 @@ module _ (t c : List ℕ) (e x n : ℕ) (l : Loaded t c) (m : 8 * e < 32768) whe
 
 -- the record st holds the bindings of the first i words of b, and the mark m
 pub record Filled (b : List ℕ) (m : ℕ) (st : List ℕ) (i : ℕ) : Type 0 where
-  pub long : length st ≡ 34
+  pub long : length st ≡ recordLong
   pub mark : markOf st ≡ m
   pub before : (v : ℕ) → v < i → held st v ≡ bindings b v
   pub after : (v : ℕ) → i ≤ v → held st v ≡ none
@@ -123,12 +123,12 @@ held-nothing st e v =
     held-none st v (λ z. true≢false (sym (bit-has 0 v (subst (λ (m : ℕ). bitOf m v ≡ 1) e z)) ∙ has-nothing v))
 
 -- At first none is held.
-pub filled-none : (b : List ℕ) (m : ℕ) → Filled b m (set (replicate 34 0) 32 m) 0
+pub filled-none : (b : List ℕ) (m : ℕ) → Filled b m (marking (replicate recordLong 0) m) 0
 filled-none b m = record {
-  long = length-set (replicate 34 0) 32 m;
-  mark = mark-mark (replicate 34 0) m refl;
+  long = length-set (replicate recordLong 0) markAt m;
+  mark = mark-marking (replicate recordLong 0) m refl;
   before = λ v l. absurd (omega arith);
-  after = λ v l. ap (λ (h : Bindings ℕ). h v) (held-mark (replicate 34 0) m) ∙ held-nothing (replicate 34 0) refl v;
+  after = λ v l. ap (λ (h : Bindings ℕ). h v) (held-mark (replicate recordLong 0) m) ∙ held-nothing (replicate recordLong 0) refl v;
 }
 
 module _ (b : List ℕ) (m : ℕ) (st : List ℕ) (i : ℕ) (p : Filled b m st i) where
@@ -224,7 +224,7 @@ written-all b w i p l =
     (λ v k. p .before v (omega (arith, p .long)) ∙ sym (word-of 32 b v (omega (arith, p .long))))
 
 -- The word of a variable in the mask, and of one that is not.
-pub word-some : (st : List ℕ) (v : ℕ) → v < 32 → bitOf (maskOf st) v ≡ 1 → getD st v 0 + 1 ≡ bindingWord (held st v)
+pub word-some : (st : List ℕ) (v : ℕ) → v < 32 → bitOf (maskOf st) v ≡ 1 → wordOf st v + 1 ≡ bindingWord (held st v)
 unfolding bindingWord
 word-some st v l e = rw (held-some st v l e) (omega arith)
 

@@ -7,7 +7,7 @@ use lib.ListN.{length}
 use Rattle.words.specs.Words.{wordAt}
 use Rattle.checks.specs.Good.{kindOf}
 use Rattle.meaning.specs.Store.{bindings}
-use Rattle.leaves.specs.Record.{markOf, held}
+use Rattle.leaves.specs.Record.{recordLong, markOf, held}
 
 -- entry q begins with a MATCH of the PCON p: the nth visit is that of p
 pub data Begins (t : List ℕ) (p : ℕ) : ℕ → ℕ → Type 0 where
@@ -42,6 +42,6 @@ pub record Loaded (t c : List ℕ) : Type 0 where
 
 -- the record holds the bindings of the words b, and the mark
 pub record Opened (b : List ℕ) (m : ℕ) (st : List ℕ) : Type 0 where
-  pub long : length st ≡ 34
+  pub long : length st ≡ recordLong
   pub mark : markOf st ≡ m
   pub holds : held st ≡ bindings b

@@ -1,6 +1,16 @@
 // What the given table tells of an entry's first operand before a run: hints, which the run keeps in two words that the entry
 // does not use.
 use checks::entries::kind_of;
+use checks::kinds::ALL;
+use checks::kinds::CALL;
+use checks::kinds::CHOICE;
+use checks::kinds::LEFT;
+use checks::kinds::MATCH;
+use checks::kinds::PCON;
+use checks::kinds::REC;
+use checks::kinds::SCOPE;
+use checks::kinds::SEQ;
+use checks::kinds::SOME;
 use words::word;
 ghost use mathlib.Core.Path.{_≡_};
 ghost use Rattle.marshtrundle.specs.Loaded.{Begun, Calls, Noted};
@@ -12,11 +22,11 @@ pub struct Hint(pub u32, pub u32);
 fn matched(table: &[u32], q: u32) -> Hint
     ensures { λ r. ⌜ Begun (now (table .entry)) q 2 (r .0) (r .1) ⌝ }
 {
-    if kind_of(table, q) != 14 {
+    if kind_of(table, q) != MATCH {
         return Hint(0, 0);
     }
     let p = word(table, q, 2);
-    if kind_of(table, p) != 19 {
+    if kind_of(table, p) != PCON {
         return Hint(0, 0);
     }
     Hint(p, 2)
@@ -26,7 +36,7 @@ fn matched(table: &[u32], q: u32) -> Hint
 fn first(table: &[u32], q: u32) -> Hint
     ensures { λ r. ⌜ Begun (now (table .entry)) q 3 (r .0) (r .1) ⌝ }
 {
-    if kind_of(table, q) != 4 {
+    if kind_of(table, q) != SEQ {
         return matched(table, q);
     }
     let h = matched(table, word(table, q, 2));
@@ -40,7 +50,7 @@ fn first(table: &[u32], q: u32) -> Hint
 fn begun(table: &[u32], q: u32) -> Hint
     ensures { λ r. ⌜ Begun (now (table .entry)) q 4 (r .0) (r .1) ⌝ }
 {
-    if kind_of(table, q) != 16 {
+    if kind_of(table, q) != SCOPE {
         return first(table, q);
     }
     let h = first(table, word(table, q, 2));
@@ -54,11 +64,11 @@ fn begun(table: &[u32], q: u32) -> Hint
 fn called(table: &[u32], q: u32) -> Hint
     ensures { λ r. ⌜ ((r .1 ≡ 0 → ⊥) → Calls (now (table .entry)) (r .0) q (r .1)) ⌝ }
 {
-    if kind_of(table, q) != 8 {
+    if kind_of(table, q) != CALL {
         return Hint(0, 0);
     }
     let r = word(table, q, 2);
-    if kind_of(table, r) != 7 {
+    if kind_of(table, r) != REC {
         return Hint(0, 0);
     }
     Hint(word(table, r, 2), 2)
@@ -70,16 +80,16 @@ pub fn known(table: &[u32], e: u32) -> Hint
 {
     let k = kind_of(table, e);
     let q = word(table, e, 2);
-    if k == 5 {
+    if k == CHOICE {
         return begun(table, q);
     }
-    if k == 6 {
+    if k == LEFT {
         return begun(table, q);
     }
-    if k == 11 {
+    if k == ALL {
         return called(table, q);
     }
-    if k == 13 {
+    if k == SOME {
         return called(table, q);
     }
     Hint(0, 0)

@@ -1,8 +1,12 @@
 // What a run copies once: the table into words of fixed length, the bindings into the run's one record, and back.
 use crate::hints::known;
 use leaves::record::Bindings;
+use leaves::record::MARK;
+use leaves::record::MASK;
+use leaves::record::RECORD;
 use leaves::record::bind;
 use leaves::record::bit;
+use leaves::record::word_of;
 ghost use mathlib.Core.Path.{_≡_};
 ghost use mathlib.Core.Option.{some};
 ghost use Prim.Native.Nat.{ℕ, _≤_, _<_};
@@ -37,12 +41,12 @@ pub fn loaded(table: &[u32]) -> [u32; 32768]
 }
 
 // The record of these bindings with this mark.
-pub fn opened(bindings: &[u32], mark: u32) -> [u32; 34]
+pub fn opened(bindings: &[u32], mark: u32) -> [u32; RECORD]
     requires { ⌜ length (now bindings) ≡ 32 ⌝ }
     ensures { λ r. ⌜ Opened (now (bindings .entry)) mark r ⌝ }
 {
-    let mut words = [0u32; 34];
-    words[32] = mark;
+    let mut words = [0u32; RECORD];
+    words[MARK] = mark;
     let mut v: u32 = 0;
     while v < 32 {
         let w = bindings[v as usize];
@@ -56,16 +60,16 @@ pub fn opened(bindings: &[u32], mark: u32) -> [u32; 34]
 }
 
 // The bindings that the record holds, written back; each bound node is below 131,072.
-pub fn closed(bindings: &mut [u32], st: [u32; 34])
+pub fn closed(bindings: &mut [u32], st: [u32; RECORD])
     requires { ⌜ (length (now bindings) ≡ 32) × ((v k : ℕ) → held st v ≡ some k → k < 131072) ⌝ }
     ensures { λ _. ⌜ now (bindings .exit) ≡ bindingWords 32 (held st) ⌝ }
 {
-    let mask = st[33];
+    let mask = st[MASK];
     let mut v: u32 = 0;
     while v < 32 {
         let k = v as usize;
         if bit(mask, v) == 1 {
-            bindings[k] = st[k] + 1;
+            bindings[k] = word_of(&st, v) + 1;
         } else {
             bindings[k] = 0;
         }

@@ -5,8 +5,13 @@ use crate::loading::opened;
 use crate::refusals::refusal;
 use cycle::visits::apply;
 use leaves::answers::Answer;
+use leaves::answers::HALF;
+use leaves::answers::ROOM;
+use leaves::answers::UNITS;
 use leaves::answers::done;
 use leaves::answers::told;
+use leaves::record::MARK;
+use leaves::record::RECORD;
 use words::clear_from;
 ghost use mathlib.Core.Path.{_≡_};
 ghost use Rattle.meaning.specs.Rules.{apply as applied};
@@ -29,11 +34,11 @@ pub struct Outcome {
 pub fn cut_answer(c: u64) -> u32
     ensures { λ r. ⌜ r ≡ cutNumber c ⌝ }
 {
-    let t = c / 4294967296;
-    if t == 4294967294 {
+    let t = c / HALF;
+    if t == UNITS {
         return 6;
     }
-    if t == 4294967293 {
+    if t == ROOM {
         return 7;
     }
     8
@@ -44,7 +49,7 @@ pub fn cut_answer(c: u64) -> u32
 pub(crate) fn run_accepted(
     code: &[u32; 32768],
     store: &mut [u32],
-    st: &mut [u32; 34],
+    st: &mut [u32; RECORD],
     start: u32,
     subject: u32,
     units: u32,
@@ -52,7 +57,7 @@ pub(crate) fn run_accepted(
     requires { ⌜ Ready (now code) (now store) (now st) start (packed subject units) ⌝ }
     ensures { λ r. ⌜ Ends (visit (now (code .entry)) 4096 (applied start subject (held (now (st .entry)))) (now (store .entry)) (markOf (now (st .entry))) units) subject (markOf (now (st .entry))) units r (now (st .exit)) (now (store .exit)) ⌝ }
 {
-    let mark = st[32];
+    let mark = st[MARK];
     let got = apply(code, store, st, start, done(subject, units), 4096);
     let a = told(got);
     match a {
@@ -60,7 +65,7 @@ pub(crate) fn run_accepted(
             answer: 0,
             place: 0,
             subject: x,
-            mark: st[32],
+            mark: st[MARK],
             units: units - left,
         },
         Answer::Failed(left) => Outcome {
@@ -75,7 +80,7 @@ pub(crate) fn run_accepted(
             place: 0,
             subject,
             mark,
-            units: units - (c % 4294967296) as u32,
+            units: units - (c % HALF) as u32,
         },
     }
 }

@@ -4,6 +4,7 @@ use mathlib.Core.Path.{_≡_, refl, sym, _∙_}
 use native.Mathlib.Omega.{arith}
 use borrow.Author.Needs.{needs}
 use lib.ListN.{length, length-set}
+use Rattle.checks.specs.Kinds.{variables}
 use Rattle.checks.specs.Good.{kindOf, operandCount}
 use Rattle.meaning.specs.Rules.{build as built}
 use Rattle.leaves.specs.Record.{markOf, held}
@@ -30,6 +31,7 @@ use Rattle.leaves.proofs.reading.entry.Reads as entry-reads
 use Rattle.leaves.proofs.reading.kind.Reads as kind-reads
 use Rattle.leaves.proofs.reading.operands.Reads as operands-reads
 use Rattle.leaves.proofs.record.bit.Reads as bit-reads
+use Rattle.leaves.proofs.record.word_of.Reads as word-of-reads
 use Rattle.leaves.proofs.builder.+build.{statement}
 use Rattle.leaves.proofs.builder.+build.Tie.{close}
 
@@ -43,7 +45,7 @@ abbrev build-below : ℕ → In 3 build-kinds.ps
 build-below t = and 3 build-kinds.ps (falls 3 build-kinds.ps _<_ μ-build t) build.Pre
 
 abbrev build-calls : ℕ → build-lts.Claims
-build-calls t = (no-units-reads.Asked, no-units-reads.Learnt, no-nesting-reads.Asked, no-nesting-reads.Learnt, kind-reads.Asked, kind-reads.Learnt, entry-reads.Asked, entry-reads.Learnt, bit-reads.Asked, bit-reads.Learnt, done-reads.Asked, done-reads.Learnt, failure-reads.Asked, failure-reads.Learnt, operands-reads.Asked, operands-reads.Learnt, build-below t, build.Post, told-reads.Asked, told-reads.Learnt, node-reads.Asked, node-reads.Learnt)
+build-calls t = (no-units-reads.Asked, no-units-reads.Learnt, no-nesting-reads.Asked, no-nesting-reads.Learnt, kind-reads.Asked, kind-reads.Learnt, entry-reads.Asked, entry-reads.Learnt, bit-reads.Asked, bit-reads.Learnt, word-of-reads.Asked, word-of-reads.Learnt, done-reads.Asked, done-reads.Learnt, failure-reads.Asked, failure-reads.Learnt, operands-reads.Asked, operands-reads.Learnt, build-below t, build.Post, told-reads.Asked, told-reads.Learnt, node-reads.Asked, node-reads.Learnt)
 
 abbrev build-Inv-loop : build-lts.InvT-loop
 build-Inv-loop table store₀ st₀ p left deep u₀ n made₀ i₀ store st u made i =
@@ -57,7 +59,7 @@ build-μ-loop table store₀ st₀ p left deep u₀ n made₀ i₀ store st u ma
 is-variable : (t : ℕ) (c : build-lts.After-entry (build-calls t) (build-at t) build.Post build-Inv-loop build-μ-loop) → kindOf (c .before .before .before .before .before .before .args .table .now) (c .before .before .before .before .before .before .args .p) ≡ 18
 is-variable t c = sym (c .before .before .kind .ensures) ∙ c .before .if3 .taken
 
-small : (t : ℕ) (c : build-lts.After-entry (build-calls t) (build-at t) build.Post build-Inv-loop build-μ-loop) → c .entry .result < 32
+small : (t : ℕ) (c : build-lts.After-entry (build-calls t) (build-at t) build.Post build-Inv-loop build-μ-loop) → c .entry .result < variables
 small t c = omega (arith, c .before .before .before .before .before .before .pre .1 .0 .variable _ (c .before .before .before .before .before .before .pre .1 .1) (is-variable t c), c .entry .ensures)
 
 -- an operand is left
@@ -73,22 +75,20 @@ build-returns-2 t c = λ k. record { is = nesting-out _ _ _ _ _ _ _ _ (c .no-nes
 build-bit-requires : (t : ℕ) → build-lts.Need-bit-requires (build-calls t) (build-at t) build.Post build-Inv-loop build-μ-loop
 build-bit-requires t c κs = let v = small t (c .before) in omega arith
 
-build-mul-done : (t : ℕ) → build-lts.Need-mul-done (build-calls t) (build-at t) build.Post build-Inv-loop build-μ-loop
-build-mul-done t c = let v = small t (c .before .before .before) in omega arith
-
-build-element-copy-out-done : (t : ℕ) → build-lts.Need-element-copy-out-done (build-calls t) (build-at t) build.Post build-Inv-loop build-μ-loop
-build-element-copy-out-done t c = let v = small t (c .before .before .before) in omega arith
+build-word-of-requires : (t : ℕ) → build-lts.Need-word-of-requires (build-calls t) (build-at t) build.Post build-Inv-loop build-μ-loop
+build-word-of-requires t c κs = small t (c .before .before .before .before)
 
 build-returns-3 : (t : ℕ) → build-lts.Need-returns-3 (build-calls t) (build-at t) build.Post build-Inv-loop build-μ-loop
 build-returns-3 t c =
-    let at-if4 = c .before .before in
+    let at-word = c .before in
+    let at-if4 = at-word .before .before in
     let at-bit = at-if4 .before in
     let at-before = at-bit .before in
     let at-entry = at-before .before in
     let at-if2 = at-entry .before .before .before in
     let at-if1 = at-if2 .before in
     let start = at-if1 .before .before in
-    λ k. variable-built _ _ _ _ _ _ (at-if1 .if1 .left) (at-if2 .if2 .left) _ (is-variable t (at-before .before)) (at-entry .entry .ensures) k _ (omega arith) (start .pre .1 .3) (small t (at-before .before)) (sym (at-bit .bit .ensures) ∙ at-if4 .if4 .taken) (c .done .ensures)
+    λ k. variable-built _ _ _ _ _ _ (at-if1 .if1 .left) (at-if2 .if2 .left) _ (is-variable t (at-before .before)) (at-entry .entry .ensures) k _ (omega arith) (start .pre .1 .3) (small t (at-before .before)) (sym (at-bit .bit .ensures) ∙ at-if4 .if4 .taken) (at-word .word-of .ensures) (c .done .ensures)
 
 build-returns-4 : (t : ℕ) → build-lts.Need-returns-4 (build-calls t) (build-at t) build.Post build-Inv-loop build-μ-loop
 build-returns-4 t c =
@@ -184,7 +184,7 @@ pub +build-spec : {M : Type 1} → statement M
     build.Post
     build-Inv-loop build-μ-loop (λ c κs. search needs) (build-returns t) (λ c κs. search needs) (build-returns-2 t)
     (λ c. search needs) (λ c κs. search needs) (λ c κs. search needs) (λ c. search needs) (build-bit-requires t)
-    (λ c. search needs) (build-mul-done t) (build-element-copy-out-done t) (λ c κs. search needs) (build-returns-3 t)
+    (build-word-of-requires t) (λ c κs. search needs) (build-returns-3 t)
     (λ c κs. search needs) (build-returns-4 t) (λ c κs. search needs) (λ c κs. search needs) (build-loop-holds t)
     (build-add-entry t) (build-entry-requires-3 t) (λ c. search needs) (build-build-requires t) (λ c κs. search needs)
     (λ c. search needs) (λ c. search needs) (build-returns-5 t) (λ c. search needs) (λ c. search needs)

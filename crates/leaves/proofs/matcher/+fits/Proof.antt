@@ -8,7 +8,7 @@ use borrow.Author.Needs.{needs}
 use borrow.Author.Tests.{not-true, not-false}
 use lib.ListN.{length}
 use Rattle.checks.specs.Good.{kindOf, operandCount}
-use Rattle.leaves.specs.Record.{held}
+use Rattle.leaves.specs.Record.{recordLong, held}
 use Rattle.leaves.specs.Visits.{agreeing}
 use Rattle.leaves.proofs.Telling.{done-node}
 use Rattle.leaves.proofs.Holding.{set-bound}
@@ -30,6 +30,7 @@ use Rattle.leaves.proofs.reading.entry.Reads as entry-reads
 use Rattle.leaves.proofs.reading.kind.Reads as kind-reads
 use Rattle.leaves.proofs.reading.operands.Reads as operands-reads
 use Rattle.leaves.proofs.record.bit.Reads as bit-reads
+use Rattle.leaves.proofs.record.word_of.Reads as word-of-reads
 use Rattle.words.proofs.word.Reads as word-reads
 use Rattle.leaves.proofs.matcher.+fits.{statement}
 use Rattle.leaves.proofs.matcher.+fits.Tie.{close}
@@ -44,11 +45,11 @@ abbrev fits-below : ℕ → In 2 fits-kinds.ps
 fits-below t = and 2 fits-kinds.ps (falls 2 fits-kinds.ps _<_ μ-fits t) fits.Pre
 
 abbrev fits-calls : ℕ → fits-lts.Claims
-fits-calls t = (operands-reads.Asked, operands-reads.Learnt, entry-reads.Asked, entry-reads.Learnt, word-reads.Asked, word-reads.Learnt, no-units-reads.Asked, no-units-reads.Learnt, kind-reads.Asked, kind-reads.Learnt, bit-reads.Asked, bit-reads.Learnt, same-reads.Asked, same-reads.Learnt, told-reads.Asked, told-reads.Learnt, agree-reads.Asked, agree-reads.Learnt, failure-reads.Asked, failure-reads.Learnt, stopped-reads.Asked, stopped-reads.Learnt, done-reads.Asked, done-reads.Learnt, fits-below t, fits.Post)
+fits-calls t = (operands-reads.Asked, operands-reads.Learnt, entry-reads.Asked, entry-reads.Learnt, word-reads.Asked, word-reads.Learnt, no-units-reads.Asked, no-units-reads.Learnt, kind-reads.Asked, kind-reads.Learnt, bit-reads.Asked, bit-reads.Learnt, word-of-reads.Asked, word-of-reads.Learnt, same-reads.Asked, same-reads.Learnt, told-reads.Asked, told-reads.Learnt, agree-reads.Asked, agree-reads.Learnt, failure-reads.Asked, failure-reads.Learnt, stopped-reads.Asked, stopped-reads.Learnt, done-reads.Asked, done-reads.Learnt, fits-below t, fits.Post)
 
 abbrev fits-Inv-loop : fits-lts.InvT-loop
 fits-Inv-loop table store p s deep t u₀ words₀ n i₀ u words i =
-    (i ≤ n) × (n ≡ operandCount table p) × (u < 4294967296) × (length words ≡ 34) × Matched table store deep p s words₀ words u i
+    (i ≤ n) × (n ≡ operandCount table p) × (u < 4294967296) × (length words ≡ recordLong) × Matched table store deep p s words₀ words u i
 
 abbrev fits-μ-loop : fits-lts.MeasureT-loop
 fits-μ-loop table store p s deep t u₀ words₀ n i₀ u words i = n - i
@@ -94,8 +95,8 @@ came t c =
     let e = c .before .kind .ensures in
     let less : l .u - 1 < 4294967296 = omega (arith, l .inv .2) in
     ⊎-elim
-    (λ w. matched-at _ _ _ _ _ _ _ _ _ _ _ (w .10) (w .9) (omega (arith, done-node _ _ _ (sym (w .5 .ensures) ∙ w .7 .given .1)))
-    (bound-matched k z d (sym e ∙ w .0 .taken) (w .1 .ensures) (sym (w .2 .ensures) ∙ w .3 .taken) _ (λ m. w .4 .ensures _ (held (l .words)) m) _ (w .5 .ensures) _ _ (w .7 .given .1)))
+    (λ w. matched-at _ _ _ _ _ _ _ _ _ _ _ (w .12) (w .11) (omega (arith, done-node _ _ _ (sym (w .7 .ensures) ∙ w .9 .given .1)))
+    (bound-matched k z d (sym e ∙ w .0 .taken) (w .1 .ensures) (sym (w .2 .ensures) ∙ w .3 .taken) (w .5 .ensures) _ (λ m. w .6 .ensures _ (held (l .words)) m) _ (w .7 .ensures) _ _ (w .9 .given .1)))
     (⊎-elim
     (λ w. matched-at _ _ _ _ _ _ _ _ _ _ _ (w .5) (w .4) less
     (free-matched k z d (sym e ∙ w .0 .taken) (w .1 .ensures) (l .inv .3) (λ f. w .3 .left (w .2 .ensures ∙ f))
@@ -134,22 +135,23 @@ fits-entry-requires-2 t c κs = (operand-is (turn t (c .before .before .before))
 fits-bit-requires : (t : ℕ) → fits-lts.Need-bit-requires (fits-calls t) (fits-at t) fits.Post fits-Inv-loop fits-μ-loop
 fits-bit-requires t c κs = variable-small (turn t (c .before .before .before .before)) (is-variable t (c .before)) (c .entry2 .ensures)
 
-fits-mul-same : (t : ℕ) → fits-lts.Need-mul-same (fits-calls t) (fits-at t) fits.Post fits-Inv-loop fits-μ-loop
-fits-mul-same t c = let v = variable-small (turn t (c .before .before .before .before .before .before)) (is-variable t (c .before .before .before)) (c .before .before .entry2 .ensures) in omega arith
-
-fits-array-read-same : (t : ℕ) → fits-lts.Need-array-read-same (fits-calls t) (fits-at t) fits.Post fits-Inv-loop fits-μ-loop
-fits-array-read-same t c = let v = variable-small (turn t (c .before .before .before .before .before .before)) (is-variable t (c .before .before .before)) (c .before .before .entry2 .ensures) in omega arith
+fits-word-of-requires : (t : ℕ) → fits-lts.Need-word-of-requires (fits-calls t) (fits-at t) fits.Post fits-Inv-loop fits-μ-loop
+fits-word-of-requires t c κs = variable-small (turn t (c .before .before .before .before .before .before .before)) (is-variable t (c .before .before .before .before)) (c .before .before .before .entry2 .ensures)
 
 fits-returns-2 : (t : ℕ) → fits-lts.Need-returns-2 (fits-calls t) (fits-at t) fits.Post fits-Inv-loop fits-μ-loop
 fits-returns-2 t c =
     let at-told = c .before in
     let at-same = at-told .before in
-    let at-if3 = at-same .before in
+    let at-word = at-same .before in
+    let at-if3 = at-word .before .before in
     let at-bit = at-if3 .before in
     let at-before = at-bit .before in
     let at-before′ = at-before .before .before .before in
     let at-loop = at-before′ .before .before .before .before in
-    bound-stops (turn t (at-before′ .before)) (at-before′ .if1 .left) (levels t (at-before′ .before)) (is-variable t (at-before .before)) (at-before .entry2 .ensures) (sym (at-bit .bit .ensures) ∙ at-if3 .if3 .taken) _ (λ m. at-same .same .ensures _ (held (at-loop .loop .words)) m) _ (at-told .told .ensures) (c .match .keys2)
+    bound-stops (turn t (at-before′ .before)) (at-before′ .if1 .left) (levels t (at-before′ .before)) (is-variable t (at-before .before)) (at-before .entry2 .ensures) (sym (at-bit .bit .ensures) ∙ at-if3 .if3 .taken) (at-word .word-of .ensures) _ (λ m. at-same .same .ensures _ (held (at-loop .loop .words)) m) _ (at-told .told .ensures) (c .match .keys2)
+
+fits-add-words : (t : ℕ) → fits-lts.Need-add-words (fits-calls t) (fits-at t) fits.Post fits-Inv-loop fits-μ-loop
+fits-add-words t c = let v = variable-small (turn t (c .before .before .before .before .before .before)) (is-variable t (c .before .before .before)) (c .before .before .entry2 .ensures) in omega arith
 
 fits-mul-words : (t : ℕ) → fits-lts.Need-mul-words (fits-calls t) (fits-at t) fits.Post fits-Inv-loop fits-μ-loop
 fits-mul-words t c = let v = variable-small (turn t (c .before .before .before .before .before .before)) (is-variable t (c .before .before .before)) (c .before .before .entry2 .ensures) in omega arith
@@ -213,9 +215,9 @@ pub +fits-spec : {M : Type 1} → statement M
     fits-Inv-loop fits-μ-loop (λ c. search needs) (λ c. search needs) (λ c κs. search needs) (fits-loop-holds t)
     (fits-add-entry t) (fits-entry-requires t) (fits-add-word t) (fits-word-requires t) (λ c κs. search needs)
     (fits-returns t) (λ c. search needs) (fits-kind-requires t) (fits-entry-requires-2 t) (λ c. search needs)
-    (fits-bit-requires t) (λ c. search needs) (fits-mul-same t) (fits-array-read-same t) (λ c. search needs)
+    (fits-bit-requires t) (fits-word-of-requires t) (λ c. search needs)
     (λ c κs. search needs) (λ c κs. search needs) (λ c. search needs) (fits-returns-2 t) (λ c. search needs)
-    (fits-mul-words t) (fits-array-write-words t) (λ c. search needs) (fits-shl-words t) (λ c. search needs)
+    (fits-add-words t) (fits-mul-words t) (fits-array-write-words t) (λ c. search needs) (fits-shl-words t) (λ c. search needs)
     (fits-agree-requires t) (λ c κs. search needs) (fits-returns-3 t) (fits-operands-requires-2 t)
     (λ c κs. search needs) (fits-returns-4 t) (λ c κs. search needs) (λ c. search needs) (fits-fits-requires t)
     (λ c κs. search needs) (λ c. search needs) (fits-returns-5 t) (λ c. search needs) (λ c. search needs)

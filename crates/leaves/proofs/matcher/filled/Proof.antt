@@ -8,8 +8,9 @@ use native.Mathlib.Omega.{arith}
 use borrow.Author.Needs.{needs}
 use borrow.Author.Tests.{not-true, not-false}
 use lib.ListN.{length}
+use Rattle.checks.specs.Kinds.{variables}
 use Rattle.checks.specs.Good.{kindOf, operandCount}
-use Rattle.leaves.specs.Record.{held}
+use Rattle.leaves.specs.Record.{recordLong, held}
 use Rattle.leaves.specs.Visits.{agreeing}
 use Rattle.leaves.proofs.Telling.{done-node}
 use Rattle.leaves.proofs.Matching.{Turn, Going, going-none, going-turn, going-on, going-long, going-down, matched-all, operand-is, variable-small, constructor-is, fits-units, inner-stopped, free-matched, bound-matched, bound-stops, other, leaf-matched, handed, inner-matched, inner-refused}
@@ -18,7 +19,7 @@ use Rattle.leaves.proofs.matcher.filled.Tie as tie
 
 abbrev Inv-loop : tie.InvT-loop
 Inv-loop table store st₀ p s deep x₀ t₀ u₀ d₀ n₀ i₀ st x t u d n i =
-    (i ≤ n) × (n ≡ operandCount table x) × (u < 4294967296) × (0 < d) × (length st ≡ 34) × Going table store deep p s st₀ d x t st u i
+    (i ≤ n) × (n ≡ operandCount table x) × (u < 4294967296) × (0 < d) × (length st ≡ recordLong) × Going table store deep p s st₀ d x t st u i
 
 abbrev μ-loop : tie.MeasureT-loop
 μ-loop table store st₀ p s deep x₀ t₀ u₀ d₀ n₀ i₀ st x t u d n i = 7 * d + (n - i)
@@ -41,7 +42,7 @@ levels c e = omega (arith, c .before .before .before .loop .inv .3)
 is-variable : (c : tie.Then2 Inv-loop μ-loop) → kindOf (c .before .before .before .before .before .before .before .before .before .args .table .now) (c .before .before .before .before .entry .result) ≡ 18
 is-variable c = sym (c .before .kind .ensures) ∙ c .if2 .taken
 
-small : (c : tie.After-entry2 Inv-loop μ-loop) → c .entry2 .result < 32
+small : (c : tie.After-entry2 Inv-loop μ-loop) → c .entry2 .result < variables
 small c = variable-small (turn (c .before .before .before .before)) (is-variable (c .before)) (c .entry2 .ensures)
 
 is-constructor : (c : tie.Else2 Inv-loop μ-loop) → kindOf (c .before .before .before .before .before .before .before .before .before .args .table .now) (c .before .before .before .before .entry .result) ≡ 19
@@ -80,22 +81,20 @@ entry-requires-2 c κs = (operand-is (turn (c .before .before .before)) .0, omeg
 bit-requires : tie.Need-bit-requires Inv-loop μ-loop
 bit-requires c κs = small (c .before)
 
-mul-same : tie.Need-mul-same Inv-loop μ-loop
-mul-same c = let v = small (c .before .before .before) in omega arith
-
-element-copy-out-same : tie.Need-element-copy-out-same Inv-loop μ-loop
-element-copy-out-same c = let v = small (c .before .before .before) in omega arith
+word-of-requires : tie.Need-word-of-requires Inv-loop μ-loop
+word-of-requires c κs = small (c .before .before .before .before)
 
 returns-2 : tie.Need-returns-2 Inv-loop μ-loop
 returns-2 c =
     let at-told = c .before in
     let at-same = at-told .before in
-    let at-if3 = at-same .before .before in
+    let at-word = at-same .before in
+    let at-if3 = at-word .before .before in
     let at-bit = at-if3 .before in
     let at-before = at-bit .before .before in
     let at-before′ = at-before .before .before .before in
     let at-loop = at-before′ .before .before .before .before in
-    at-loop .loop .inv .5 .whole _ _ (bound-stops (turn (at-before′ .before)) (at-before′ .if1 .left) (levels (at-before′ .before)) (is-variable (at-before .before)) (at-before .entry2 .ensures) (sym (at-bit .bit .ensures) ∙ at-if3 .if3 .taken) _ (λ m. at-same .same .ensures _ (held (at-loop .loop .st)) m) _ (at-told .told .ensures) (c .match .keys2))
+    at-loop .loop .inv .5 .whole _ _ (bound-stops (turn (at-before′ .before)) (at-before′ .if1 .left) (levels (at-before′ .before)) (is-variable (at-before .before)) (at-before .entry2 .ensures) (sym (at-bit .bit .ensures) ∙ at-if3 .if3 .taken) (at-word .word-of .ensures) _ (λ m. at-same .same .ensures _ (held (at-loop .loop .st)) m) _ (at-told .told .ensures) (c .match .keys2))
 
 loop-less : tie.Need-loop-less Inv-loop μ-loop
 loop-less c = omega arith
@@ -105,14 +104,15 @@ loop-again c =
     let at-left = c .before in
     let at-told = at-left .before .before in
     let at-same = at-told .before in
-    let at-if3 = at-same .before .before in
+    let at-word = at-same .before in
+    let at-if3 = at-word .before .before in
     let at-bit = at-if3 .before in
     let at-before = at-bit .before .before in
     let at-before′ = at-before .before .before .before in
     let at-loop = at-before′ .before .before .before .before in
     let l = at-loop .loop .inv in
-    let f = bound-matched (turn (at-before′ .before)) (at-before′ .if1 .left) (levels (at-before′ .before)) (is-variable (at-before .before)) (at-before .entry2 .ensures) (sym (at-bit .bit .ensures) ∙ at-if3 .if3 .taken) _ (λ m. at-same .same .ensures _ (held (at-loop .loop .st)) m) _ (at-told .told .ensures) _ _ (at-left .left .given .1) in
-    (omega arith, l .1, omega (arith, done-node _ _ _ (sym (at-told .told .ensures) ∙ at-left .left .given .1)), l .3, going-long (l .5) (l .4) f, going-on (l .5) f)
+    let f = bound-matched (turn (at-before′ .before)) (at-before′ .if1 .left) (levels (at-before′ .before)) (is-variable (at-before .before)) (at-before .entry2 .ensures) (sym (at-bit .bit .ensures) ∙ at-if3 .if3 .taken) (at-word .word-of .ensures) _ (λ m. at-same .same .ensures _ (held (at-loop .loop .st)) m) _ (at-told .told .ensures) _ _ (at-left .left .given .1) in
+    (omega (arith, at-before′ .before .before .before .loop-test .taken), l .1, omega (arith, done-node _ _ _ (sym (at-told .told .ensures) ∙ at-left .left .given .1)), l .3, going-long (l .5) (l .4) f, going-on (l .5) f)
 
 put-variable-requires : tie.Need-put-variable-requires Inv-loop μ-loop
 put-variable-requires c κs = small (c .before .before .before .before)
@@ -234,7 +234,7 @@ filled-spec =
     (tie.spec
     Inv-loop μ-loop (λ c. search needs) (λ c. search needs) (λ c κs. search needs) loop-holds add-entry entry-requires
     add-word word-requires (λ c κs. search needs) returns (λ c. search needs) add-i kind-requires entry-requires-2
-    (λ c. search needs) bit-requires (λ c. search needs) mul-same element-copy-out-same (λ c. search needs)
+    (λ c. search needs) bit-requires word-of-requires (λ c. search needs)
     (λ c κs. search needs) (λ c κs. search needs) (λ c. search needs) returns-2 loop-less loop-again
     put-variable-requires loop-less-2 loop-again-2 agree-requires (λ c κs. search needs) returns-3 operands-requires-2
     (λ c κs. search needs) returns-4 (λ c. search needs) loop-less-3 loop-again-3 (λ c κs. search needs)

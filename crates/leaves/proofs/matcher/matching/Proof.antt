@@ -4,6 +4,7 @@ use Prim.Native.Nat.{_<_}
 use native.Mathlib.Omega.{arith}
 use mathlib.Core.Bool.{true}
 use borrow.Author.Tests.{not-true, not-false}
+use Rattle.checks.specs.Kinds.{variables}
 use Rattle.checks.specs.Good.{kindOf}
 use Rattle.leaves.specs.Answers.{nodeIn}
 use Rattle.leaves.specs.Record.{markOf, held}
@@ -18,7 +19,7 @@ use Rattle.leaves.proofs.matcher.matching.Tie as tie
 is-variable : (c : tie.After-entry) → kindOf (c .before .before .before .before .before .before .args .table .now) (c .before .before .before .before .before .before .args .p) ≡ 18
 is-variable c = sym (c .before .before .kind .ensures) ∙ c .before .if3 .taken
 
-small : (c : tie.After-entry) → c .entry .result < 32
+small : (c : tie.After-entry) → c .entry .result < variables
 small c = root-small (c .before .before .before .before .before .before .pre .0) (c .before .before .before .before .before .before .args .deep) (c .before .before .before .before .if1 .left) (c .before .before .before .if2 .left) (is-variable c) (c .entry .ensures)
 
 -- a constructor, which agrees with the node's
@@ -37,35 +38,37 @@ returns-2 c = root-nesting (c .before .before .before .before .pre .0) _ (c .no-
 bit-requires : tie.Need-bit-requires
 bit-requires c κs = small (c .before)
 
-element-copy-out-same : tie.Need-element-copy-out-same
-element-copy-out-same c = let v = small (c .before .before .before) in omega arith
+word-of-requires : tie.Need-word-of-requires
+word-of-requires c κs = small (c .before .before .before .before)
 
 returns-3 : tie.Need-returns-3
 returns-3 c =
     let at-told = c .before in
     let at-same = at-told .before in
-    let at-if4 = at-same .before .before in
+    let at-word = at-same .before in
+    let at-if4 = at-word .before .before in
     let at-bit = at-if4 .before in
     let at-before = at-bit .before in
     let at-entry = at-before .before in
     let at-if2 = at-entry .before .before .before in
     let at-if1 = at-if2 .before in
     let start = at-if1 .before .before in
-    root-bound-stops (start .pre .0) _ (at-if1 .if1 .left) (at-if2 .if2 .left) (is-variable (at-before .before)) (at-entry .entry .ensures) (sym (at-bit .bit .ensures) ∙ at-if4 .if4 .taken) _ (at-same .same .ensures _ (held (start .args .st .now)) (markOf (start .args .st .now))) _ (at-told .told .ensures) (c .match .keys2)
+    root-bound-stops (start .pre .0) _ (at-if1 .if1 .left) (at-if2 .if2 .left) (is-variable (at-before .before)) (at-entry .entry .ensures) (sym (at-bit .bit .ensures) ∙ at-if4 .if4 .taken) (at-word .word-of .ensures) _ (at-same .same .ensures _ (held (start .args .st .now)) (markOf (start .args .st .now))) _ (at-told .told .ensures) (c .match .keys2)
 
 returns-4 : tie.Need-returns-4
 returns-4 c =
     let at-u = c .before .before in
     let at-told = at-u .before .before in
     let at-same = at-told .before in
-    let at-if4 = at-same .before .before in
+    let at-word = at-same .before in
+    let at-if4 = at-word .before .before in
     let at-bit = at-if4 .before in
     let at-before = at-bit .before in
     let at-entry = at-before .before in
     let at-if2 = at-entry .before .before .before in
     let at-if1 = at-if2 .before in
     let start = at-if1 .before .before in
-    root-bound (start .pre .0) _ (at-if1 .if1 .left) (at-if2 .if2 .left) (is-variable (at-before .before)) (at-entry .entry .ensures) (sym (at-bit .bit .ensures) ∙ at-if4 .if4 .taken) _ (at-same .same .ensures _ (held (start .args .st .now)) (markOf (start .args .st .now))) _ (at-told .told .ensures) _ _ _ (at-u .u .given .1) (c .done .ensures)
+    root-bound (start .pre .0) _ (at-if1 .if1 .left) (at-if2 .if2 .left) (is-variable (at-before .before)) (at-entry .entry .ensures) (sym (at-bit .bit .ensures) ∙ at-if4 .if4 .taken) (at-word .word-of .ensures) _ (at-same .same .ensures _ (held (start .args .st .now)) (markOf (start .args .st .now))) _ (at-told .told .ensures) _ _ _ (at-u .u .given .1) (c .done .ensures)
 
 bind-requires : tie.Need-bind-requires
 bind-requires c κs = let v = small (c .before .before .before .before) in omega arith
@@ -149,8 +152,8 @@ matching-spec =
     tie.close
     (tie.spec
     (λ c. search needs) (λ c κs. search needs) returns (λ c κs. search needs) returns-2 (λ c. search needs)
-    (λ c κs. search needs) (λ c κs. search needs) (λ c. search needs) bit-requires (λ c. search needs)
-    (λ c. search needs) element-copy-out-same (λ c. search needs) (λ c. search needs) (λ c κs. search needs)
+    (λ c κs. search needs) (λ c κs. search needs) (λ c. search needs) bit-requires
+    word-of-requires (λ c. search needs) (λ c. search needs) (λ c κs. search needs)
     (λ c κs. search needs) (λ c. search needs) returns-3 (λ c κs. search needs) returns-4 bind-requires
     (λ c. search needs) returns-5 (λ c κs. search needs) (λ c. search needs) (λ c κs. search needs) returns-6
     (λ c κs. search needs) (λ c. search needs) returns-7 (λ c. search needs) (λ c κs. search needs) returns-8

@@ -40,6 +40,7 @@ use denote.Triple.Statement.{Contract, Triple}
 use denote.Triple.Table.{entered, cited}
 use denote.Triple.Walked.{says, needs, Stays, stay-none, walkOf, AllGo, goes-none, Walks, ends-at, walked, walk-meets}
 use denote.Exit.{yes}
+use Rattle.checks.specs.Kinds.{variables}
 use Rattle.leaves.specs.declared.record.Bindings.{Bindings}
 use Rattle.leaves.specs.Record.{bound}
 use Rattle.leaves.proofs.record.Bindings as T
@@ -93,7 +94,7 @@ module _ {M : Type 1} (𝓤 : URA M) (H : Heap 𝓤) (A : Atoms 𝓤) (at-mem : 
       fact-use 𝓤 (ws .0 .words ≡ bound (now (a .0) .words) (a .1 .0) (a .1 .1 .0)) (snd∗ 𝓤 L E) (λ e.
       subst (λ (ys : List ℕ). ent 𝓤 (sep 𝓤 L E) (A .res (name (a .0)) (T.the-row .coded .code (record { words = ys })))) e (via 𝓤 L (fst∗ 𝓤 L E) (fst∗ 𝓤 (A .res (name (a .0)) (T.the-row .coded .code (ws .0))) (sem 𝓤 H A (fsep ftrue (fsep ftrue ftrue)))))))
 
-module _ {M : Type 1} (𝓤 : URA M) (H : Heap 𝓤) (A : Atoms 𝓤) (W : Given 𝓤 H A) (at-mem : Memory → SProp 𝓤) (run : Routine → Fun 𝓤) (h : Bindings) (n t : ℕ) (below : n < 32) (is : Sound h) (fits-n : n < 2 ^ 32) (fits-t : t < 2 ^ 32) where
+module _ {M : Type 1} (𝓤 : URA M) (H : Heap 𝓤) (A : Atoms 𝓤) (W : Given 𝓤 H A) (at-mem : Memory → SProp 𝓤) (run : Routine → Fun 𝓤) (h : Bindings) (n t : ℕ) (below : n < variables) (is : Sound h) (fits-n : n < 2 ^ 32) (fits-t : t < 2 ^ 32) where
   abbrev x : Bindings × (ℕ × (ℕ × Unit {0}))
   x = (h, (n, (t, tt)))
 
@@ -158,7 +159,7 @@ module _ {M : Type 1} (𝓤 : URA M) (H : Heap 𝓤) (A : Atoms 𝓤) (W : Given
 module _ {M : Type 1} (𝓤 : URA M) (H : Heap 𝓤) (A : Atoms 𝓤) (W : Given 𝓤 H A) (at-mem : Memory → SProp 𝓤) (run : Routine → Fun 𝓤) where
   bind-walks : (C : Calls 𝓤 H) (Λ : Loops 𝓤 H) → FmC 𝓤 H (W .laws) C → Triple 𝓤 (C #leaves·record·set-variable) (Set 𝓤 H A at-mem run) → Walks 𝓤 H A f.ended stayed (WpFn 𝓤 H C Λ code.function) (f.clauses 𝓤 H A at-mem run)
   bind-walks C Λ fm known = walked 𝓤 H A f.ended stayed (f.clauses 𝓤 H A at-mem run) (WpFn 𝓤 H C Λ code.function) (λ κs. ((λ d. T′.lowered d ∷ []), (uint-vals w32, (uint-vals w32, tt)))) (λ κs. (T′.lowers .val-is, (uint-tells w32, (uint-tells w32, tt))))
-      (λ κs qs bounds a _ are. needs 𝓤 (a .1 .0 < 32) _ (λ below. walk 𝓤 H A W at-mem run (a .0) (a .1 .0) (a .1 .1 .0) below (are .0) (are .1 .0 .1) (are .1 .1 .0 .1) C Λ fm known))
+      (λ κs qs bounds a _ are. needs 𝓤 (a .1 .0 < variables) _ (λ below. walk 𝓤 H A W at-mem run (a .0) (a .1 .0) (a .1 .1 .0) below (are .0) (are .1 .0 .1) (are .1 .1 .0 .1) C Λ fm known))
 
   goes : AllGo 𝓤 H A W 0 (f.signature .params) (f.ended .kept) stayed
   goes = (goes-none 𝓤 H A W 0 (λ _. T.the-row) yes (λ κs x f. refl), (goes-none 𝓤 H A W 0 (λ _. u32) yes (λ κs x f. refl), (goes-none 𝓤 H A W 0 (λ _. u32) yes (λ κs x f. refl), tt)))

@@ -10,4 +10,6 @@ returns c = set-bound _ _ _ (c .before .pre)
 pub put-variable-spec : {M : Type 1} → statement M
 put-variable-spec =
     tie.close
-    (tie.spec (λ c. search needs) (λ c. search needs) (λ c. search needs) (λ c. search needs) (λ c. search needs) returns)
+    (tie.spec
+    (λ c. search needs) (λ c. search needs) (λ c. search needs) (λ c. search needs) (λ c. search needs) (λ c. search needs)
+    returns)

@@ -1,5 +1,5 @@
 use Prim.Native.Nat.{ℕ, _+_, _-_, _≤_}
-use mathlib.Core.Path.{_≡_, sym, _∙_, subst}
+use mathlib.Core.Path.{_≡_, ap, sym, _∙_, subst}
 use mathlib.Core.List.{List}
 use mathlib.Core.Logic.{⊎-elim}
 use borrow.Author.Needs.{needs}
@@ -22,16 +22,20 @@ abbrev μ-loop : tie.MeasureT-loop
 loop-holds : tie.Need-loop-holds Inv-loop μ-loop
 loop-holds c = (omega arith, written-none (held (c .before .args .t2)) (c .before .args .bindings .now) (c .before .pre .0))
 
+word-of-requires : tie.Need-word-of-requires Inv-loop μ-loop
+word-of-requires c κs = omega arith
+
 add-bindings : tie.Need-add-bindings Inv-loop μ-loop
 add-bindings c =
+    let at-if = c .before .before in
+    let at-bit = at-if .before in
+    let at-loop = at-bit .before .before in
+    let start = at-loop .before .before in
     omega (
       arith,
-      c .before .before .before .before .before .pre .1 _ _
-          (held-some
-          (c .before .before .before .before .before .args .t2)
-          (c .before .before .before .loop .v)
-          (omega arith)
-          (sym (c .before .bit .ensures) ∙ c .if1 .taken)),
+      c .word-of .ensures,
+      start .pre .1 _ _
+          (held-some (start .args .t2) (at-loop .loop .v) (omega arith) (sym (at-bit .bit .ensures) ∙ at-if .if1 .taken)),
     )
 
 loop-again : tie.Need-loop-again Inv-loop μ-loop
@@ -42,11 +46,12 @@ loop-again c =
       omega arith,
       ⊎-elim
           (λ w.
-          rw (w .1)
+          rw (w .3)
           (written-more _ _ _ _
           (at-loop .loop .inv .1)
           (omega arith)
-          (word-some
+          (ap (λ (x : ℕ). x + 1) (w .2 .ensures)
+          ∙ word-some
           (start .args .t2)
           (at-loop .loop .v)
           (omega arith)
@@ -70,6 +75,6 @@ pub closed-spec : {M : Type 1} → statement M
 closed-spec =
     tie.close
     (tie.spec
-    Inv-loop μ-loop (λ c. search needs) loop-holds (λ c. search needs) (λ c κs. search needs) (λ c. search needs)
-    (λ c. search needs) add-bindings (λ c. search needs) (λ c. search needs) (λ c. search needs) (λ c. search needs)
-    (λ c. search needs) (λ c. search needs) loop-again (λ c. search needs) returns)
+    Inv-loop μ-loop (λ c. search needs) loop-holds (λ c. search needs) (λ c κs. search needs) word-of-requires
+    add-bindings (λ c. search needs) (λ c. search needs) (λ c. search needs) (λ c. search needs) (λ c. search needs)
+    (λ c. search needs) loop-again (λ c. search needs) returns)

@@ -50,6 +50,7 @@ use Rattle.leaves.proofs.reading.kind.Reads as kind-reads
 use Rattle.leaves.proofs.reading.row.Reads as row-reads
 use Rattle.leaves.proofs.record.hide.Reads as hide-reads
 use Rattle.leaves.proofs.record.put_back.Reads as put-back-reads
+use Rattle.leaves.proofs.record.restore.Reads as restore-reads
 use Rattle.cycle.proofs.skipping.skipped.Reads as skipped-reads
 use Rattle.cycle.proofs.visits.at.Reads as at-reads
 use Rattle.cycle.proofs.visits.beyond.Reads as beyond-reads
@@ -160,7 +161,7 @@ abbrev pub walk-below : ℕ → In 3 walk-kinds.ps
 walk-below t = and 3 walk-kinds.ps (falls 3 walk-kinds.ps _<_ μ-walk t) walk.Pre
 
 abbrev pub walk-calls : ℕ → walk-lts.Claims
-walk-calls t = (kind-reads.Asked, kind-reads.Learnt, count-reads.Asked, count-reads.Learnt, word-reads.Asked, word-reads.Learnt, leap-reads.Asked, leap-reads.Learnt, landing-reads.Asked, landing-reads.Learnt, no-units-reads.Asked, no-units-reads.Learnt, saved-reads.Asked, saved-reads.Learnt, operand-reads.Asked, operand-reads.Learnt, done-reads.Asked, done-reads.Learnt, apply-below t, apply.Post, hear-reads.Asked, hear-reads.Learnt, at-reads.Asked, at-reads.Learnt, beyond-reads.Asked, beyond-reads.Learnt, finish-reads.Asked, finish-reads.Learnt)
+walk-calls t = (kind-reads.Asked, kind-reads.Learnt, count-reads.Asked, count-reads.Learnt, word-reads.Asked, word-reads.Learnt, leap-reads.Asked, leap-reads.Learnt, landing-reads.Asked, landing-reads.Learnt, no-units-reads.Asked, no-units-reads.Learnt, saved-reads.Asked, saved-reads.Learnt, operand-reads.Asked, operand-reads.Learnt, done-reads.Asked, done-reads.Learnt, apply-below t, apply.Post, hear-reads.Asked, hear-reads.Learnt, restore-reads.Asked, restore-reads.Learnt, at-reads.Asked, at-reads.Learnt, beyond-reads.Asked, beyond-reads.Learnt, finish-reads.Asked, finish-reads.Learnt)
 
 abbrev pub scope-calls : ℕ → scope-lts.Claims
 scope-calls t = (entry-reads.Asked, entry-reads.Learnt, hiding-below t, hiding.Post, apply-below t, apply.Post, hide-reads.Asked, hide-reads.Learnt)
@@ -172,13 +173,13 @@ abbrev pub path-calls : ℕ → path-lts.Claims
 path-calls t = (entry-reads.Asked, entry-reads.Learnt, failure-reads.Asked, failure-reads.Learnt, count-reads.Asked, count-reads.Learnt, word-reads.Asked, word-reads.Learnt, done-reads.Asked, done-reads.Learnt, apply-below t, apply.Post, told-reads.Asked, told-reads.Learnt, row-reads.Asked, row-reads.Learnt, node-reads.Asked, node-reads.Learnt)
 
 abbrev pub one-calls : ℕ → one-lts.Claims
-one-calls t = (count-reads.Asked, count-reads.Learnt, entry-reads.Asked, entry-reads.Learnt, word-reads.Asked, word-reads.Learnt, done-reads.Asked, done-reads.Learnt, apply-below t, apply.Post, hear-reads.Asked, hear-reads.Learnt, row-reads.Asked, row-reads.Learnt, node-reads.Asked, node-reads.Learnt, failure-reads.Asked, failure-reads.Learnt)
+one-calls t = (count-reads.Asked, count-reads.Learnt, entry-reads.Asked, entry-reads.Learnt, word-reads.Asked, word-reads.Learnt, done-reads.Asked, done-reads.Learnt, apply-below t, apply.Post, hear-reads.Asked, hear-reads.Learnt, row-reads.Asked, row-reads.Learnt, node-reads.Asked, node-reads.Learnt, restore-reads.Asked, restore-reads.Learnt, failure-reads.Asked, failure-reads.Learnt)
 
 abbrev pub hiding-calls : ℕ → hiding-lts.Claims
 hiding-calls t = (entry-reads.Asked, entry-reads.Learnt, hide-reads.Asked, hide-reads.Learnt, apply-below t, apply.Post, put-back-reads.Asked, put-back-reads.Learnt)
 
 abbrev pub guard-calls : ℕ → guard-lts.Claims
-guard-calls t = (entry-reads.Asked, entry-reads.Learnt, apply-below t, apply.Post, hear-reads.Asked, hear-reads.Learnt, kind-reads.Asked, kind-reads.Learnt, done-reads.Asked, done-reads.Learnt, failure-reads.Asked, failure-reads.Learnt)
+guard-calls t = (entry-reads.Asked, entry-reads.Learnt, apply-below t, apply.Post, hear-reads.Asked, hear-reads.Learnt, restore-reads.Asked, restore-reads.Learnt, kind-reads.Asked, kind-reads.Learnt, done-reads.Asked, done-reads.Learnt, failure-reads.Asked, failure-reads.Learnt)
 
 abbrev pub cong-calls : ℕ → cong-lts.Claims
 cong-calls t = (agree-reads.Asked, agree-reads.Learnt, failure-reads.Asked, failure-reads.Learnt, walk-below t, walk.Post)
@@ -187,7 +188,7 @@ abbrev pub aside-calls : ℕ → aside-lts.Claims
 aside-calls t = (entry-reads.Asked, entry-reads.Learnt, apply-below t, apply.Post, told-reads.Asked, told-reads.Learnt, done-reads.Asked, done-reads.Learnt)
 
 abbrev pub turns-calls : ℕ → turns-lts.Claims
-turns-calls t = (no-units-reads.Asked, no-units-reads.Learnt, no-nesting-reads.Asked, no-nesting-reads.Learnt, kind-reads.Asked, kind-reads.Learnt, entry-reads.Asked, entry-reads.Learnt, apply-below t, apply.Post, told-reads.Asked, told-reads.Learnt, skipped-reads.Asked, skipped-reads.Learnt, turns-below t, turns.Post, done-reads.Asked, done-reads.Learnt, rule-below t, rule.Post)
+turns-calls t = (no-units-reads.Asked, no-units-reads.Learnt, no-nesting-reads.Asked, no-nesting-reads.Learnt, kind-reads.Asked, kind-reads.Learnt, entry-reads.Asked, entry-reads.Learnt, apply-below t, apply.Post, told-reads.Asked, told-reads.Learnt, skipped-reads.Asked, skipped-reads.Learnt, turns-below t, turns.Post, restore-reads.Asked, restore-reads.Learnt, done-reads.Asked, done-reads.Learnt, rule-below t, rule.Post)
 
 abbrev pub apply-calls : ℕ → apply-lts.Claims
 apply-calls t = (kind-reads.Asked, kind-reads.Learnt, turns-below t, turns.Post, no-units-reads.Asked, no-units-reads.Learnt, no-nesting-reads.Asked, no-nesting-reads.Learnt, count-reads.Asked, count-reads.Learnt, walk-below t, walk.Post)

@@ -23,7 +23,7 @@ hiding-apply-requires t c κs =
 pub hiding-returns : (t : ℕ) → hiding-lts.Need-returns (hiding-calls t) (hiding-at t) hiding.Post
 hiding-returns t c =
     let at-put-back = c .before .before in
-    let at-apply = at-put-back .before .before .before .before in
+    let at-apply = at-put-back .before .before .before .before .before in
     let at-entry2 = at-apply .before in
     let at-hide = at-entry2 .before .before .before in
     let at-entry = at-hide .before .before .before .before in

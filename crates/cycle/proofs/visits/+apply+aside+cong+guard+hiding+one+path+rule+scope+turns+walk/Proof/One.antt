@@ -69,11 +69,12 @@ one-returns-2 t c =
     gives-one _ (start .pre .1 .0) (at-loop .loop .inv) (at-loop-test .loop-test .taken) (at-word .word .ensures) (at-done .done .ensures) (at-apply .apply .ensures) (at-hear .hear .ensures) (at-yes .yes .given .1) (at-if1 .if1 .taken) (at-row .row .ensures) (at-node .node .ensures)
 
 pub one-loop-less : (t : ℕ) → one-lts.Need-loop-less (one-calls t) (one-at t) one.Post one-Inv-loop one-μ-loop
-one-loop-less t c = omega (arith, c .before .before .before .before .before .before .before .before .before .before .before .before .before .loop-test .taken)
+one-loop-less t c = omega (arith, c .before .before .before .before .before .before .before .before .before .before .before .before .before .before .before .loop-test .taken)
 
 pub one-loop-again : (t : ℕ) → one-lts.Need-loop-again (one-calls t) (one-at t) one.Post one-Inv-loop one-μ-loop
 one-loop-again t c =
-    let at-yes = c .before .before in
+    let at-if1 = c .before .before in
+    let at-yes = at-if1 .before .before in
     let at-hear = at-yes .before .before in
     let at-apply = at-hear .before .before .before in
     let at-done = at-apply .before in
@@ -81,7 +82,7 @@ one-loop-again t c =
     let at-loop-test = at-word .before .before .before .before in
     let at-loop = at-loop-test .before in
     let start = at-loop .before .before .before .before .before .before .before in
-    one-again _ (start .pre .1 .0) (at-loop .loop .inv) (at-loop-test .loop-test .taken) (at-word .word .ensures) (at-done .done .ensures) (at-apply .apply .ensures) (at-hear .hear .ensures) (at-yes .yes .given .1) (c .if1 .left)
+    rw (c .restore .ensures) (one-again _ (start .pre .1 .0) (at-loop .loop .inv) (at-loop-test .loop-test .taken) (at-word .word .ensures) (at-done .done .ensures) (at-apply .apply .ensures) (at-hear .hear .ensures) (at-yes .yes .given .1) (at-if1 .if1 .left))
 
 pub one-returns-3 : (t : ℕ) → one-lts.Need-returns-3 (one-calls t) (one-at t) one.Post one-Inv-loop one-μ-loop
 one-returns-3 t c = gives-one-none _ (c .before .before .before .before .before .before .before .before .before .pre .1 .0) (c .before .before .loop .inv) (c .before .loop-test .left) (c .failure .ensures)
@@ -94,5 +95,5 @@ one-closed t =
     (λ c κs. search needs) (one-apply-requires t) (λ c κs. search needs) (λ c. search needs) (λ c. search needs)
     (λ c. search needs) (one-returns t) (λ c κs. search needs) (λ c. search needs) (λ c. search needs)
     (λ c. search needs) (λ c. search needs) (one-node-requires t) (λ c. search needs) (one-returns-2 t)
-    (λ c. search needs) (λ c. search needs) (λ c. search needs) (one-loop-less t) (one-loop-again t)
+    (λ c κs. search needs) (λ c. search needs) (one-loop-less t) (one-loop-again t)
     (λ c κs. search needs) (λ c. search needs) (one-returns-3 t)

@@ -146,21 +146,22 @@ turns-returns-4 t c =
 
 pub turns-cast-done : (t : ℕ) → turns-lts.Need-cast-done (turns-calls t) (turns-at t) turns.Post turns-Inv-loop turns-μ-loop
 turns-cast-done t c =
-    let at-if2 = c .before .before .before .before .before .before .before .before .before .before .before .before .before .before .before .before .before .before .before in
+    let at-if2 = c .before .before .before .before .before .before .before .before .before .before .before .before .before .before .before .before .before .before .before .before .before in
     let at-if1 = at-if2 .before in
     let at-loop = at-if1 .before in
     omega (arith, node-small ((at-loop .loop .inv) .ready .steady) _ (ready-same (at-loop .loop .inv) (at-if1 .if1 .left) (at-if2 .if2 .left) .subject))
 
 pub turns-entry-requires-5 : (t : ℕ) → turns-lts.Need-entry-requires-5 (turns-calls t) (turns-at t) turns.Post turns-Inv-loop turns-μ-loop
-turns-entry-requires-5 t c κs = ((c .before .before .before .before .before .before .before .before .before .before .before .before .before .before .before .before .before .before .before .before .before .before .loop .inv) .ready .inside, omega arith)
+turns-entry-requires-5 t c κs = ((c .before .before .before .before .before .before .before .before .before .before .before .before .before .before .before .before .before .before .before .before .before .before .before .before .loop .inv) .ready .inside, omega arith)
 
 pub turns-loop-less-3 : (t : ℕ) → turns-lts.Need-loop-less-3 (turns-calls t) (turns-at t) turns.Post turns-Inv-loop turns-μ-loop
-turns-loop-less-3 t c = omega (arith, pos _ (c .before .before .before .before .before .before .before .before .before .before .before .before .before .before .before .before .before .before .before .before .before .if2 .left))
+turns-loop-less-3 t c = omega (arith, pos _ (c .before .before .before .before .before .before .before .before .before .before .before .before .before .before .before .before .before .before .before .before .before .before .before .if2 .left))
 
 pub turns-loop-again-3 : (t : ℕ) → turns-lts.Need-loop-again-3 (turns-calls t) (turns-at t) turns.Post turns-Inv-loop turns-μ-loop
 turns-loop-again-3 t c =
     let at-done = c .before in
-    let at-u = at-done .before .before in
+    let at-restore = at-done .before in
+    let at-u = at-restore .before .before .before in
     let at-told2 = at-u .before .before in
     let at-turns = at-told2 .before .before .before in
     let at-entry3 = at-turns .before .before .before .before .before .before .before .before in
@@ -171,7 +172,7 @@ turns-loop-again-3 t c =
     let at-if2 = at-kind .before in
     let at-if1 = at-if2 .before in
     let at-loop = at-if1 .before in
-    left-turn (at-loop .loop .inv) (at-if1 .if1 .left) (at-if2 .if2 .left) (at-entry3 .entry3 .ensures) (at-turns .turns .ensures) (at-told2 .told2 .ensures) (of-two _ _ 5 (at-kind .kind .ensures) (five-up _ (at-match .match .rest .1) (at-if3 .if3 .left)) (at-if4 .if4 .taken)) (c .entry5 .ensures) (at-u .u .given .1) (at-done .done .ensures) (at-turns .turns .kept .1 .0)
+    rw (at-restore .restore .ensures) (left-turn (at-loop .loop .inv) (at-if1 .if1 .left) (at-if2 .if2 .left) (at-entry3 .entry3 .ensures) (at-turns .turns .ensures) (at-told2 .told2 .ensures) (of-two _ _ 5 (at-kind .kind .ensures) (five-up _ (at-match .match .rest .1) (at-if3 .if3 .left)) (at-if4 .if4 .taken)) (c .entry5 .ensures) (at-u .u .given .1) (at-done .done .ensures) (at-turns .turns .kept .1 .0))
 
 pub turns-entry-requires-6 : (t : ℕ) → turns-lts.Need-entry-requires-6 (turns-calls t) (turns-at t) turns.Post turns-Inv-loop turns-μ-loop
 turns-entry-requires-6 t c κs = ((c .before .before .before .before .before .before .before .loop .inv) .ready .inside, omega arith)
@@ -221,6 +222,6 @@ turns-closed t =
     (turns-entry-requires-3 t) (turns-skipped-requires t) (λ c. search needs) (turns-sub-s-2 t)
     (turns-entry-requires-4 t) (turns-loop-less-2 t) (turns-loop-again-2 t) (λ c. search needs) (λ c. search needs)
     (turns-turns-requires t) (λ c κs. search needs) (λ c. search needs) (turns-same-length-4 t) (turns-returns-4 t)
-    (λ c. search needs) (λ c. search needs) (turns-cast-done t) (λ c κs. search needs) (turns-entry-requires-5 t)
+    (λ c κs. search needs) (turns-cast-done t) (λ c κs. search needs) (turns-entry-requires-5 t)
     (turns-loop-less-3 t) (turns-loop-again-3 t) (turns-entry-requires-6 t) (turns-loop-less-4 t) (turns-loop-again-4 t)
     (turns-rule-requires t) (turns-same-length-5 t) (turns-returns-5 t)

@@ -153,7 +153,7 @@ walk-loop-again t c =
     let at-count = at-leap .before .before .before in
     let at-kind = at-count .before .before in
     let start = at-kind .before .before in
-    (⊎-elim (λ j. going-yes (start .pre .1 .0) (start .pre .1 .1) (at-loop .loop .inv .0) (omega (arith, at-count .count .ensures, at-loop-test .loop-test .taken)) refl (at-kind .kind .ensures) (at-word2 .word2 .ensures) refl (leap-gives (start .pre .1 .0) (start .pre .1 .1) (at-loop .loop .inv .0) (omega (arith, at-count .count .ensures, at-loop-test .loop-test .taken)) _ _ (at-leap .leap .ensures) (at-kind .kind .ensures) (at-landing .landing .ensures) (at-operand .operand .ensures) (at-word2 .word2 .ensures) (at-done .done .ensures) (omega (arith, at-if1 .if1 .left)) (at-apply .apply .ensures)) (at-hear .hear .ensures) (at-yes .yes .given .1) (j .0 .taken) (j .1) (j .2) (placed (at-loop .loop .i) _ _ _ (at-loop .loop .a) (at-loop .loop .b) (at-loop .loop .more) (at-at .at .ensures) (at-at2 .at2 .ensures) (c .beyond .ensures) (j .3))) (λ j. going-no (start .pre .1 .0) (start .pre .1 .1) (at-loop .loop .inv .0) (omega (arith, at-count .count .ensures, at-loop-test .loop-test .taken)) refl (at-kind .kind .ensures) (at-word2 .word2 .ensures) refl (leap-gives (start .pre .1 .0) (start .pre .1 .1) (at-loop .loop .inv .0) (omega (arith, at-count .count .ensures, at-loop-test .loop-test .taken)) _ _ (at-leap .leap .ensures) (at-kind .kind .ensures) (at-landing .landing .ensures) (at-operand .operand .ensures) (at-word2 .word2 .ensures) (at-done .done .ensures) (omega (arith, at-if1 .if1 .left)) (at-apply .apply .ensures)) (at-hear .hear .ensures) (at-yes .yes .given .1) (j .0 .left) (at-kind .kind .ensures) (j .1 .left) (at-saved .saved .ensures) (at-saved2 .saved2 .ensures) (j .2) (j .3) (placed (at-loop .loop .i) _ _ _ (at-loop .loop .a) (at-loop .loop .b) (at-loop .loop .more) (at-at .at .ensures) (at-at2 .at2 .ensures) (c .beyond .ensures) (j .4))) (at-if2 .if2 .came), four-still (at-loop .loop .more) (at-loop .loop .i) (at-if2 .if2 .y) (at-loop .loop .inv .1) (c .beyond .ensures))
+    (⊎-elim (λ j. going-yes (start .pre .1 .0) (start .pre .1 .1) (at-loop .loop .inv .0) (omega (arith, at-count .count .ensures, at-loop-test .loop-test .taken)) refl (at-kind .kind .ensures) (at-word2 .word2 .ensures) refl (leap-gives (start .pre .1 .0) (start .pre .1 .1) (at-loop .loop .inv .0) (omega (arith, at-count .count .ensures, at-loop-test .loop-test .taken)) _ _ (at-leap .leap .ensures) (at-kind .kind .ensures) (at-landing .landing .ensures) (at-operand .operand .ensures) (at-word2 .word2 .ensures) (at-done .done .ensures) (omega (arith, at-if1 .if1 .left)) (at-apply .apply .ensures)) (at-hear .hear .ensures) (at-yes .yes .given .1) (j .0 .taken) (j .1) (j .2) (placed (at-loop .loop .i) _ _ _ (at-loop .loop .a) (at-loop .loop .b) (at-loop .loop .more) (at-at .at .ensures) (at-at2 .at2 .ensures) (c .beyond .ensures) (j .3))) (λ j. going-no (start .pre .1 .0) (start .pre .1 .1) (at-loop .loop .inv .0) (omega (arith, at-count .count .ensures, at-loop-test .loop-test .taken)) refl (at-kind .kind .ensures) (at-word2 .word2 .ensures) refl (leap-gives (start .pre .1 .0) (start .pre .1 .1) (at-loop .loop .inv .0) (omega (arith, at-count .count .ensures, at-loop-test .loop-test .taken)) _ _ (at-leap .leap .ensures) (at-kind .kind .ensures) (at-landing .landing .ensures) (at-operand .operand .ensures) (at-word2 .word2 .ensures) (at-done .done .ensures) (omega (arith, at-if1 .if1 .left)) (at-apply .apply .ensures)) (at-hear .hear .ensures) (at-yes .yes .given .1) (j .0 .left) (at-kind .kind .ensures) (j .1 .left) (at-saved .saved .ensures) (at-saved2 .saved2 .ensures) (j .4 ∙ j .3 .ensures) (j .5) (placed (at-loop .loop .i) _ _ _ (at-loop .loop .a) (at-loop .loop .b) (at-loop .loop .more) (at-at .at .ensures) (at-at2 .at2 .ensures) (c .beyond .ensures) (j .6))) (at-if2 .if2 .came), four-still (at-loop .loop .more) (at-loop .loop .i) (at-if2 .if2 .y) (at-loop .loop .inv .1) (c .beyond .ensures))
 
 pub walk-finish-requires : (t : ℕ) → walk-lts.Need-finish-requires (walk-calls t) (walk-at t) walk.Post walk-Inv-loop walk-μ-loop
 walk-finish-requires t c κs =
@@ -184,7 +184,7 @@ walk-closed t =
     (walk-same-length t) (walk-returns t) (walk-add-word t) (walk-word-requires-2 t) (λ c κs. search needs)
     (λ c κs. search needs) (walk-operand-requires t) (λ c κs. search needs) (walk-sub-apply t) (walk-apply-requires t)
     (λ c κs. search needs) (λ c. search needs) (λ c. search needs) (walk-same-length-2 t) (walk-returns-2 t)
-    (walk-same-length-3 t) (walk-returns-3 t) (λ c. search needs) (λ c. search needs) (λ c κs. search needs)
+    (walk-same-length-3 t) (walk-returns-3 t) (λ c κs. search needs) (λ c κs. search needs)
     (λ c κs. search needs) (walk-beyond-requires t) (walk-add-i t) (walk-loop-less t) (walk-loop-again t)
     (λ c. search needs) (λ c. search needs) (λ c. search needs) (λ c. search needs) (walk-finish-requires t)
     (walk-same-length-4 t) (walk-returns-4 t)
