@@ -13,6 +13,7 @@ use Rattle.meaning.specs.Bindings.{Bindings, unbound, masked}
 use Rattle.meaning.specs.Plan.{keep, ret, fail, ask}
 use Rattle.meaning.specs.Rules.{apply, Do}
 use Rattle.meaning.specs.Limits.{lost}
+use Rattle.leaves.specs.Noted.{leftWords}
 use Rattle.leaves.specs.Visits.{plan, ruled, agreeing, Entries}
 use Rattle.cycle.specs.Cycle.{Hinted, Skips}
 use Rattle.leaves.proofs.Asking.{ask-failed}
@@ -44,7 +45,7 @@ module _ {t w : List ℕ} {q k : ℕ} where
           applied t d q k b w m u (λ z. omega arith) (λ z. omega arith)
           ∙ ruled-match t (d - 1) q k b w m (u - 1) p e h
           ∙ differs t (d - 1) p k b w m (u - 1) (λ z. omega arith) (λ z. omega arith) en (operand-inside en inside e) g a
-          ∙ ap (λ v. lost w v) s;
+          ∙ ap (λ v. lost (leftWords w) v) s;
     };
   }
 
@@ -61,7 +62,7 @@ module _ {t w : List ℕ} {q k : ℕ} where
             ∙ rule b m (d - 1) (u - 1)
             ∙ ask-failed t (d - 1) w m (u - 1) (apply x k (c b)) (f b) fail (u - 1 - n) w keep (skips .fails some .is (c b) m (d - 1) (u - 1) (omega arith) (omega arith))
             ∙ failing t (d - 1) w m (u - 1 - n)
-            ∙ ap (λ v. lost w v) s;
+            ∙ ap (λ v. lost (leftWords w) v) s;
       };
     }
 

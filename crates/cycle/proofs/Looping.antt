@@ -10,7 +10,7 @@ use Rattle.words.specs.Words.{wordAt}
 use Rattle.checks.specs.Good.{kindOf}
 use Rattle.meaning.specs.Bindings.{Bindings}
 use Rattle.meaning.specs.Rules.{apply}
-use Rattle.meaning.specs.Store.{Ran}
+use Rattle.leaves.specs.Noted.{Ran}
 use Rattle.meaning.specs.Demands.{Kept, Leaves}
 use denote.Enum.Declared.{tagOf}
 use Rattle.leaves.proofs.answers.Answer.{the-type}

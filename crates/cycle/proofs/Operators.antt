@@ -12,7 +12,7 @@ use Rattle.meaning.specs.Bindings.{Bindings, unbound, masked}
 use Rattle.meaning.specs.Plan.{keep, drop, ret, fail, ask}
 use Rattle.meaning.specs.Rules.{Visit, apply, Do}
 use Rattle.meaning.specs.Limits.{ended, lost, cut, runPlan}
-use Rattle.meaning.specs.Store.{on, stored, Ran}
+use Rattle.leaves.specs.Noted.{on, stored, Ran, leftWords}
 use Rattle.leaves.specs.declared.answers.Answer.{Answer}
 use Rattle.leaves.specs.declared.answers.Answer.the-variants.{Done, Failed, Cut}
 use Rattle.leaves.specs.declared.answers.Heard.{Heard}
@@ -29,7 +29,7 @@ pub ends : (t : List ℕ) (n k : ℕ) (b : Bindings ℕ) (w : List ℕ) (m u : �
 unfolding plan runPlan
 ends t n k b w m u = refl
 
-pub fails : (t : List ℕ) (n : ℕ) (w : List ℕ) (m u : ℕ) → plan t n fail w m u ≡ lost w u
+pub fails : (t : List ℕ) (n : ℕ) (w : List ℕ) (m u : ℕ) → plan t n fail w m u ≡ lost (leftWords w) u
 unfolding plan runPlan
 fails t n w m u = refl
 

@@ -15,7 +15,7 @@ use Rattle.leaves.specs.declared.answers.Heard.the-variants.{Ended, Cut as Off}
 use Rattle.leaves.specs.Answers.{packed, nodeIn, unitsIn, failedWord, toldOf, heardOf}
 use Rattle.leaves.specs.Record.{recordLong, markOf, held, back, Framed}
 use Rattle.meaning.specs.Limits.{lost}
-use Rattle.meaning.specs.Store.{Ran}
+use Rattle.leaves.specs.Noted.{Ran, leftWords}
 use native.Mathlib.Omega.{arith}
 use Rattle.leaves.specs.Visits.{visit, ruled, countOf, noded, Pattern, Gives}
 use Rattle.cycle.specs.Cycle.{finished, Ready, Last}
@@ -97,11 +97,11 @@ module _ {t w st : List ℕ} {e s : ℕ} (n : ℕ) (ready : Ready t w st e s) wh
   }
 
   -- a failure at once
-  pub gives-failure : {r : ℕ} → ruled t n e (nodeIn s) (held st) w (markOf st) (unitsIn s) ≡ lost w (unitsIn s) → r ≡ failedWord (unitsIn s) → Gives (ruled t n e (nodeIn s) (held st) w (markOf st) (unitsIn s)) st r st w
+  pub gives-failure : {r : ℕ} → ruled t n e (nodeIn s) (held st) w (markOf st) (unitsIn s) ≡ lost (leftWords w) (unitsIn s) → r ≡ failedWord (unitsIn s) → Gives (ruled t n e (nodeIn s) (held st) w (markOf st) (unitsIn s)) st r st w
   gives-failure {r} q p = record { is = gave-failed st w r (unitsIn s) p (omega arith) ∙ sym q; frame = framed-refl st }
 
   -- every other kind than those of the rules fails
-  pub ruled-none : {k : ℕ} → k ≡ kindOf t e → (k ≡ 1) ⊎ (17 < k) → ruled t n e (nodeIn s) (held st) w (markOf st) (unitsIn s) ≡ lost w (unitsIn s)
+  pub ruled-none : {k : ℕ} → k ≡ kindOf t e → (k ≡ 1) ⊎ (17 < k) → ruled t n e (nodeIn s) (held st) w (markOf st) (unitsIn s) ≡ lost (leftWords w) (unitsIn s)
   ruled-none {k} q h = ⊎-elim (λ z. ruled-fail t n e (nodeIn s) (held st) w (markOf st) (unitsIn s) k (sym q) z) (λ z. ruled-above t n e (nodeIn s) (held st) w (markOf st) (unitsIn s) (rw q at z)) h
 
 -- the pattern of a MATCH and of a BUILD

@@ -16,7 +16,8 @@ use Rattle.meaning.specs.Table.{operands, six}
 use Rattle.meaning.specs.Plan.{keep, ret, fail, make, ask}
 use Rattle.meaning.specs.Rules.{Visit, apply, Do, zip, when, again, walk, someOf}
 use Rattle.meaning.specs.Limits.{ended, lost, roomFor, runPlan}
-use Rattle.meaning.specs.Store.{on, stored, Ran, children, row}
+use Rattle.meaning.specs.Store.{children, row}
+use Rattle.leaves.specs.Noted.{on, stored, Ran, leftWords}
 use Rattle.meaning.specs.Demands.{Kept, Leaves}
 use Rattle.meaning.proofs.Checked.{node-of-good}
 use Rattle.meaning.proofs.Words.{kept-refl, kept-trans, kept-word}
@@ -38,7 +39,7 @@ use Rattle.cycle.proofs.Operators.{ends, fails, not-caught}
 
 -- a term made anew, and a term without children
 made-anew : (t : List ℕ) (n k c x : ℕ) (gs : List ℕ) (b : Bindings ℕ) (w : List ℕ) (m u : ℕ)
-    → plan t n (again k c (x ∷ gs) b) w m u ≡ roomFor (leb (rows w) m) w u (ended m b (on (putRow w m (row c (x ∷ gs))) (m + 1)) u)
+    → plan t n (again k c (x ∷ gs) b) w m u ≡ roomFor (leb (rows w) m) (leftWords w) u (ended m b (on (putRow w m (row c (x ∷ gs))) (m + 1)) u)
 unfolding plan runPlan again
 made-anew t n k c x gs b w m u = refl
 
@@ -386,7 +387,7 @@ module _ {t w₀ st₀ : List ℕ} {e s deep : ℕ} {w st : List ℕ} {u won : �
   new-node b n be = rw (be, filled-row _ _ (g .done) made (g .made-is) all) (go (g .done) n)
     where
       go : (gs : List ℕ) → (length gs ≡ 0 → ⊥) → plan t deep (again (nodeIn s) (constructorOf w₀ (nodeIn s)) gs (held st)) w (markOf st) u
-          ≡ roomFor (leb (rows w) (markOf st)) w u (ended (markOf st) (held st) (on (putRow w (markOf st) (row (constructorOf w₀ (nodeIn s)) gs)) (markOf st + 1)) u)
+          ≡ roomFor (leb (rows w) (markOf st)) (leftWords w) u (ended (markOf st) (held st) (on (putRow w (markOf st) (row (constructorOf w₀ (nodeIn s)) gs)) (markOf st + 1)) u)
       go [] f = absurd (f refl)
       go (x ∷ gs) f = made-anew t deep (nodeIn s) (constructorOf w₀ (nodeIn s)) x gs (held st) w (markOf st) u
 
@@ -404,7 +405,7 @@ module _ {t w₀ st₀ : List ℕ} {e s deep : ℕ} {w st : List ℕ} {u won : �
     where
       go : (z o m : Bool) → eqb won 0 ≡ o → eqb n 0 ≡ m
           → plan t deep (if z then when (not o) (again (nodeIn s) (constructorOf w₀ (nodeIn s)) (g .done) (held st)) else again (nodeIn s) (constructorOf w₀ (nodeIn s)) (g .done) (held st)) w (markOf st) u
-          ≡ (if z then (if o then lost w u else noded made st w u) else if m then ended (nodeIn s) (held st) (on w (markOf st)) (unitsIn s) else noded made st w u)
+          ≡ (if z then (if o then lost (leftWords w) u else noded made st w u) else if m then ended (nodeIn s) (held st) (on w (markOf st)) (unitsIn s) else noded made st w u)
       go true true m a b = fails t deep w (markOf st) u
       go true false m a b = new-node (held st) (λ f. let l = g .won-later (eqb-false won 0 a) in omega (arith, g .so-far)) refl
       go false o true a b = no-child (all ∙ sym ne ∙ eqb-true n 0 b)

@@ -13,7 +13,8 @@ use Rattle.meaning.specs.Bindings.{Bindings}
 use Rattle.meaning.specs.Table.{operands}
 use Rattle.meaning.specs.Rules.{Visit, apply, Do, does, walk, someOf, again, zip}
 use Rattle.meaning.specs.Limits.{units, nesting, ended, lost, cut}
-use Rattle.meaning.specs.Store.{on, Ran, children}
+use Rattle.meaning.specs.Store.{children}
+use Rattle.leaves.specs.Noted.{on, Ran, leftWords}
 use Rattle.leaves.specs.Answers.{nodeIn, unitsIn}
 use Rattle.leaves.specs.Record.{recordLong, markOf, held}
 use Rattle.leaves.specs.Visits.{countOf, agreeing, visit, ruled, Entries, Steady, Gives, noded}
@@ -26,12 +27,12 @@ pub record Last (k : ℕ) : Type 0 where
 -- entry q applied to node k fails after n visits, where units and nesting are enough for them, whatever the bindings and
 -- the mark
 pub record Fails (t w : List ℕ) (q k n : ℕ) : Type 0 where
-  pub is : (b : Bindings ℕ) (m d u : ℕ) → n ≤ d → n ≤ u → visit t d (apply q k b) w m u ≡ lost w (u - n)
+  pub is : (b : Bindings ℕ) (m d u : ℕ) → n ≤ d → n ≤ u → visit t d (apply q k b) w m u ≡ lost (leftWords w) (u - n)
 
 -- applied to a node, entry x comes to entry y after n visits, where units and nesting are enough for them
 pub record Leads (t : List ℕ) (x y n : ℕ) : Type 0 where
   pub is : (k : ℕ) (b : Bindings ℕ) (w : List ℕ) (m d u : ℕ) → n ≤ d → n ≤ u → visit t d (apply x k b) w m u ≡ visit t (d - n) (apply y k b) w m (u - n)
-  pub short : (k : ℕ) (b : Bindings ℕ) (w : List ℕ) (m d u : ℕ) → n ≤ d → u < n → visit t d (apply x k b) w m u ≡ cut units w 0
+  pub short : (k : ℕ) (b : Bindings ℕ) (w : List ℕ) (m d u : ℕ) → n ≤ d → u < n → visit t d (apply x k b) w m u ≡ cut units (leftWords w) 0
 
 -- entry x fails after n visits on each node whose constructor and count are not entry p's
 pub record Heads (t : List ℕ) (x p n : ℕ) : Type 0 where
@@ -96,5 +97,5 @@ walked t w e k b =
 -- the walk's end: SOME needs a success, and a term without children is returned itself
 unfoldable pub finished : (k won n g : ℕ) → List ℕ → List ℕ → List ℕ → ℕ → Ran
 finished k won n g made st w u =
-    if eqb k 13 then (if eqb won 0 then lost w u else noded made st w u)
+    if eqb k 13 then (if eqb won 0 then lost (leftWords w) u else noded made st w u)
     else if eqb n 0 then ended (nodeIn g) (held st) (on w (markOf st)) (unitsIn g) else noded made st w u

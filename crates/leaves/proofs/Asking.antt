@@ -8,10 +8,10 @@ use native.Mathlib.Omega.{arith}
 use denote.Enum.Declared.{tagOf}
 use Rattle.meaning.specs.Bindings.{Bindings}
 use Rattle.meaning.specs.Table.{table}
-use Rattle.meaning.specs.Plan.{Keep, keep, drop, ret, fail, ask}
+use Rattle.meaning.specs.Plan.{Keep, keep, drop, ret, fail, miss, ask}
 use Rattle.meaning.specs.Rules.{Visit, Do, does}
 use Rattle.meaning.specs.Limits.{Limit, units, nesting, Res, ended, lost, cut, settled, after, runPlan, run}
-use Rattle.meaning.specs.Store.{State, on, stored, Ran}
+use Rattle.leaves.specs.Noted.{State, on, stored, Ran, leftWords}
 use Rattle.leaves.proofs.answers.Answer.{the-type}
 use Rattle.leaves.specs.declared.answers.Answer.{Answer}
 use Rattle.leaves.specs.declared.answers.Answer.the-variants.{Done, Failed, Cut}
@@ -30,7 +30,17 @@ module _ (t : List ℕ) (n : ℕ) (w : List ℕ) (m u : ℕ) where
   unfolding plan visit runPlan after settled
   last q = go (run stored (does (table t)) n q (on w m) u)
     where
-      go : (r : Ran) → after stored keep (on w m) r (λ h b s v. ended h b s v) (λ s v. lost (s .words) v) ≡ r
+      go : (r : Ran) → after stored keep (on w m) r (λ h b s v. ended h b s v) (λ s v. lost (leftWords (s .words)) v) ≡ r
+      go (ended h b s v) = refl
+      go (lost l v) = refl
+      go (cut c l v) = refl
+
+  -- the same of a comparison at whose failure a match gives up
+  pub last-match : (p : ℕ) (q : Visit ℕ) → plan t n (ask keep q ret (miss p)) w m u ≡ visit t n q w m u
+  unfolding plan visit runPlan after settled
+  last-match p q = go (run stored (does (table t)) n q (on w m) u)
+    where
+      go : (r : Ran) → after stored keep (on w m) r (λ h b s v. ended h b s v) (λ s v. lost (leftWords (s .words)) v) ≡ r
       go (ended h b s v) = refl
       go (lost l v) = refl
       go (cut c l v) = refl
@@ -44,11 +54,11 @@ module _ (t : List ℕ) (n : ℕ) (w : List ℕ) (m u : ℕ) where
     unfolding plan visit runPlan after settled
     drop-done x m′ b e = rw e
 
-    pub ask-failed : (d : Keep) → visit t n q w m u ≡ lost w′ v → plan t n (ask d q k p) w m u ≡ plan t n p w′ m v
+    pub ask-failed : (d : Keep) → visit t n q w m u ≡ lost (leftWords w′) v → plan t n (ask d q k p) w m u ≡ plan t n p w′ m v
     unfolding plan visit runPlan after
     ask-failed d e = rw e
 
-    pub ask-cut : (d : Keep) (c : Limit) → visit t n q w m u ≡ cut c w′ v → plan t n (ask d q k p) w m u ≡ cut c w′ v
+    pub ask-cut : (d : Keep) (c : Limit) → visit t n q w m u ≡ cut c (leftWords w′) v → plan t n (ask d q k p) w m u ≡ cut c (leftWords w′) v
     unfolding plan visit runPlan after
     ask-cut d c e = rw e
 

@@ -14,7 +14,8 @@ use Rattle.meaning.specs.Table.{table, operands}
 use Rattle.meaning.specs.Plan.{ret, make}
 use Rattle.meaning.specs.Rules.{build, Do, does, building, given, walk}
 use Rattle.meaning.specs.Limits.{room, roomFor, runPlan}
-use Rattle.meaning.specs.Store.{on, row, Ran}
+use Rattle.meaning.specs.Store.{row}
+use Rattle.leaves.specs.Noted.{on, Ran}
 use Rattle.leaves.specs.declared.answers.Answer.{Answer}
 use Rattle.leaves.specs.declared.answers.Answer.the-variants.{Done}
 use Rattle.leaves.specs.Answers.{toldOf, packed, failedWord, roomWord}

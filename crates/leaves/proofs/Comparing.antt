@@ -11,7 +11,8 @@ use Rattle.meaning.specs.Bindings.{Bindings}
 use Rattle.meaning.specs.Plan.{ret}
 use Rattle.meaning.specs.Rules.{compare, Do, does, comparing, agree, when, walk, zip}
 use Rattle.meaning.specs.Limits.{lost, runPlan}
-use Rattle.meaning.specs.Store.{on, Ran, children}
+use Rattle.meaning.specs.Store.{children}
+use Rattle.leaves.specs.Noted.{on, Ran, leftWords}
 use Rattle.leaves.specs.declared.answers.Answer.{Answer}
 use Rattle.leaves.specs.declared.answers.Answer.the-variants.{Done, Failed, Cut}
 use Rattle.leaves.specs.Answers.{toldOf, packed, failedWord}
@@ -40,7 +41,7 @@ module _ (w : List ℕ) (a b : ℕ) where
   same-count e = part-length w a (wordAt w a 1) ∙ e ∙ sym (part-length w b (wordAt w b 1))
 
   module _ (t : List ℕ) (n : ℕ) (m u : ℕ) (β : Bindings ℕ) (h : u ≡ 0 → ⊥) (d : n ≡ 0 → ⊥) where
-    failed-word : (r : ℕ) → r ≡ failedWord (u - 1) → u < 4294967296 → kept r b β w m ≡ lost w (u - 1)
+    failed-word : (r : ℕ) → r ≡ failedWord (u - 1) → u < 4294967296 → kept r b β w m ≡ lost (leftWords w) (u - 1)
     failed-word r f l = ap (λ r. kept r b β w m) f ∙ kept-failed w w b β m (u - 1) (omega arith)
 
     opened : visit t n (compare a b β) w m u ≡ plan t (n - 1) (when (agree (wordAt w a 0) (children w a) (wordAt w b 0) (children w b)) (pairs w a b 0 [] β)) w m (u - 1)

@@ -13,8 +13,10 @@ use Rattle.checks.specs.Good.{kindOf, operandCount, argumentOf, goodNode}
 use Rattle.meaning.specs.Bindings.{Bindings}
 use Rattle.meaning.specs.Table.{PVAR, PCON, operands, table}
 use Rattle.meaning.specs.Rules.{Visit, apply, build, does}
+use Rattle.meaning.specs.Derivation.{quiet}
 use Rattle.meaning.specs.Limits.{ended, lost, cut, run}
-use Rattle.meaning.specs.Store.{on, stored, Ran, term, termOf, meant}
+use Rattle.meaning.specs.Store.{term, termOf, meant}
+use Rattle.leaves.specs.Noted.{on, stored, Ran}
 use Rattle.meaning.specs.Demands.{Kept, Sound, Leaves}
 use Rattle.meaning.proofs.Alike.{Holdable, Makeable, ORel, o-none, o-some, BRel, QRel, q-apply, q-build}
 use Rattle.meaning.proofs.Checked.{Node, node-of-good, good-of-node, Filled}
@@ -65,11 +67,11 @@ module _ {w : List ℕ} {m : ℕ} {b : Bindings ℕ} (s : Steady w m b) where
   -- what a visit leaves: of an entry applied, and of a pattern built
   pub apply-leaves : (t : List ℕ) → Entries t → (n e k u : ℕ) → k < m → Leaves w m (visit t n (apply e k b) w m u)
   unfolding visit
-  apply-leaves t n d e k u h = alike-value world (together (rows w) (table t) (makeable t n) d world (apply e k b) (apply e (term w k) (meant w b)) u (q-apply (record { below = h; is = refl }) bound-names)) .1
+  apply-leaves t n d e k u h = alike-value world (together (rows w) quiet (table t) (makeable t n) d world (apply e k b) (apply e (term w k) (meant w b)) tt u (q-apply (record { below = h; is = refl }) bound-names)) .1
 
   pub build-leaves : (t : List ℕ) → Entries t → (n p k u : ℕ) → k < m → Leaves w m (visit t n (build p k b) w m u)
   unfolding visit
-  build-leaves t n d p k u h = alike-value world (together (rows w) (table t) (makeable t n) d world (build p k b) (build p (term w k) (meant w b)) u (q-build (record { below = h; is = refl }) bound-names)) .1
+  build-leaves t n d p k u h = alike-value world (together (rows w) quiet (table t) (makeable t n) d world (build p k b) (build p (term w k) (meant w b)) tt u (q-build (record { below = h; is = refl }) bound-names)) .1
 
   -- the store may change above the mark
   pub steady-kept : {w′ : List ℕ} → Kept w m w′ → Steady w′ m b

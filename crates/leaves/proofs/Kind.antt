@@ -9,26 +9,33 @@ use Rattle.checks.specs.Good.{kindOf, operandCount, argumentOf}
 use Rattle.meaning.specs.Bindings.{Bindings}
 use Rattle.meaning.specs.Table.{Strategy, ID, FAIL, TEST, NOT, SEQ, CHOICE, LEFT, REC, CALL, PATH, CONG, ALL, ONE, SOME, MATCH, BUILD, SCOPE, WHERE, Pattern, PVAR, PCON, table, byKind, operands}
 use Rattle.meaning.specs.Rules.{Visit, apply, match, build, Do, does, strategy, matching, building}
-use Rattle.meaning.specs.Limits.{units, nesting, cut, run, runPlan}
-use Rattle.meaning.specs.Store.{on, stored, Ran}
+use Rattle.meaning.specs.Limits.{units, nesting, ended, lost, cut, closed, run, runPlan}
+use Rattle.leaves.specs.Noted.{on, stored, Ran, leftWords}
 use Rattle.leaves.specs.Visits.{visit, plan, ruled}
+
+-- a visit's end is noted, and the quiet ledger keeps nothing of it
+closed-quiet : (q : Visit ℕ) (r : Ran) → closed stored q r ≡ r
+unfolding closed
+closed-quiet q (ended k b s u) = refl
+closed-quiet q (lost l u) = refl
+closed-quiet q (cut c l u) = refl
 
 module _ (t : List ℕ) (n : ℕ) (q : Visit ℕ) (w : List ℕ) (m u : ℕ) where
   -- all units are used
-  pub no-units : u ≡ 0 → visit t n q w m u ≡ cut units w 0
+  pub no-units : u ≡ 0 → visit t n q w m u ≡ cut units (leftWords w) 0
   unfolding visit run
   no-units e = rw e (go n)
     where
-      go : (n : ℕ) → run stored (does (table t)) n q (on w m) 0 ≡ cut units w 0
+      go : (n : ℕ) → run stored (does (table t)) n q (on w m) 0 ≡ cut units (leftWords w) 0
       go zero = refl
       go (suc n) = refl
 
   -- the nesting would be exceeded
-  pub no-nesting : (u ≡ 0 → ⊥) → n ≡ 0 → visit t n q w m u ≡ cut nesting w u
+  pub no-nesting : (u ≡ 0 → ⊥) → n ≡ 0 → visit t n q w m u ≡ cut nesting (leftWords w) u
   unfolding visit run
   no-nesting h e = rw e (go u h)
     where
-      go : (u : ℕ) → (u ≡ 0 → ⊥) → run stored (does (table t)) 0 q (on w m) u ≡ cut nesting w u
+      go : (u : ℕ) → (u ≡ 0 → ⊥) → run stored (does (table t)) 0 q (on w m) u ≡ cut nesting (leftWords w) u
       go zero h = absurd (h refl)
       go (suc u) h = refl
 
@@ -43,7 +50,7 @@ module _ (t : List ℕ) (n : ℕ) (q : Visit ℕ) (w : List ℕ) (m u : ℕ) whe
       go (suc n) (suc u) h k =
           let a : suc n - 1 ≡ n = omega arith in
           let b : suc u - 1 ≡ u = omega arith in
-          rw (a, b)
+          rw (a, b) (closed-quiet q _)
 
 -- an entry's strategy and its pattern, by its kind
 module _ (t : List ℕ) (e : ℕ) where

@@ -15,22 +15,23 @@ use Rattle.checks.specs.Good.{kindOf, operandCount, argumentOf}
 use Rattle.meaning.specs.Bindings.{Bindings, bind}
 use Rattle.meaning.specs.Table.{table, operands}
 use Rattle.meaning.specs.Plan.{ret}
-use Rattle.meaning.specs.Rules.{Visit, match, compare, Do, does, matching, variable, agree, when, walk, zip}
+use Rattle.meaning.specs.Rules.{Visit, match, compare, Do, does, matching, variable, agree, whenAt, walk, zip}
 use Rattle.meaning.specs.Limits.{units, nesting, ended, lost, runPlan}
-use Rattle.meaning.specs.Store.{on, Ran, children}
+use Rattle.meaning.specs.Store.{children}
+use Rattle.leaves.specs.Noted.{on, Ran, leftWords}
 use Rattle.leaves.specs.declared.answers.Answer.{Answer}
 use Rattle.leaves.specs.declared.answers.Answer.the-variants.{Done, Failed, Cut}
 use Rattle.leaves.specs.Answers.{toldOf, packed, nodeIn, unitsIn, failedWord, unitsWord, nestingWord, stoppedWord}
 use Rattle.leaves.specs.Record.{recordLong, wordOf, markOf, maskOf, bitOf, held, bound, Framed}
 use Rattle.leaves.specs.Visits.{countOf, agreeing, visit, plan, meaning, out, giving, kept, Pattern, Entries, Matchable, Gives, Fitting}
 use Rattle.leaves.proofs.Telling.{stopped-units, stopped-nesting, told-stopped, out-done, out-failed, out-told, kept-done, kept-failed, kept-units, kept-nesting, kept-told, node-packed, units-packed, packed-again, done-node}
-use Rattle.leaves.proofs.Asking.{Tagged, last}
+use Rattle.leaves.proofs.Asking.{Tagged, last-match}
 use Rattle.leaves.proofs.Kind.{counted, no-units, no-nesting, pattern-variable, pattern-con}
 use Rattle.leaves.proofs.Keeping.{node-small}
 use Rattle.leaves.proofs.Limited.{units-out, nesting-out}
 use Rattle.leaves.proofs.Holding.{framed-refl, framed-trans, framed-bound, held-bound, mark-bound, held-some, held-none}
 use Rattle.leaves.proofs.Children.{part-next, part-end}
-use Rattle.leaves.proofs.Walking.{walk-end, walk-done, walk-failed, walk-cut, kept-on, kept-stop, returned, failing}
+use Rattle.leaves.proofs.Walking.{walk-end, walk-done, walk-failed, walk-cut, kept-on, kept-stop, returned, missing}
 use Rattle.leaves.proofs.Patterns.{no-variable, operand-pattern, agree-is, agreed-count}
 
 -- the children of node k by the operands of entry p, from the i-th on
@@ -39,19 +40,19 @@ pairs t w p k i gs b = walk (zip match (drop i (operands t p)) (drop i (children
 
 -- a visit of the pattern q on node x
 module _ (t : List ℕ) (n q x : ℕ) (b : Bindings ℕ) (w : List ℕ) (m u : ℕ) (h : u ≡ 0 → ⊥) (d : n ≡ 0 → ⊥) where
-  opened : visit t n (match q x b) w m u ≡ plan t (n - 1) (matching (table t .patterns q) x b) w m (u - 1)
+  opened : visit t n (match q x b) w m u ≡ plan t (n - 1) (matching q (table t .patterns q) x b) w m (u - 1)
   unfolding does
   opened = counted t n (match q x b) w m u h d
 
   -- a variable
   module _ (v : ℕ) (kind : kindOf t q ≡ 18) (ve : v ≡ argumentOf t q) where
-    at-variable : visit t n (match q x b) w m u ≡ plan t (n - 1) (variable (b v) v x b) w m (u - 1)
+    at-variable : visit t n (match q x b) w m u ≡ plan t (n - 1) (variable q (b v) v x b) w m (u - 1)
     unfolding matching
     at-variable = opened ∙ rw (pattern-variable t q kind, ve)
 
     pub variable-bound : (g : ℕ) → b v ≡ some g → visit t n (match q x b) w m u ≡ visit t (n - 1) (compare g x b) w m (u - 1)
     unfolding variable
-    variable-bound g e = at-variable ∙ rw e (last t (n - 1) w m (u - 1) (compare g x b))
+    variable-bound g e = at-variable ∙ rw e (last-match t (n - 1) w m (u - 1) q (compare g x b))
 
     pub variable-free : b v ≡ none → visit t n (match q x b) w m u ≡ ended x (bind v x b) (on w m) (u - 1)
     unfolding variable
@@ -59,19 +60,19 @@ module _ (t : List ℕ) (n q x : ℕ) (b : Bindings ℕ) (w : List ℕ) (m u : �
 
   -- a constructor
   module _ (en : Entries t) (inside : q < 4096) (kind : kindOf t q ≡ 19) where
-    looked : visit t n (match q x b) w m u ≡ plan t (n - 1) (when (agree (argumentOf t q) (operands t q) (wordAt w x 0) (children w x)) (pairs t w q x 0 [] b)) w m (u - 1)
+    looked : visit t n (match q x b) w m u ≡ plan t (n - 1) (whenAt q (agree (argumentOf t q) (operands t q) (wordAt w x 0) (children w x)) (pairs t w q x 0 [] b)) w m (u - 1)
     unfolding matching plan runPlan
     looked = opened ∙ rw (pattern-con t q kind)
 
-    at-constructor : (a : Bool) → agreeing t w q x ≡ a → visit t n (match q x b) w m u ≡ plan t (n - 1) (when a (pairs t w q x 0 [] b)) w m (u - 1)
-    at-constructor a e = looked ∙ ap (λ a. plan t (n - 1) (when a (pairs t w q x 0 [] b)) w m (u - 1)) (agree-is t en w q x inside ∙ e)
+    at-constructor : (a : Bool) → agreeing t w q x ≡ a → visit t n (match q x b) w m u ≡ plan t (n - 1) (whenAt q a (pairs t w q x 0 [] b)) w m (u - 1)
+    at-constructor a e = looked ∙ ap (λ a. plan t (n - 1) (whenAt q a (pairs t w q x 0 [] b)) w m (u - 1)) (agree-is t en w q x inside ∙ e)
 
-    pub differs : agreeing t w q x ≡ false → visit t n (match q x b) w m u ≡ lost w (u - 1)
-    unfolding when
-    differs e = at-constructor false e ∙ failing t (n - 1) w m (u - 1)
+    pub differs : agreeing t w q x ≡ false → visit t n (match q x b) w m u ≡ lost (leftWords w) (u - 1)
+    unfolding whenAt
+    differs e = at-constructor false e ∙ missing t (n - 1) w m (u - 1) q
 
     pub agrees : agreeing t w q x ≡ true → visit t n (match q x b) w m u ≡ plan t (n - 1) (pairs t w q x 0 [] b) w m (u - 1)
-    unfolding when
+    unfolding whenAt
     agrees e = at-constructor true e
 
     pub agrees-leaf : agreeing t w q x ≡ true → operandCount t q ≡ 0 → visit t n (match q x b) w m u ≡ ended x b (on w m) (u - 1)

@@ -11,7 +11,7 @@ use denote.Enum.Declared.{tagOf}
 use Rattle.words.specs.Tests.{if_then_else_}
 use Rattle.meaning.specs.Bindings.{Bindings}
 use Rattle.meaning.specs.Limits.{Limit, units, room, nesting, ended, lost, cut}
-use Rattle.meaning.specs.Store.{on, Ran}
+use Rattle.leaves.specs.Noted.{on, Ran, leftWords}
 use Rattle.leaves.proofs.answers.Answer.{the-type}
 use Rattle.leaves.specs.declared.answers.Answer.{Answer}
 use Rattle.leaves.specs.declared.answers.Answer.the-variants.{Done, Failed, Cut}
@@ -69,7 +69,7 @@ module _ (st w : List ℕ) where
   unfolding out meaning
   out-done x u h l = rw (told-done x u h l)
 
-  pub out-failed : (u : ℕ) → u < 4294967296 → out (failedWord u) st w ≡ lost w u
+  pub out-failed : (u : ℕ) → u < 4294967296 → out (failedWord u) st w ≡ lost (leftWords w) u
   unfolding out meaning
   out-failed u l = rw (told-failed u l)
 
@@ -77,21 +77,21 @@ module _ (st w : List ℕ) where
   pub gave : (r x u : ℕ) → r ≡ packed x u → x < 131072 → u < 4294967296 → out r st w ≡ ended x (held st) (on w (markOf st)) u
   gave r x u e h l = rw e (out-done x u (omega arith) l)
 
-  pub gave-failed : (r u : ℕ) → r ≡ failedWord u → u < 4294967296 → out r st w ≡ lost w u
+  pub gave-failed : (r u : ℕ) → r ≡ failedWord u → u < 4294967296 → out r st w ≡ lost (leftWords w) u
   gave-failed r u e l = rw e (out-failed u l)
 
-  pub out-units : out unitsWord st w ≡ cut units w 0
+  pub out-units : out unitsWord st w ≡ cut units (leftWords w) 0
   unfolding out meaning toldOf limitOf
   out-units = refl
 
-  pub out-room : (u : ℕ) → u < 4294967296 → out (roomWord u) st w ≡ cut room w u
+  pub out-room : (u : ℕ) → u < 4294967296 → out (roomWord u) st w ≡ cut room (leftWords w) u
   unfolding out meaning limitOf
   out-room u l =
       let n : nodeIn (roomWord u) ≡ 4294967293 = omega arith in
       let v : unitsIn (roomWord u) ≡ u = omega arith in
       rw (told-cut (roomWord u) (omega arith) (λ e. omega arith), n, v)
 
-  pub out-nesting : (u : ℕ) → u < 4294967296 → out (nestingWord u) st w ≡ cut nesting w u
+  pub out-nesting : (u : ℕ) → u < 4294967296 → out (nestingWord u) st w ≡ cut nesting (leftWords w) u
   unfolding out meaning limitOf
   out-nesting u l =
       let n : nodeIn (nestingWord u) ≡ 4294967292 = omega arith in
@@ -109,15 +109,15 @@ module _ (st w : List ℕ) where
     unfolding kept giving
     kept-done x u h l = rw (told-done x u h l)
 
-    pub kept-failed : (u : ℕ) → u < 4294967296 → kept (failedWord u) k b w m ≡ lost w u
+    pub kept-failed : (u : ℕ) → u < 4294967296 → kept (failedWord u) k b w m ≡ lost (leftWords w) u
     unfolding kept giving
     kept-failed u l = rw (told-failed u l)
 
-    pub kept-units : kept unitsWord k b w m ≡ cut units w 0
+    pub kept-units : kept unitsWord k b w m ≡ cut units (leftWords w) 0
     unfolding kept giving toldOf limitOf
     kept-units = refl
 
-    pub kept-nesting : (u : ℕ) → u < 4294967296 → kept (nestingWord u) k b w m ≡ cut nesting w u
+    pub kept-nesting : (u : ℕ) → u < 4294967296 → kept (nestingWord u) k b w m ≡ cut nesting (leftWords w) u
     unfolding kept giving limitOf
     kept-nesting u l =
         let n : nodeIn (nestingWord u) ≡ 4294967292 = omega arith in

@@ -5,10 +5,10 @@ use mathlib.Core.Logic.{⊎-elim}
 use Prim.Native.Nat.{ℕ}
 use native.Mathlib.Omega.{arith}
 use Rattle.meaning.specs.Bindings.{Bindings}
-use Rattle.meaning.specs.Plan.{keep, ret, fail}
+use Rattle.meaning.specs.Plan.{keep, ret, fail, miss}
 use Rattle.meaning.specs.Rules.{Visit, Do, walk}
 use Rattle.meaning.specs.Limits.{Limit, ended, lost, cut, runPlan}
-use Rattle.meaning.specs.Store.{on}
+use Rattle.leaves.specs.Noted.{on, leftWords}
 use Rattle.leaves.specs.declared.answers.Answer.{Answer}
 use Rattle.leaves.specs.declared.answers.Answer.the-variants.{Done, Failed, Cut}
 use Rattle.leaves.specs.Answers.{unitsIn, toldOf}
@@ -23,9 +23,14 @@ module _ (t : List ℕ) (n : ℕ) (w : List ℕ) (m u : ℕ) where
   unfolding plan runPlan
   returned x b = refl
 
-  pub failing : plan t n fail w m u ≡ lost w u
+  pub failing : plan t n fail w m u ≡ lost (leftWords w) u
   unfolding plan runPlan
   failing = refl
+
+  -- a match that gives up fails
+  pub missing : (p : ℕ) → plan t n (miss p) w m u ≡ lost (leftWords w) u
+  unfolding plan runPlan
+  missing p = refl
 
 module _ (t : List ℕ) (n : ℕ) (w : List ℕ) (m u : ℕ) (gs : List ℕ) (b : Bindings ℕ) (k : List ℕ → Bindings ℕ → Do ℕ) where
   -- no visit is left
@@ -39,11 +44,11 @@ module _ (t : List ℕ) (n : ℕ) (w : List ℕ) (m u : ℕ) (gs : List ℕ) (b 
     unfolding walk
     walk-done x m′ v w′ b′ e = ask-done t n w m u (q b) (λ g c. walk qs (gs ++ (g ∷ [])) c k) fail v w′ x m′ b′ e
 
-    pub walk-failed : (v : ℕ) (w′ : List ℕ) → visit t n (q b) w m u ≡ lost w′ v → plan t n (walk (q ∷ qs) gs b k) w m u ≡ lost w′ v
+    pub walk-failed : (v : ℕ) (w′ : List ℕ) → visit t n (q b) w m u ≡ lost (leftWords w′) v → plan t n (walk (q ∷ qs) gs b k) w m u ≡ lost (leftWords w′) v
     unfolding walk
     walk-failed v w′ e = ask-failed t n w m u (q b) (λ g c. walk qs (gs ++ (g ∷ [])) c k) fail v w′ keep e ∙ failing t n w′ m v
 
-    pub walk-cut : (v : ℕ) (w′ : List ℕ) (c : Limit) → visit t n (q b) w m u ≡ cut c w′ v → plan t n (walk (q ∷ qs) gs b k) w m u ≡ cut c w′ v
+    pub walk-cut : (v : ℕ) (w′ : List ℕ) (c : Limit) → visit t n (q b) w m u ≡ cut c (leftWords w′) v → plan t n (walk (q ∷ qs) gs b k) w m u ≡ cut c (leftWords w′) v
     unfolding walk
     walk-cut v w′ c e = ask-cut t n w m u (q b) (λ g c. walk qs (gs ++ (g ∷ [])) c k) fail v w′ keep c e
 

@@ -16,7 +16,8 @@ use Rattle.meaning.specs.Table.{table, operands}
 use Rattle.meaning.specs.Plan.{ret}
 use Rattle.meaning.specs.Rules.{Visit, match, Do, does, strategy, walk, zip}
 use Rattle.meaning.specs.Limits.{Limit, units, room, nesting, ended, lost, cut, run, runPlan, roomFor}
-use Rattle.meaning.specs.Store.{on, stored, Ran, children}
+use Rattle.meaning.specs.Store.{children}
+use Rattle.leaves.specs.Noted.{on, stored, Ran, leftWords}
 use Rattle.leaves.specs.declared.answers.Answer.{Answer}
 use Rattle.leaves.specs.declared.answers.Answer.the-variants.{Done, Failed, Cut}
 use Rattle.leaves.specs.Answers.{toldOf, nodeIn, unitsIn}
@@ -51,8 +52,8 @@ limitOf c = if eqb (nodeIn c) 4294967294 then units else if eqb (nodeIn c) 42949
 -- an answer with the record and the store at its return
 unfoldable pub meaning : Answer → List ℕ → List ℕ → Ran
 meaning (Done x u) st w = ended x (held st) (on w (markOf st)) u
-meaning (Failed u) st w = lost w u
-meaning (Cut c) st w = cut (limitOf c) w (unitsIn c)
+meaning (Failed u) st w = lost (leftWords w) u
+meaning (Cut c) st w = cut (limitOf c) (leftWords w) (unitsIn c)
 
 unfoldable pub out : ℕ → List ℕ → List ℕ → Ran
 out r st w = meaning (toldOf r) st w
@@ -60,8 +61,8 @@ out r st w = meaning (toldOf r) st w
 -- an answer of which only the units count: success gives the node k and the bindings b back, with nothing made
 unfoldable pub giving : Answer → ℕ → Bindings ℕ → List ℕ → ℕ → Ran
 giving (Done x u) k b w m = ended k b (on w m) u
-giving (Failed u) k b w m = lost w u
-giving (Cut c) k b w m = cut (limitOf c) w (unitsIn c)
+giving (Failed u) k b w m = lost (leftWords w) u
+giving (Cut c) k b w m = cut (limitOf c) (leftWords w) (unitsIn c)
 
 unfoldable pub kept : ℕ → ℕ → Bindings ℕ → List ℕ → ℕ → Ran
 kept r k b w m = giving (toldOf r) k b w m
@@ -118,4 +119,4 @@ pub record Fitting (t w : List ℕ) (n p g : ℕ) (b : List ℕ) (r : ℕ) (c : 
 
 -- a new node of these eight words
 unfoldable pub noded : List ℕ → List ℕ → List ℕ → ℕ → Ran
-noded made st w u = roomFor (leb (rows w) (markOf st)) w u (ended (markOf st) (held st) (on (putRow w (markOf st) made) (markOf st + 1)) u)
+noded made st w u = roomFor (leb (rows w) (markOf st)) (leftWords w) u (ended (markOf st) (held st) (on (putRow w (markOf st) made) (markOf st + 1)) u)

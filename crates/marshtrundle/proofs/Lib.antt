@@ -3,7 +3,6 @@ pub mod Accepting
 pub mod Copying
 pub mod Fetching
 pub mod Hinting
-pub mod Falling
 pub mod Whole
 pub mod Promises
 pub mod Small

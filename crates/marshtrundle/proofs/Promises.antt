@@ -24,12 +24,12 @@ use Rattle.meaning.specs.Term.{Term}
 use Rattle.meaning.specs.Table.{SEQ, Table, table}
 use Rattle.meaning.specs.Plan.{keep, ret, fail, ask}
 use Rattle.meaning.specs.Rules.{apply, does, strategy}
-use Rattle.meaning.specs.Derivation.{Out, done, failed, Trace, terms, Der}
+use Rattle.meaning.specs.Derivation.{Out, done, failed, Trace, quiet, terms, Der}
 use Rattle.meaning.specs.System.{Env, _∶_is_, _⊢_⇒_}
-use Rattle.meaning.specs.Limits.{Res, Limit, units, room, nesting, ended, lost, cut}
-use Rattle.meaning.specs.Store.{Input, Accepted, State, Ran, Kept, Sound, Leaves, named, bindings, term, termOf, meant, value, ran}
+use Rattle.meaning.specs.Limits.{Limit, units, room, nesting, ended, lost, cut, at as counted-at}
+use Rattle.meaning.specs.Store.{Input, Accepted, Kept, Sound, Leaves, named, bindings, term, termOf, meant, value, ran}
 use Rattle.meaning.specs.Answer.{Returned, number, bindingWord, bindingWords, returned}
-use Rattle.meaning.specs.Demands.{Says, limits, begins, Agreed, started}
+use Rattle.meaning.specs.Demands.{Says, limits, startVisit, Agreed, started}
 use Rattle.meaning.proofs.Inversion.{Asked, on-success, on-failure, ask-inv}
 use Rattle.meaning.proofs.Tests.{impossible}
 use Rattle.meaning.proofs.Checked.{Filled, node-of-good}
@@ -42,12 +42,13 @@ use Rattle.free.proofs.Smallest.{below-32}
 use Rattle.marshtrundle.specs.Refused.{sizesFit, startFits, refused}
 use Rattle.marshtrundle.specs.Run.{input, atReturn, refusing, runOf}
 use Rattle.marshtrundle.specs.Promises as promises
-use Rattle.marshtrundle.specs.Promises.{Runs, AsGiven, Told, SizesFit, EntriesGood, NodesGood, StartFits}
+use Rattle.marshtrundle.specs.Promises.{Runs, AsGiven, Ended, Told, SizesFit, EntriesGood, NodesGood, StartFits}
 use Rattle.marshtrundle.specs.declared.running.Outcome.{Outcome}
 use Rattle.marshtrundle.proofs.Accepting.{verdict, accepted-answer, accepted-back}
 use Rattle.marshtrundle.proofs.Accepting as accepting
 use Rattle.marshtrundle.proofs.Copying.{length-words, word-of}
-use Rattle.marshtrundle.proofs.Falling.{unitsLeft}
+use Rattle.meaning.proofs.Falling.{unitsLeft}
+use Rattle.leaves.specs.Noted.{State, Ran}
 use Rattle.marshtrundle.proofs.Whole.{units-left}
 
 -- ---- two outcomes
@@ -64,7 +65,7 @@ agreeing i o o′ s s′ b b′ p q =
 
 module _ (i : Input) where
   -- the run of an accepted input
-  runs : Accepted i → runOf i ≡ returned i (ran i)
+  runs : Accepted i → runOf i ≡ returned i (ran quiet tt i)
   unfolding runOf
   runs a = rw (accepted-back (i .table) (i .store) (i .bindings) (i .mark) (i .start) (i .subject) (i .units) a)
 
@@ -126,7 +127,7 @@ of-run i (cut nesting w u) = inr (omega arith, omega arith)
 
 module _ (i : Input) (o : Outcome) (s b : List ℕ) (p : Runs i o s b) where
   -- what comes back from a run, and from a refusal
-  came : Accepted i → atReturn o s b ≡ returned i (ran i)
+  came : Accepted i → atReturn o s b ≡ returned i (ran quiet tt i)
   came a = p ∙ runs i a
 
   refused-came : eqb (verdict i .answer) 0 ≡ false → atReturn o s b ≡ refusing i (verdict i)
@@ -136,7 +137,7 @@ module _ (i : Input) (o : Outcome) (s b : List ℕ) (p : Runs i o s b) where
   answer-of e = ap (λ (r : Returned). r .answer) e
 
   ran-answer : Accepted i → (o .answer ≤ 1) ⊎ ((6 ≤ o .answer) × (o .answer ≤ 8))
-  ran-answer a = subst (λ n. (n ≤ 1) ⊎ ((6 ≤ n) × (n ≤ 8))) (sym (answer-of (came a))) (of-run i (ran i))
+  ran-answer a = subst (λ n. (n ≤ 1) ⊎ ((6 ≤ n) × (n ≤ 8))) (sym (answer-of (came a))) (of-run i (ran quiet tt i))
 
   refused-answer : eqb (verdict i .answer) 0 ≡ false → (1 < o .answer) × (o .answer < 6)
   refused-answer e = subst (λ n. (1 < n) × (n < 6)) (sym (answer-of (refused-came e))) (within i e)
@@ -190,7 +191,7 @@ module _ (i : Input) (o : Outcome) (s b : List ℕ) (p : Runs i o s b) where
 
   unplaced : (o .answer ≡ 3 → ⊥) → (o .answer ≡ 4 → ⊥) → o .place ≡ 0
   unplaced m n =
-      ⊎-elim (λ a. ap (λ (r : Returned). r .place) (came i o s b p a) ∙ ran-place i (ran i))
+      ⊎-elim (λ a. ap (λ (r : Returned). r .place) (came i o s b p a) ∙ ran-place i (ran quiet tt i))
       (λ z. let w : atReturn o s b ≡ refusing i (verdict i) = refused-came i o s b p z in
       let x : o .answer ≡ verdict i .answer = ap (λ (r : Returned). r .answer) w in
       ap (λ (r : Returned). r .place) w ∙ accepting.verdict-placed i (λ e. m (x ∙ e)) (λ e. n (x ∙ e)))
@@ -253,7 +254,7 @@ writes-nothing i o s b p n =
 
 pub gives-back : promises.Gives-back
 gives-back i o s b p n =
-    ⊎-elim (λ a. as-given-ran i o s b (ran i) (came i o s b p a) n) (λ e. as-given i o s b (refused-came i o s b p e)) (judged i)
+    ⊎-elim (λ a. as-given-ran i o s b (ran quiet tt i) (came i o s b p a) n) (λ e. as-given i o s b (refused-came i o s b p e)) (judged i)
 
 -- ---- the store
 
@@ -264,23 +265,23 @@ cleared-kept w m n l = record { long = length-clearedFrom w (8 * n); same = take
 returned-kept : (i : Input) (r : Ran) → Leaves (i .store) (i .mark) r → Kept (i .store) (i .mark) (returned i r .store)
 unfolding returned
 returned-kept i (ended k b s u) l = kept-trans (omega arith) (l .1) (cleared-kept (s .words) (i .mark) (s .mark) (l .0))
-returned-kept i (lost w u) l = kept-trans (omega arith) l (cleared-kept w (i .mark) (i .mark) (omega arith))
-returned-kept i (cut c w u) l = kept-trans (omega arith) l (cleared-kept w (i .mark) (i .mark) (omega arith))
+returned-kept i (lost w u) l = kept-trans (omega arith) l (cleared-kept (w .words) (i .mark) (i .mark) (omega arith))
+returned-kept i (cut c w u) l = kept-trans (omega arith) l (cleared-kept (w .words) (i .mark) (i .mark) (omega arith))
 
 pub keeps : promises.Keeps
 keeps i o s b p =
-    ⊎-elim (λ a. subst (Kept (i .store) (i .mark)) (sym (ap (λ (r : Returned). r .store) (came i o s b p a))) (returned-kept i (ran i) (meant-demands.over-the-words i a .1)))
+    ⊎-elim (λ a. subst (Kept (i .store) (i .mark)) (sym (ap (λ (r : Returned). r .store) (came i o s b p a))) (returned-kept i (ran quiet tt i) (meant-demands.over-the-words (Unit {0}) quiet tt i a .1)))
     (λ e. subst (Kept (i .store) (i .mark)) (sym (ap (λ (r : Returned). r .store) (refused-came i o s b p e))) (kept-refl (i .store) (i .mark)))
     (judged i)
 
 returned-cleared : (i : Input) (r : Ran) (k : ℕ) → 8 * returned i r .mark ≤ k → getD (returned i r .store) k 0 ≡ 0
 unfolding returned
 returned-cleared i (ended h b s u) k l = getD-clearedFrom-from (s .words) (8 * s .mark) k l
-returned-cleared i (lost w u) k l = getD-clearedFrom-from w (8 * i .mark) k l
-returned-cleared i (cut c w u) k l = getD-clearedFrom-from w (8 * i .mark) k l
+returned-cleared i (lost w u) k l = getD-clearedFrom-from (w .words) (8 * i .mark) k l
+returned-cleared i (cut c w u) k l = getD-clearedFrom-from (w .words) (8 * i .mark) k l
 
 pub clears : promises.Clears
-clears i o s b a p = subst (λ (r : Returned). (k : ℕ) → 8 * r .mark ≤ k → getD (r .store) k 0 ≡ 0) (sym (came i o s b p a)) (returned-cleared i (ran i))
+clears i o s b a p = subst (λ (r : Returned). (k : ℕ) → 8 * r .mark ≤ k → getD (r .store) k 0 ≡ 0) (sym (came i o s b p a)) (returned-cleared i (ran quiet tt i))
 
 -- ---- what comes back, as values
 
@@ -309,10 +310,10 @@ module _ (i : Input) (a : Accepted i) where
   unfolding meant bindings named termOf
   none-given v l = let e : getD (i .bindings) v 0 ≡ 0 = List·getD-eq-default (i .bindings) 0 (omega (arith, a .bindings)) in rw e
 
-  none-left : (k : ℕ) (b : Bindings ℕ) (s : State) (u : ℕ) → ran i ≡ ended k b s u → (v : ℕ) → 32 ≤ v → b v ≡ none
+  none-left : (k : ℕ) (b : Bindings ℕ) (s : State) (u : ℕ) → ran quiet tt i ≡ ended k b s u → (v : ℕ) → 32 ≤ v → b v ≡ none
   unfolding value meant
   none-left k b s u e v l =
-      let d = meant-demands.demand-2 i a (value (ended k b s u)) .0 (ap value e) in
+      let d = meant-demands.demand-2 (Unit {0}) quiet tt i a (value (ended k b s u)) .0 (ap value e) in
       let n = meant-demands.outside-free (table (i .table)) (i .start) _ _ _ _ (d .0) v (λ f. omega (arith, below-32 (i .table) (tablePasses (i .table) .0 (ap (λ (c : Checked). c .answer) (a .table))) (i .start) v (a .inside, a .strategy) f)) in
       unbound (s .words) (b v) (n ∙ none-given v l)
 
@@ -338,10 +339,10 @@ module _ (i : Input) (a : Accepted i) where
     meant-stays = fun-ext (λ v. option-stays (b v) (sound .bound v))
 
   -- what comes back of a run that ends so says just that
-  told-ran : (r : Ran) → ran i ≡ r → Told i (returned i r) (value r)
+  told-ran : (r : Ran) → ran quiet tt i ≡ r → Told i (returned i r) (value r)
   unfolding returned value unitsLeft cleared
   told-ran (ended k b s u) e =
-      let l : Leaves (i .store) (i .mark) (ended k b s u) = subst (Leaves (i .store) (i .mark)) e (meant-demands.over-the-words i a .1) in
+      let l : Leaves (i .store) (i .mark) (ended k b s u) = subst (Leaves (i .store) (i .mark)) e (meant-demands.over-the-words (Unit {0}) quiet tt i a .1) in
       let n : u ≤ i .units = subst (λ (r : Ran). unitsLeft r ≤ i .units) e (units-left i) in (
         refl,
         term-stays k b s (l .2) k (l .2 .subject),
@@ -352,8 +353,8 @@ module _ (i : Input) (a : Accepted i) where
   told-ran (lost w u) e = let n : u ≤ i .units = subst (λ (r : Ran). unitsLeft r ≤ i .units) e (units-left i) in (refl, omega arith)
   told-ran (cut c w u) e = let n : u ≤ i .units = subst (λ (r : Ran). unitsLeft r ≤ i .units) e (units-left i) in (refl, omega arith)
 
-  came-told : (o : Outcome) (s b : List ℕ) → Runs i o s b → Told i (atReturn o s b) (value (ran i))
-  came-told o s b p = subst (λ (r : Returned). Told i r (value (ran i))) (sym (came i o s b p a)) (told-ran (ran i) refl)
+  came-told : (o : Outcome) (s b : List ℕ) → Runs i o s b → Told i (atReturn o s b) (value (ran quiet tt i))
+  came-told o s b p = subst (λ (r : Returned). Told i r (value (ran quiet tt i))) (sym (came i o s b p a)) (told-ran (ran quiet tt i) refl)
 
 -- a cut-off's number is its own
 number-above : (c : Limit) → 6 ≤ number c
@@ -375,10 +376,10 @@ numbers nesting room e = absurd (omega arith)
 numbers nesting nesting e = refl
 
 -- what comes back says one thing
-one-told : (i : Input) (x : Returned) (r r′ : Res Term Env ℕ (Unit {0})) → Told i x r → Told i x r′ → r ≡ r′
+one-told : (i : Input) (x : Returned) (r r′ : Ended) → Told i x r → Told i x r′ → r ≡ r′
 one-told i x (ended t c m u) (ended t′ c′ m′ u′) h k =
     let n : u ≡ u′ = omega (arith, h .4, k .4) in
-    λ j. ended ((sym (h .1) ∙ k .1) j) ((sym (h .2) ∙ k .2) j) ((sym (h .3) ∙ k .3) j) (n j)
+    λ j. ended ((sym (h .1) ∙ k .1) j) ((sym (h .2) ∙ k .2) j) (counted-at ((sym (h .3) ∙ k .3) j) tt) (n j)
 one-told i x (ended t c m u) (lost l u′) h k = absurd (omega (arith, h .0, k .0))
 one-told i x (ended t c m u) (cut d l u′) h k = absurd (omega (arith, h .0, k .0, number-above d))
 one-told i x (lost l u) (ended t c m u′) h k = absurd (omega (arith, h .0, k .0))
@@ -391,16 +392,16 @@ one-told i x (cut d l u) (cut d′ l′ u′) h k =
 
 module _ (i : Input) (a : Accepted i) (o : Outcome) (s b : List ℕ) (p : Runs i o s b) where
   -- what comes back says r exactly where the run over the words ends so
-  told-is : (r : Res Term Env ℕ (Unit {0})) → Told i (atReturn o s b) r ↔ (value (ran i) ≡ r)
+  told-is : (r : Ended) → Told i (atReturn o s b) r ↔ (value (ran quiet tt i) ≡ r)
   told-is r = (
-    λ h. one-told i (atReturn o s b) (value (ran i)) r (came-told i a o s b p) h,
+    λ h. one-told i (atReturn o s b) (value (ran quiet tt i)) r (came-told i a o s b p) h,
     λ e. subst (Told i (atReturn o s b)) e (came-told i a o s b p),
   )
 
 pub demand-2 : promises.Demand-2
 demand-2 i o s b a p r =
     let f = told-is i a o s b p r in
-    let g = meant-demands.demand-2 i a r in
+    let g = meant-demands.demand-2 (Unit {0}) quiet tt i a r in
     (λ h. g .0 (f .0 h), λ k. f .1 (g .1 k))
 
 -- ---- demand 3
@@ -420,7 +421,7 @@ closed-by : (t : List ℕ) (x : ℕ) (q : FreeVariables) → Answered t x q → 
 closed-by t x q h z m v f = true≢false (sym (subst (λ (n : ℕ). has n v ≡ true) m (h .mask z .free v .1 f)) ∙ has-nothing v)
 
 -- two answers, of which one is a cut-off or both say what is so in each order
-either-way : (T : Table) (g g′ : Given) (s s′ : ℕ) (t : Term) (b : Env) (r r′ : Res Term Env ℕ (Unit {0})) → Says T g (apply s t b) r → Says T g′ (apply s′ t b) r′
+either-way : (T : Table) (g g′ : Given) (s s′ : ℕ) (t : Term) (b : Env) (r r′ : Ended) → Says quiet tt T g (apply s t b) r → Says quiet tt T g′ (apply s′ t b) r′
     → ((o o′ : Out Term Env) → T ⊢ apply s t b ⇒ o → T ⊢ apply s′ t b ⇒ o′ → Agreed r r′) → Agreed r r′
 either-way T g g′ s s′ t b (ended h c m u) (ended h′ c′ m′ u′) x y k = k _ _ (x .0) (y .0)
 either-way T g g′ s s′ t b (ended h c m u) (lost l u′) x y k = k _ _ (x .0) (y .0)
@@ -436,12 +437,12 @@ demand-3 i x y e f start given π ρ q q′ o o′ s s′ b b′ h z m h′ z′
     let T : Table = table (i .table) in
     let t : Term = term (i .store) (i .subject) in
     let c : Env = meant (i .store) (bindings (i .bindings)) in
-    let v : value (ran i) ≡ u = told-is i a o s b p u .0 w in
-    let v′ : value (ran j) ≡ u′ = told-is j a′ o′ s′ b′ p′ u′ .0 w′ in
-    either-way T (limits i) (limits j) (i .start) start t c u u′ (meant-demands.demand-2 i a u .0 v) (meant-demands.demand-2 j a′ u′ .0 v′)
+    let v : value (ran quiet tt i) ≡ u = told-is i a o s b p u .0 w in
+    let v′ : value (ran quiet tt j) ≡ u′ = told-is j a′ o′ s′ b′ p′ u′ .0 w′ in
+    either-way T (limits i) (limits j) (i .start) start t c u u′ (meant-demands.demand-2 (Unit {0}) quiet tt i a u .0 v) (meant-demands.demand-2 (Unit {0}) quiet tt j a′ u′ .0 v′)
     (λ d d′ r r′.
-    subst (λ (x : Res Term Env ℕ (Unit {0})). Agreed x u′) v
-    (subst (λ (x : Res Term Env ℕ (Unit {0})). Agreed (value (ran i)) x) v′
-    (meant-demands.demand-3-runs i start given a a′
+    subst (λ (x : Ended). Agreed x u′) v
+    (subst (λ (x : Ended). Agreed (value (ran quiet tt i)) x) v′
+    (meant-demands.demand-3-runs (Unit {0}) quiet tt i start given a a′
     (meant-demands.demand-3 T x y e f (i .start) start π ρ t c _ _ (closed-by (i .table) x q h z m) (closed-by (i .table) y q′ h′ z′ m′)
     at at′ n n′ first second (first-of T (i .start) e f t c first d r .1) (first-of T start f e t c second d′ r′ .1)))))

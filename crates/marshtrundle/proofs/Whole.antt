@@ -20,14 +20,17 @@ use Rattle.meaning.specs.Bindings.{Bindings}
 use Rattle.meaning.specs.Table.{Table, table}
 use Rattle.meaning.specs.Rules.{apply, does}
 use Rattle.meaning.specs.Limits.{Limit, units, room, nesting, ended, lost, cut, run}
-use Rattle.meaning.specs.Store.{Input, Accepted, State, on, stored, Ran, named, bindings, ran, deepest}
+use Rattle.meaning.specs.Derivation.{quiet}
+use Rattle.meaning.specs.Store.{Input, Accepted, named, bindings, ran, deepest}
 use Rattle.meaning.specs.Answer.{number, bindingWords, returned}
 use Rattle.meaning.specs.Demands.{Leaves}
 use Rattle.meaning.proofs.Tests.{impossible}
+use Rattle.meaning.proofs.Falling.{unitsLeft, units-fall}
 use Rattle.meaning.proofs.Demands.{over-the-words}
 use Rattle.leaves.specs.declared.answers.Answer.{Answer}
 use Rattle.leaves.specs.declared.answers.Answer.the-variants.{Done, Failed, Cut}
 use Rattle.leaves.specs.Answers.{packed, nodeIn, unitsIn, toldOf}
+use Rattle.leaves.specs.Noted.{State, Ran, on, leftWords, stored}
 use Rattle.leaves.specs.Record.{markOf, held}
 use Rattle.leaves.specs.Visits.{visit, limitOf, meaning, out, Entries, Steady, Gives}
 use Rattle.cycle.specs.Cycle.{Hinted, Ready}
@@ -36,10 +39,9 @@ use Rattle.marshtrundle.specs.Loaded.{Loaded, Opened}
 use Rattle.marshtrundle.specs.Refused.{refused}
 use Rattle.marshtrundle.specs.Run.{atReturn, refusing, runOf, cutNumber, numbers, wordsOf, Ends}
 use Rattle.marshtrundle.specs.declared.running.Outcome.{Outcome}
-use Rattle.marshtrundle.proofs.Falling.{unitsLeft, units-fall}
 
 -- the units that a run has left are not more than it was given
-pub units-left : (i : Input) → unitsLeft (ran i) ≤ i .units
+pub units-left : (i : Input) → unitsLeft (ran quiet tt i) ≤ i .units
 unfolding ran
 units-left i = units-fall stored (does (table (i .table))) deepest (apply (i .start) (i .subject) (bindings (i .bindings))) (on (i .store) (i .mark)) (i .units)
 
@@ -87,13 +89,13 @@ module _ (i : Input) (a : Accepted i) (c st : List ℕ) (g : ℕ) (same : table 
   }
 
   -- the run that the engine makes is the run over the words
-  pub is-ran : visit c 4096 (apply (i .start) (i .subject) (held st)) (i .store) (markOf st) (i .units) ≡ ran i
+  pub is-ran : visit c 4096 (apply (i .start) (i .subject) (held st)) (i .store) (markOf st) (i .units) ≡ ran quiet tt i
   unfolding visit ran
   is-ran = λ z. run stored (does (same z)) 4096 (apply (i .start) (i .subject) (o .holds z)) (on (i .store) (o .mark z)) (i .units)
 
   -- so its end is that of the run over the words
-  pub ended-as : (r : Outcome) (st′ w′ : List ℕ) → Ends (visit c 4096 (apply (i .start) (i .subject) (held st)) (i .store) (markOf st) (i .units)) (i .subject) (markOf st) (i .units) r st′ w′ → Ends (ran i) (i .subject) (i .mark) (i .units) r st′ w′
-  ended-as r st′ w′ e = subst (λ m. Ends (ran i) (i .subject) m (i .units) r st′ w′) (o .mark) (subst (λ x. Ends x (i .subject) (markOf st) (i .units) r st′ w′) is-ran e)
+  pub ended-as : (r : Outcome) (st′ w′ : List ℕ) → Ends (visit c 4096 (apply (i .start) (i .subject) (held st)) (i .store) (markOf st) (i .units)) (i .subject) (markOf st) (i .units) r st′ w′ → Ends (ran quiet tt i) (i .subject) (i .mark) (i .units) r st′ w′
+  ended-as r st′ w′ e = subst (λ m. Ends (ran quiet tt i) (i .subject) m (i .units) r st′ w′) (o .mark) (subst (λ x. Ends x (i .subject) (markOf st) (i .units) r st′ w′) is-ran e)
 
 -- What the engine answers, told, as a run's end: the numbers are those of the end, and the units left are at most those given.
 module _ (c w st : List ℕ) (e k u : ℕ) (few : u < 4294967296) (got : ℕ) (g : ℕ) (ge : g ≡ packed k u) (st′ w′ : List ℕ)
@@ -124,7 +126,7 @@ module _ (c w st : List ℕ) (e k u : ℕ) (few : u < 4294967296) (got : ℕ) (g
     done-ends = record { numbers = rw is-done; words = rw is-done; bound = λ y z b s f. let h = sym is-done ∙ f in cc }
 
   module _ (v : ℕ) (q : a ≡ Failed v) where
-    is-failed : ends ≡ lost w′ v
+    is-failed : ends ≡ lost (leftWords w′) v
     unfolding meaning
     is-failed = ends-told ∙ rw q
 
@@ -137,7 +139,7 @@ module _ (c w st : List ℕ) (e k u : ℕ) (few : u < 4294967296) (got : ℕ) (g
     failed-ends = record { numbers = rw is-failed; words = rw is-failed; bound = λ y z b s f. impossible (let h = sym is-failed ∙ f in cc) }
 
   module _ (d : ℕ) (q : a ≡ Cut d) where
-    is-cut : ends ≡ cut (limitOf d) w′ (unitsIn d)
+    is-cut : ends ≡ cut (limitOf d) (leftWords w′) (unitsIn d)
     unfolding meaning
     is-cut = ends-told ∙ rw q
 
@@ -166,32 +168,32 @@ is-ended k m u (cut room l v) e = absurd (omega arith)
 is-ended k m u (cut nesting l v) e = absurd (omega arith)
 
 -- the end of an accepted run: r are its numbers, st is the record and w the store's words
-module _ (i : Input) (a : Accepted i) (r : Outcome) (st w : List ℕ) (ends : Ends (ran i) (i .subject) (i .mark) (i .units) r st w) where
+module _ (i : Input) (a : Accepted i) (r : Outcome) (st w : List ℕ) (ends : Ends (ran quiet tt i) (i .subject) (i .mark) (i .units) r st w) where
   passes : StoreFits (i .store) (i .mark) × AllGood (goodNode (i .store)) (i .mark)
   passes = storePasses (i .store) (i .mark) .0 (ap (λ (c : Checked). c .answer) (a .store))
 
   -- the mark is at most that of a full store
   pub mark-left : r .mark ≤ 131072
   unfolding numbers
-  mark-left = subst (λ (r : Outcome). r .mark ≤ 131072) (sym (ends .numbers)) (go (ran i) (over-the-words i a .1))
+  mark-left = subst (λ (r : Outcome). r .mark ≤ 131072) (sym (ends .numbers)) (go (ran quiet tt i) (over-the-words (Unit {0}) quiet tt i a .1))
     where
       go : (o : Ran) → Leaves (i .store) (i .mark) o → numbers (i .subject) (i .mark) (i .units) o .mark ≤ 131072
       go (ended x b s v) l = omega (arith, l .2 .fits, l .1 .long, passes .0 .0 .most)
       go (lost l v) k = omega (arith, passes .0 .0 .most, passes .0 .1)
       go (cut c l v) k = omega (arith, passes .0 .0 .most, passes .0 .1)
 
-  done-end : r .answer ≡ 0 → (x v : ℕ) × (b : Bindings ℕ) × (s : State) × (ran i ≡ ended x b s v)
-  done-end z = is-ended (i .subject) (i .mark) (i .units) (ran i) (sym (ap (λ (r : Outcome). r .answer) (ends .numbers)) ∙ z)
+  done-end : r .answer ≡ 0 → (x v : ℕ) × (b : Bindings ℕ) × (s : State) × (ran quiet tt i ≡ ended x b s v)
+  done-end z = is-ended (i .subject) (i .mark) (i .units) (ran quiet tt i) (sym (ap (λ (r : Outcome). r .answer) (ends .numbers)) ∙ z)
 
   -- where it is done the bound nodes are in the store
   pub bound-left : r .answer ≡ 0 → (v j : ℕ) → held st v ≡ some j → j < 131072
   bound-left z v j f =
       let (x, u, b, s, e) = done-end z in
-      let l = subst (Leaves (i .store) (i .mark)) e (over-the-words i a .1) in
+      let l = subst (Leaves (i .store) (i .mark)) e (over-the-words (Unit {0}) quiet tt i a .1) in
       omega (arith, l .2 .bound v j (ap (λ (g : Bindings ℕ). g v) (sym (ends .bound x u b s e)) ∙ f), l .2 .fits, l .1 .long, passes .0 .0 .most)
 
   -- what comes back: the store is cleared from the mark on; the bindings are the record's where it is done, else as given
-  come : (o : Ran) → ran i ≡ o → (b′ : List ℕ) → (r .answer ≡ 0 → b′ ≡ bindingWords 32 (held st)) → ((r .answer ≡ 0 → ⊥) → b′ ≡ i .bindings)
+  come : (o : Ran) → ran quiet tt i ≡ o → (b′ : List ℕ) → (r .answer ≡ 0 → b′ ≡ bindingWords 32 (held st)) → ((r .answer ≡ 0 → ⊥) → b′ ≡ i .bindings)
       → atReturn r (clearedFrom w (8 * r .mark)) b′ ≡ returned i o
   unfolding numbers wordsOf returned number
   come (ended x b s v) e b′ y n =
@@ -201,17 +203,17 @@ module _ (i : Input) (a : Accepted i) (r : Outcome) (st w : List ℕ) (ends : En
       λ z. atReturn (p z) (clearedFrom (q z) (8 * p z .mark)) (h z)
   come (lost l v) e b′ y n =
       let p : r ≡ numbers (i .subject) (i .mark) (i .units) (lost l v) = ends .numbers ∙ ap (numbers (i .subject) (i .mark) (i .units)) e in
-      let q : w ≡ l = ends .words ∙ ap wordsOf e in
+      let q : w ≡ l .words = ends .words ∙ ap wordsOf e in
       let h : b′ ≡ i .bindings = n (λ z. omega (arith, ap (λ (r : Outcome). r .answer) p)) in
       λ z. atReturn (p z) (clearedFrom (q z) (8 * p z .mark)) (h z)
   come (cut c l v) e b′ y n =
       let p : r ≡ numbers (i .subject) (i .mark) (i .units) (cut c l v) = ends .numbers ∙ ap (numbers (i .subject) (i .mark) (i .units)) e in
-      let q : w ≡ l = ends .words ∙ ap wordsOf e in
+      let q : w ≡ l .words = ends .words ∙ ap wordsOf e in
       let h : b′ ≡ i .bindings = n (λ z. omega (arith, ap (λ (r : Outcome). r .answer) p, limit-answer c)) in
       λ z. atReturn (p z) (clearedFrom (q z) (8 * p z .mark)) (h z)
 
-  pub comes-back : (b′ : List ℕ) → (r .answer ≡ 0 → b′ ≡ bindingWords 32 (held st)) → ((r .answer ≡ 0 → ⊥) → b′ ≡ i .bindings) → atReturn r (clearedFrom w (8 * r .mark)) b′ ≡ returned i (ran i)
-  comes-back b′ y n = come (ran i) refl b′ y n
+  pub comes-back : (b′ : List ℕ) → (r .answer ≡ 0 → b′ ≡ bindingWords 32 (held st)) → ((r .answer ≡ 0 → ⊥) → b′ ≡ i .bindings) → atReturn r (clearedFrom w (8 * r .mark)) b′ ≡ returned i (ran quiet tt i)
+  comes-back b′ y n = come (ran quiet tt i) refl b′ y n
 
 -- a refusal, and none
 module _ (i : Input) (r : Checked) (is : r ≡ refused (i .table) (i .store) (i .bindings) (i .mark) (i .start) (i .subject)) where
@@ -219,7 +221,7 @@ module _ (i : Input) (r : Checked) (is : r ≡ refused (i .table) (i .store) (i 
   unfolding runOf
   run-refused n = rw is (sym (rw (ne-eqb (refused (i .table) (i .store) (i .bindings) (i .mark) (i .start) (i .subject) .answer) 0 (λ z. n (ap (λ (c : Checked). c .answer) is ∙ z)))))
 
-  pub run-ran : r .answer ≡ 0 → returned i (ran i) ≡ runOf i
+  pub run-ran : r .answer ≡ 0 → returned i (ran quiet tt i) ≡ runOf i
   unfolding runOf
   run-ran z = sym (rw (eq-eqb (refused (i .table) (i .store) (i .bindings) (i .mark) (i .start) (i .subject) .answer) 0 (sym (ap (λ (c : Checked). c .answer) is) ∙ z)))
 

@@ -15,11 +15,12 @@ use Rattle.checks.specs.Promises.{AllGood, Lowest}
 use Rattle.meaning.specs.Term.{Term}
 use Rattle.meaning.specs.System.{Env, _∶_is_}
 use Rattle.meaning.specs.Table.{SEQ, table}
-use Rattle.meaning.specs.Limits.{Res, ended, lost, cut}
+use Rattle.meaning.specs.Derivation.{quiet}
+use Rattle.meaning.specs.Limits.{Res, ended, lost, cut, Counted}
 use Rattle.meaning.specs.Store.{Input, Accepted, term, meant, bindings, Kept}
 use Rattle.meaning.specs.Answer.{Returned, number}
 use Rattle.meaning.specs.Small.{Case, cases}
-use Rattle.meaning.specs.Demands.{Says, limits, begins, At, Begins, Agreed, started}
+use Rattle.meaning.specs.Demands.{Says, limits, startVisit, At, Encloses, Agreed, started}
 use Rattle.free.specs.declared.FreeVariables.{FreeVariables}
 use Rattle.free.specs.Answered.{Answered}
 use Rattle.marshtrundle.specs.Refused.{refused}
@@ -122,11 +123,15 @@ Keeps = (i : Input) (o : Outcome) (s b : List ℕ) → Runs i o s b → Kept (i 
 abbrev pub Clears : Type 0
 Clears = (i : Input) (o : Outcome) (s b : List ℕ) → Accepted i → Runs i o s b → (k : ℕ) → 8 * o .mark ≤ k → getD s k 0 ≡ 0
 
+-- how a run ends, terms as values; nothing is noted on its way
+abbrev pub Ended : Type 0
+Ended = Res Term Env (Counted (Unit {0})) (Unit {0})
+
 -- what comes back says r: the answer, the term, its bindings and the mark are r's, and the units used, with those that r
 -- leaves, are the units given
-abbrev pub Told : Input → Returned → Res Term Env ℕ (Unit {0}) → Type 0
-Told i r (ended t c m u) =
-    (r .answer ≡ 0) × (term (r .store) (r .subject) ≡ t) × (meant (r .store) (bindings (r .bindings)) ≡ c) × (r .mark ≡ m)
+abbrev pub Told : Input → Returned → Ended → Type 0
+Told i r (ended t c x u) =
+    (r .answer ≡ 0) × (term (r .store) (r .subject) ≡ t) × (meant (r .store) (bindings (r .bindings)) ≡ c) × (r .mark ≡ x .mark)
     × (r .units + u ≡ i .units)
 Told i r (lost l u) = (r .answer ≡ 1) × (r .units + u ≡ i .units)
 Told i r (cut c l u) = (r .answer ≡ number c) × (r .units + u ≡ i .units)
@@ -136,7 +141,7 @@ Told i r (cut c l u) = (r .answer ≡ number c) × (r .units + u ≡ i .units)
 abbrev pub Demand-2 : Type 0
 Demand-2 =
     (i : Input) (o : Outcome) (s b : List ℕ) → Accepted i → Runs i o s b
-    → (r : Res Term Env ℕ (Unit {0})) → Told i (atReturn o s b) r ↔ Says (table (i .table)) (limits i) (begins i) r
+    → (r : Ended) → Told i (atReturn o s b) r ↔ Says quiet tt (table (i .table)) (limits i) (startVisit i) r
 
 -- Demand 3: e runs x at the place π and f runs y at ρ, neither place inside the other; the question of free variables finds
 -- none in x and y. Two runs, one in each order, that both end in done or failed agree, whatever units each is given.
@@ -144,10 +149,10 @@ abbrev pub Demand-3 : Type 0
 Demand-3 =
     (i : Input) (x y e f start units : ℕ) (π ρ : List ℕ) (q q′ : FreeVariables) (o o′ : Outcome) (s s′ b b′ : List ℕ)
     → Answered (i .table) x q → q .answer ≡ 0 → q .mask ≡ 0 → Answered (i .table) y q′ → q′ .answer ≡ 0 → q′ .mask ≡ 0
-    → At (table (i .table)) x e π → At (table (i .table)) y f ρ → (Begins π ρ → ⊥) → (Begins ρ π → ⊥)
+    → At (table (i .table)) x e π → At (table (i .table)) y f ρ → (Encloses π ρ → ⊥) → (Encloses ρ π → ⊥)
     → table (i .table) ∶ i .start is SEQ e f → table (i .table) ∶ start is SEQ f e
     → Accepted i → Accepted (started i start units) → Runs i o s b → Runs (started i start units) o′ s′ b′
-    → (r r′ : Res Term Env ℕ (Unit {0})) → Told i (atReturn o s b) r → Told (started i start units) (atReturn o′ s′ b′) r′ → Agreed r r′
+    → (r r′ : Ended) → Told i (atReturn o s b) r → Told (started i start units) (atReturn o′ s′ b′) r′ → Agreed r r′
 
 -- The small runs: each gives, of what `run` is handed, what its line says, every number and every word.
 abbrev pub Small-runs-of-run : Type 0

@@ -7,8 +7,10 @@ use Rattle.words.specs.Tests.{if_then_else_}
 use Rattle.checks.specs.declared.Checked.{Checked}
 use Rattle.meaning.specs.Bindings.{Bindings}
 use Rattle.meaning.specs.Limits.{ended, lost, cut}
-use Rattle.meaning.specs.Store.{Input, State, Ran, ran}
+use Rattle.meaning.specs.Derivation.{quiet}
+use Rattle.meaning.specs.Store.{Input, ran}
 use Rattle.meaning.specs.Answer.{Returned, number, returned}
+use Rattle.leaves.specs.Noted.{State, Ran}
 use Rattle.leaves.specs.Record.{held}
 use Rattle.leaves.specs.Visits.{limitOf}
 use Rattle.marshtrundle.specs.Refused.{refused}
@@ -29,7 +31,7 @@ refusing i c = record { answer = c .answer; place = c .place; subject = i .subje
 -- refused, or run
 unfoldable pub runOf : Input → Returned
 runOf i =
-    if eqb (refused (i .table) (i .store) (i .bindings) (i .mark) (i .start) (i .subject) .answer) 0 then returned i (ran i)
+    if eqb (refused (i .table) (i .store) (i .bindings) (i .mark) (i .start) (i .subject) .answer) 0 then returned i (ran quiet tt i)
     else refusing i (refused (i .table) (i .store) (i .bindings) (i .mark) (i .start) (i .subject))
 
 -- the answer of a cut-off's word
@@ -39,14 +41,14 @@ cutNumber c = number (limitOf c)
 -- the five numbers of a run's end, k being the subject, m the mark and u the units that it was given
 unfoldable pub numbers : (k m u : ℕ) → Ran → Outcome
 numbers k m u (ended x b s v) = record { answer = 0; place = 0; subject = x; mark = s .mark; units = u - v }
-numbers k m u (lost w v) = record { answer = 1; place = 0; subject = k; mark = m; units = u - v }
-numbers k m u (cut c w v) = record { answer = number c; place = 0; subject = k; mark = m; units = u - v }
+numbers k m u (lost l v) = record { answer = 1; place = 0; subject = k; mark = m; units = u - v }
+numbers k m u (cut c l v) = record { answer = number c; place = 0; subject = k; mark = m; units = u - v }
 
 -- the store's words at a run's end
 unfoldable pub wordsOf : Ran → List ℕ
 wordsOf (ended x b s v) = s .words
-wordsOf (lost w v) = w
-wordsOf (cut c w v) = w
+wordsOf (lost l v) = l .words
+wordsOf (cut c l v) = l .words
 
 -- the run ends as o: r are its numbers, w the store's words, and where it is done the record st holds its bindings
 pub record Ends (o : Ran) (k m u : ℕ) (r : Outcome) (st w : List ℕ) : Type 0 where

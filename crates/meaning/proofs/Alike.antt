@@ -11,8 +11,8 @@ use lib.ListN.{length, length-append, length-map}
 use Rattle.words.specs.Tests.{if_then_else_}
 use Rattle.meaning.specs.Bindings.{Bindings, bind, has, masked}
 use Rattle.meaning.specs.Table.{Strategy, ID, FAIL, TEST, NOT, SEQ, CHOICE, LEFT, REC, CALL, PATH, CONG, ALL, ONE, SOME, MATCH, BUILD, SCOPE, WHERE, Pattern, PVAR, PCON, Table}
-use Rattle.meaning.specs.Plan.{keep, drop, ret, fail, look, make, ask}
-use Rattle.meaning.specs.Rules.{Visit, apply, match, build, compare, Do, nth, put, zip, agree, when, given, again, walk, oneOf, someOf, strategy, variable, matching, building, comparing, does}
+use Rattle.meaning.specs.Plan.{keep, drop, ret, fail, miss, look, make, ask}
+use Rattle.meaning.specs.Rules.{Visit, apply, match, build, compare, Do, nth, put, zip, agree, when, given, again, walk, oneOf, someOf, strategy, variable, whenAt, matching, building, comparing, does}
 
 -- a node can have this constructor and this many children
 pub record Holdable (c n : ℕ) : Type 0 where
@@ -62,6 +62,7 @@ module _ {H G : Type 0} (K : Worlds H G) where
   pub data PRel : K .World → Do H → Do G → Type 0 where
     p-ret : {w : K .World} {h : H} {g : G} {b : Bindings H} {c : Bindings G} → K .Rel w h g → BRel w b c → PRel w (ret h b) (ret g c)
     p-fail : {w : K .World} → PRel w fail fail
+    p-miss : {w : K .World} (p : ℕ) → PRel w (miss p) (miss p)
     p-look : {w : K .World} {h : H} {g : G} {k : ℕ → List H → Do H} {k′ : ℕ → List G → Do G} → K .Rel w h g
         → ((c : ℕ) (hs : List H) (gs : List G) → Holdable c (length hs) → LRel w hs gs → PRel w (k c hs) (k′ c gs)) → PRel w (look h k) (look g k′)
     p-make : {w : K .World} {c : ℕ} {hs : List H} {gs : List G} {k : H → Do H} {k′ : G → Do G} → Holdable c (length hs) → LRel w hs gs
@@ -182,6 +183,14 @@ module _ {H G : Type 0} {K : Worlds H G} where
   p-if : {w : K .World} {p : Do H} {p′ : Do G} {t t′ : Bool} → t ≡ t′ → PRel K w p p′ → PRel K w (when t p) (when t′ p′)
   p-if {w} {p} {p′} {t} e f = subst (λ z. PRel K w (when t p) (when z p′)) e (p-when t f)
 
+  p-when-at : {w : K .World} {k : Do H} {k′ : Do G} (p : ℕ) (t : Bool) → PRel K w k k′ → PRel K w (whenAt p t k) (whenAt p t k′)
+  unfolding whenAt
+  p-when-at p true f = f
+  p-when-at p false f = p-miss p
+
+  p-if-at : {w : K .World} {k : Do H} {k′ : Do G} (p : ℕ) {t t′ : Bool} → t ≡ t′ → PRel K w k k′ → PRel K w (whenAt p t k) (whenAt p t′ k′)
+  p-if-at {w} {k} {k′} p {t} e f = subst (λ z. PRel K w (whenAt p t k) (whenAt p z k′)) e (p-when-at p t f)
+
   p-given : {w : K .World} {o : Option H} {o′ : Option G} (k : H → Do H) (k′ : G → Do G) → ORel K w o o′ → ((h : H) (g : G) → K .Rel w h g → PRel K w (k h) (k′ g)) → PRel K w (given o k) (given o′ k′)
   unfolding given
   p-given k k′ o-none f = p-fail
@@ -257,16 +266,16 @@ module _ {H G : Type 0} {K : Worlds H G} where
   p-strategy (SCOPE m x) h g b c r s = p-ask (q-apply r (b-masked m (λ v. o-none) s)) (λ v h′ g′ b′ c′ e r′ s′. p-ret r′ (b-masked m (grow-b e s) s′)) (λ v e. p-fail)
   p-strategy (WHERE x) h g b c r s = p-ask (q-apply r s) (λ v h′ g′ b′ c′ e r′ s′. p-ret (K .grow e r) s′) (λ v e. p-fail)
 
-  p-variable : {w : K .World} {o : Option H} {o′ : Option G} (v : ℕ) (h : H) (g : G) (b : Bindings H) (c : Bindings G) → ORel K w o o′ → K .Rel w h g → BRel K w b c → PRel K w (variable o v h b) (variable o′ v g c)
+  p-variable : {w : K .World} {o : Option H} {o′ : Option G} (p v : ℕ) (h : H) (g : G) (b : Bindings H) (c : Bindings G) → ORel K w o o′ → K .Rel w h g → BRel K w b c → PRel K w (variable p o v h b) (variable p o′ v g c)
   unfolding variable
-  p-variable v h g b c o-none r s = p-ret r (b-bind h g v r s)
-  p-variable v h g b c (o-some r′) r s = p-tail (q-compare r′ r s)
+  p-variable p v h g b c o-none r s = p-ret r (b-bind h g v r s)
+  p-variable p v h g b c (o-some r′) r s = p-ask (q-compare r′ r s) (λ w h₁ g₁ b₁ c₁ e r₁ s₁. p-ret r₁ s₁) (λ w e. p-miss p)
 
-  p-matching : {w : K .World} (p : Pattern) (h : H) (g : G) (b : Bindings H) (c : Bindings G) → K .Rel w h g → BRel K w b c → PRel K w (matching p h b) (matching p g c)
+  p-matching : {w : K .World} (q : ℕ) (p : Pattern) (h : H) (g : G) (b : Bindings H) (c : Bindings G) → K .Rel w h g → BRel K w b c → PRel K w (matching q p h b) (matching q p g c)
   unfolding matching agree
-  p-matching (PVAR v) h g b c r s = p-variable v h g b c (s v) r s
-  p-matching {w} (PCON c ps) h g b b′ r s =
-      p-look r (λ d hs gs o l. p-if (ap (λ (n : ℕ). eqb c d && eqb (length ps) n) (same-length l))
+  p-matching q (PVAR v) h g b c r s = p-variable q v h g b c (s v) r s
+  p-matching {w} q (PCON c ps) h g b b′ r s =
+      p-look r (λ d hs gs o l. p-if-at q (ap (λ (n : ℕ). eqb c d && eqb (length ps) n) (same-length l))
       (p-walk w [] [] b b′ _ _ (length (zip match ps hs)) (t-zip match match (λ x v h₁ g₁ b₁ c₁. q-match) ps l) (K .ext-refl w) (omega arith) l-nil s (λ v hs′ gs′ b₁ b₂ e n l′ s′. p-ret (K .grow e r) s′)))
 
   p-building : {w : K .World} (p : Pattern) (h : H) (g : G) (b : Bindings H) (c : Bindings G) → ((c : ℕ) (ps : List ℕ) → p ≡ PCON c ps → Holdable c (length ps)) → K .Rel w h g → BRel K w b c
@@ -287,6 +296,6 @@ module _ {H G : Type 0} {K : Worlds H G} where
   pub p-does : {w : K .World} (T : Table) → Makeable T → {q : Visit H} {q′ : Visit G} → QRel K w q q′ → PRel K w (does T q) (does T q′)
   unfolding does
   p-does T o (q-apply {x = x} {h = h} {g = g} {b = b} {c = c} r s) = p-strategy (T .strategies x) h g b c r s
-  p-does T o (q-match {p = p} {h = h} {g = g} {b = b} {c = c} r s) = p-matching (T .patterns p) h g b c r s
+  p-does T o (q-match {p = p} {h = h} {g = g} {b = b} {c = c} r s) = p-matching p (T .patterns p) h g b c r s
   p-does T o (q-build {p = p} {h = h} {g = g} {b = b} {c = c} r s) = p-building (T .patterns p) h g b c (o p) r s
   p-does T o (q-compare {h = h} {h′ = h′} {g = g} {g′ = g′} {b = b} {c = c} r r′ s) = p-comparing h h′ g g′ b c r r′ s

@@ -8,10 +8,11 @@ use lib.ListN.{getD}
 use Rattle.words.specs.Words.{rows}
 use Rattle.meaning.specs.Term.{Term}
 use Rattle.meaning.specs.Table.{table}
-use Rattle.meaning.specs.Limits.{ended}
+use Rattle.meaning.specs.Limits.{ended, at}
+use Rattle.meaning.specs.Derivation.{Notes}
 use Rattle.meaning.specs.System.{Env}
 use Rattle.meaning.specs.Store.{named, bindings, termOf, meant, Ran, value, deepest, ran, Leaves}
-use Rattle.meaning.specs.Demands.{Rules-agree, limits, begins, Over-the-words, Demand-2}
+use Rattle.meaning.specs.Demands.{Rules-agree, limits, startVisit, Over-the-words, Demand-2}
 use Rattle.meaning.proofs.Limits.{Answer, demand-2-values}
 use Rattle.meaning.proofs.Alike.{ORel, o-none, o-some, BRel, q-apply}
 use Rattle.meaning.proofs.Checked.{good-of-node, store-filled, table-makeable}
@@ -36,10 +37,10 @@ module _ {size : ℕ} (v : Stored size) where
   named-alike (suc k) h = o-some (in-use size v k (omega arith))
 
   -- two runs that end alike have one value, and leave a good store
-  pub alike-value : {r : Ran} {r′ : Answer Term Env} → EndAlike size v r r′ → (value r ≡ r′) × Leaves (v .words) (v .mark) r
+  pub alike-value : {N : Type 0} {Λ : Notes N} {r : Ran N} {r′ : Answer N Term Env} → EndAlike size Λ v r r′ → (value r ≡ r′) × Leaves (v .words) (v .mark) r
   unfolding value meant
-  alike-value (a-ended {v′ = v′} {k = k} {u = u} {b = b} e n s) = (
-    (λ i. ended (n .is i) (fun-ext (λ x. alike-term v′ (s x)) i) (v′ .mark) u),
+  alike-value (a-ended {v′ = v′} {k = k} {u = u} {b = b} {ν = ν} e n s) = (
+    (λ i. ended (n .is i) (fun-ext (λ x. alike-term v′ (s x)) i) (at (v′ .mark) ν) u),
     (e .more, e .kept, record { fits = v′ .filled .fits; good = λ j h. good-of-node (v′ .words) j (v′ .filled .node j h); subject = n .below; bound = λ x j q. alike-below v′ (s x) j q }),
   )
   alike-value (a-lost p) = (refl, p)
@@ -48,7 +49,7 @@ module _ {size : ℕ} (v : Stored size) where
 -- Over the words and over values a run ends alike.
 pub over-the-words : Over-the-words
 unfolding ran bindings meant
-over-the-words i a = alike-value start (together (rows (i .store)) (table (i .table)) (table-makeable (i .table) (a .table)) deepest start _ _ (i .units) (q-apply (record { below = a .subject; is = refl }) bound))
+over-the-words N Λ ν i a = alike-value start (together (rows (i .store)) Λ (table (i .table)) (table-makeable (i .table) (a .table)) deepest start _ _ ν (i .units) (q-apply (record { below = a .subject; is = refl }) bound))
   where
     start : Stored (rows (i .store))
     start = record { words = i .store; mark = i .mark; filled = store-filled (i .store) (i .mark) (a .store); long = refl }
@@ -58,7 +59,7 @@ over-the-words i a = alike-value start (together (rows (i .store)) (table (i .ta
 
 -- Demand 2 over the words.
 pub demand-2 : Rules-agree → Demand-2
-demand-2 agree i a r =
-    let o = over-the-words i a .0 in
-    let d = demand-2-values agree (table (i .table)) (limits i) (begins i) r (store-filled (i .store) (i .mark) (a .store) .fits) in
+demand-2 agree N Λ ν i a r =
+    let o = over-the-words N Λ ν i a .0 in
+    let d = demand-2-values agree N Λ ν (table (i .table)) (limits i) (startVisit i) r (store-filled (i .store) (i .mark) (a .store) .fits) in
     ((λ e. d .0 (sym o ∙ e)), (λ s. o ∙ d .1 s))

@@ -10,9 +10,9 @@ use borrow.Author.Tests.{eqb-true, eq-eqb}
 use Rattle.words.specs.Tests.{if_then_else_}
 use Rattle.meaning.specs.Bindings.{Bindings, unbound, bind, has, masked}
 use Rattle.meaning.specs.Table.{Strategy, ID, FAIL, TEST, NOT, SEQ, CHOICE, LEFT, REC, CALL, PATH, CONG, ALL, ONE, SOME, MATCH, BUILD, SCOPE, WHERE, Pattern, PVAR, PCON, Table}
-use Rattle.meaning.specs.Plan.{Keep, ret, fail, look, make, ask}
-use Rattle.meaning.specs.Rules.{Visit, apply, match, build, compare, Do, nth, put, zip, when, given, again, walk, oneOf, someOf, strategy, variable, matching, building, comparing, does}
-use Rattle.meaning.specs.Derivation.{Out, done, failed, Values, Der, d-ret, d-fail, d-look, d-make, d-yes, d-no}
+use Rattle.meaning.specs.Plan.{Keep, ret, fail, miss, look, make, ask}
+use Rattle.meaning.specs.Rules.{Visit, apply, match, build, compare, Do, nth, put, zip, when, given, again, walk, oneOf, someOf, strategy, variable, whenAt, matching, building, comparing, does}
+use Rattle.meaning.specs.Derivation.{Out, done, failed, Values, Der, d-ret, d-fail, d-miss, d-look, d-make, d-yes, d-no}
 use Rattle.meaning.specs.Free.{In, here, there, operandsOf, Variable, var, part, Free, in-match, in-build, in-scope, in-operand, Scope-removes}
 use Rattle.meaning.proofs.Tests.{impossible}
 
@@ -43,6 +43,7 @@ module _ {H : Type 0} (T : Table) (F : ℕ → Bool) (b : Bindings H) where
   -- every success of the plan leaves b outside F
   pub data Keeps : Do H → Type 0 where
     k-fail : Keeps fail
+    k-miss : {p : ℕ} → Keeps (miss p)
     k-ret : {h : H} {c : Bindings H} → Same F b c → Keeps (ret h c)
     k-look : {h : H} {k : ℕ → List H → Do H} → ((c : ℕ) (hs : List H) → Keeps (k c hs)) → Keeps (look h k)
     k-make : {c : ℕ} {hs : List H} {k : H → Do H} → ((n : H) → Keeps (k n)) → Keeps (make c hs k)
@@ -93,6 +94,11 @@ module _ {H : Type 0} (T : Table) (F : ℕ → Bool) where
   unfolding when
   k-when true f = f
   k-when false f = k-fail
+
+  k-when-at : {b : Bindings H} {k : Do H} (p : ℕ) (t : Bool) → Keeps T F b k → Keeps T F b (whenAt p t k)
+  unfolding whenAt
+  k-when-at p true f = f
+  k-when-at p false f = k-miss
 
   k-given : {b : Bindings H} (o : Option H) (k : H → Do H) → ((g : H) → Keeps T F b (k g)) → Keeps T F b (given o k)
   unfolding given
@@ -172,19 +178,19 @@ module _ {H : Type 0} (T : Table) (F : ℕ → Bool) where
   k-strategy x i (SCOPE m y) e h b = k-ask (λ v. has m v || F v) (up-scope i e) (λ g c s. k-scope m b c g s) k-fail
   k-strategy x i (WHERE y) e h b = k-ask F (up i e here) (λ g c s. k-ret s) k-fail
 
-  k-variable : (v : ℕ) → F v ≡ true → (o : Option H) (h : H) (b : Bindings H) → Keeps T F b (variable o v h b)
+  k-variable : (p v : ℕ) → F v ≡ true → (o : Option H) (h : H) (b : Bindings H) → Keeps T F b (variable p o v h b)
   unfolding variable bind
-  k-variable v i none h b = k-ret (λ w e. go w (eqb w v) refl e)
+  k-variable p v i none h b = k-ret (λ w e. go w (eqb w v) refl e)
     where
       go : (w : ℕ) (t : Bool) → eqb w v ≡ t → F w ≡ false → (if t then some h else b w) ≡ b w
       go w true z e = absurd (clash (subst (λ y. F y ≡ false) (eqb-true w v z) e) i)
       go w false z e = refl
-  k-variable v i (some g) h b = k-ask F tt (λ g c s. k-ret s) k-fail
+  k-variable p v i (some g) h b = k-ask F tt (λ g c s. k-ret s) k-miss
 
-  k-matching : (p : ℕ) → ((v : ℕ) → Variable T p v → F v ≡ true) → (s : Pattern) → T .patterns p ≡ s → (h : H) (b : Bindings H) → Keeps T F b (matching s h b)
+  k-matching : (p : ℕ) → ((v : ℕ) → Variable T p v → F v ≡ true) → (s : Pattern) → T .patterns p ≡ s → (h : H) (b : Bindings H) → Keeps T F b (matching p s h b)
   unfolding matching
-  k-matching p i (PVAR v) e h b = k-variable v (i v (var e)) (b v) h b
-  k-matching p i (PCON c ps) e h b = k-look (λ d hs. k-when _ (k-walk _ (zip-tasks match ps hs (λ q g c. refl) (λ q j g c v f. i v (part e j f))) [] b (same-refl b) _ (λ gs c s. k-ret s)))
+  k-matching p i (PVAR v) e h b = k-variable p v (i v (var e)) (b v) h b
+  k-matching p i (PCON c ps) e h b = k-look (λ d hs. k-when-at p _ (k-walk _ (zip-tasks match ps hs (λ q g c. refl) (λ q j g c v f. i v (part e j f))) [] b (same-refl b) _ (λ gs c s. k-ret s)))
 
   k-building : (p : ℕ) → ((v : ℕ) → Variable T p v → F v ≡ true) → (s : Pattern) → T .patterns p ≡ s → (h : H) (b : Bindings H) → Keeps T F b (building s h b)
   unfolding building
@@ -199,11 +205,12 @@ module _ {H : Type 0} (T : Table) (F : ℕ → Bool) where
   k-does (build p h b) i = k-building p i (T .patterns p) refl h b
   k-does (compare g h b) i = k-look (λ c gs. k-look (λ d hs. k-when _ (k-walk _ (pair-tasks gs hs) [] b (same-refl b) _ (λ ks c s. k-ret s))))
 
-module _ {H : Type 0} (W : Values H) (T : Table) where
+module _ {H : Type 0} (W : Values H (Visit H)) (T : Table) where
   -- a derivation of a plan that keeps them leaves them
   kept-outside : {F : ℕ → Bool} {b : Bindings H} {p : Do H} {o : Out H (Bindings H)} → Der W (does T) p o → Keeps T F b p → Left F b o
   kept-outside d-ret (k-ret s) = s
   kept-outside d-fail k-fail = tt
+  kept-outside d-miss k-miss = tt
   kept-outside (d-look {h = h} d) (k-look f) = kept-outside d (f (W .con h) (W .kids h))
   kept-outside (d-make {c = c} {hs = hs} d) (k-make f) = kept-outside d (f (W .mk c hs))
   kept-outside (d-yes {q = q} {h = h} {b = c} d e) (k-ask G i f g) = kept-outside e (f h c (kept-outside d (k-does T G q i)))

@@ -9,15 +9,15 @@ use Prim.Native.Nat.{ℕ, zero, suc, _<_}
 use native.Mathlib.Omega.{arith}
 use Rattle.meaning.specs.Term.{Term, con, kids, mk}
 use Rattle.meaning.specs.Table.{Strategy, ID, FAIL, TEST, NOT, SEQ, CHOICE, LEFT, REC, CALL, PATH, CONG, ALL, ONE, SOME, MATCH, BUILD, SCOPE, WHERE, Pattern, PVAR, PCON, Table}
-use Rattle.meaning.specs.Plan.{Keep, keep, drop, ret, fail, look, make, ask}
-use Rattle.meaning.specs.Rules.{Visit, apply, match, build, compare, Do, nth, put, zip, agree, when, given, again, walk, oneOf, someOf, strategy, variable, matching, building, comparing, does}
-use Rattle.meaning.specs.Derivation.{Out, done, failed, Trace, over, node, visit, terms, Der, d-ret, d-fail, d-look, d-make, d-yes, d-no, trace as traceDer}
+use Rattle.meaning.specs.Plan.{Keep, keep, drop, ret, fail, miss, look, make, ask}
+use Rattle.meaning.specs.Rules.{Visit, apply, match, build, compare, Do, nth, put, zip, agree, when, given, again, walk, oneOf, someOf, strategy, variable, whenAt, matching, building, comparing, does}
+use Rattle.meaning.specs.Derivation.{Out, done, failed, What, entry, pattern, pair, what, Fate, stays, goes, fails, fate, Trace, over, missed, node, visit, terms, Der, d-ret, d-fail, d-miss, d-look, d-make, d-yes, d-no, trace as traceDer}
 use Rattle.meaning.specs.System
 use Rattle.meaning.specs.System.{Env, Task, Agree, renewed, _∶_is_, _∶_reads_, _⊢_⇒_, Each, Stopped, First, AllFail, Tried, ending, last, renewing, trace, each, stopped, first, allFail, tried}
 use Rattle.meaning.specs.Demands.{Rules-agree}
 use Rattle.meaning.proofs.Tests.{impossible, agree-true, agree-yes, agree-false, agree-no}
 use Rattle.meaning.proofs.Compare.{compare-keeps}
-use Rattle.meaning.proofs.Inversion.{Ends, ret-ends, fail-ends, look-ends, make-ends, ask-yes, ask-no}
+use Rattle.meaning.proofs.Inversion.{Ends, ret-ends, fail-ends, miss-ends, look-ends, make-ends, ask-yes, ask-no}
 
 -- a list that has a first element
 abbrev Nonempty : List Term → Type 0
@@ -51,8 +51,8 @@ abbrev Claim : Type 1
 Claim = Out Term Env → Trace → Type 0
 
 -- P of a trace that begins with a visit
-abbrev Then : Keep → Trace → Claim → Claim
-Then s m P = λ o n. P o (visit s m n)
+abbrev Then : What → Fate → Trace → Claim → Claim
+Then w f m P = λ o n. P o (visit w f m n)
 
 module _ (T : Table) where
   -- by the plans of T, p ends in o and does n
@@ -71,13 +71,13 @@ module _ (T : Table) where
   again-makes t ts b n = rw (n .2) (make-ends ret-ends)
 
   -- a plan that ends with a visit ends as the visit does
-  last-runs : {q : Visit Term} {n : Trace} (o : Out Term Env) → Runs (does T q) o n → Runs (ask keep q ret fail) o (last o n)
-  unfolding last ending
+  last-runs : {q : Visit Term} {n : Trace} (o : Out Term Env) → Runs (does T q) o n → Runs (ask keep q ret fail) o (last (what q) o n)
+  unfolding last ending fate
   last-runs (done t b) z = ask-yes z ret-ends
   last-runs failed z = ask-no z fail-ends
 
   mutual
-    unfolding trace each stopped first allFail tried strategy matching building comparing does walk oneOf someOf when given variable
+    unfolding trace each stopped first allFail tried strategy matching building comparing does walk oneOf someOf when given variable whenAt what fate
 
     -- a derivation by rules is one by plans
     pub planned : {q : Visit Term} {o : Out Term Env} (r : T ⊢ q ⇒ o) → Runs (does T q) o (trace r)
@@ -115,10 +115,10 @@ module _ (T : Table) where
     planned (System.where-failed e r) = rw e (ask-no (planned r) fail-ends)
     planned (System.match-new e n q) = rw e (rw (n, q) ret-ends)
     planned (System.match-same e n r) = rw e (rw n (ask-yes (planned r) ret-ends))
-    planned (System.match-differs e n r) = rw e (rw n (ask-no (planned r) fail-ends))
+    planned (System.match-differs e n r) = rw e (rw n (ask-no (planned r) miss-ends))
     planned (System.match-con {t = t} e a rs) = rw e (look-ends (rw agree-yes (each-planned rs [] (λ gs b. ret t b) ret-ends)))
     planned (System.match-failed {t = t} e a rs) = rw e (look-ends (rw agree-yes (stopped-planned rs [] (λ gs b. ret t b))))
-    planned (System.match-other e n) = rw e (look-ends (rw agree-no fail-ends))
+    planned (System.match-other e n) = rw e (look-ends (rw agree-no miss-ends))
     planned (System.build-bound e n) = rw e (rw n ret-ends)
     planned (System.build-unbound e n) = rw e (rw n fail-ends)
     planned (System.build-con {c = c} e rs q) = rw (e, q) (each-planned rs [] (λ gs b. make c gs (λ n. ret n b)) (make-ends ret-ends))
@@ -167,30 +167,32 @@ module _ (T : Table) where
   abbrev Tells : Claim → Do Term → Type 0
   Tells P (ret t b) = P (done t b) over
   Tells P fail = P failed over
+  Tells P (miss p) = P failed (missed p)
   Tells P (look t k) = Tells P (k (con t) (kids t))
   Tells P (make c ts k) = Tells (λ o n. P o (node n)) (k (mk c ts))
   Tells P (ask s q k p) =
-      ((t : Term) (b : Env) (r : T ⊢ q ⇒ done t b) → Tells (Then s (trace r) P) (k t b))
-      × ((r : T ⊢ q ⇒ failed) → Tells (Then drop (trace r) P) p)
+      ((t : Term) (b : Env) (r : T ⊢ q ⇒ done t b) → Tells (Then (what q) (fate s) (trace r) P) (k t b))
+      × ((r : T ⊢ q ⇒ failed) → Tells (Then (what q) fails (trace r) P) p)
 
   -- a plan that has what P needs ends so that P holds
   told : ((q : Visit Term) → Tells (Derived q) (does T q)) → (P : Claim) {p : Do Term} {o : Out Term Env} (d : Der terms (does T) p o) → Tells P p → P o (traceDer d)
   unfolding traceDer
   told f P d-ret z = z
   told f P d-fail z = z
+  told f P d-miss z = z
   told f P (d-look d) z = told f P d z
   told f P (d-make d) z = told f (λ o n. P o (node n)) d z
   told f P (d-yes {t = s} {q = q} {h = t} {b = b} {o = o} d e) z =
       let (r, x) = told f (Derived q) d (f q) in
-      subst (λ (m : Trace). P o (visit s m (traceDer e))) x (told f (Then s (trace r) P) e (z .0 t b r))
+      subst (λ (m : Trace). P o (visit (what q) (fate s) m (traceDer e))) x (told f (Then (what q) (fate s) (trace r) P) e (z .0 t b r))
   told f P (d-no {q = q} {o = o} d e) z =
       let (r, x) = told f (Derived q) d (f q) in
-      subst (λ (m : Trace). P o (visit drop m (traceDer e))) x (told f (Then drop (trace r) P) e (z .1 r))
+      subst (λ (m : Trace). P o (visit (what q) fails m (traceDer e))) x (told f (Then (what q) fails (trace r) P) e (z .1 r))
 
   module _ (P : Claim) where
     -- a plan that ends with a visit needs P of the visit's end
-    last-tells : (q : Visit Term) → ((o : Out Term Env) (r : T ⊢ q ⇒ o) → P o (last o (trace r))) → Tells P (ask keep q ret fail)
-    unfolding last ending
+    last-tells : (q : Visit Term) → ((o : Out Term Env) (r : T ⊢ q ⇒ o) → P o (last (what q) o (trace r))) → Tells P (ask keep q ret fail)
+    unfolding last ending fate
     last-tells q f = (λ t b r. f (done t b) r, λ r. f failed r)
 
     -- making a term anew needs P of it, or of the term itself where there are no children
@@ -214,6 +216,14 @@ module _ (T : Table) where
     agree-tells : {A : Type 0} (c : ℕ) (xs : List A) (t : Term) (p : Do Term) → (Agree c xs t → Tells P p) → ((Agree c xs t → ⊥) → P failed over) → Tells P (when (agree c xs (con t) (kids t)) p)
     agree-tells c xs t p y n = when-tells _ p (λ e. y (agree-true c xs t e)) (λ e. n (agree-false c xs t e))
 
+    when-tells-at : (q : ℕ) (x : Bool) (p : Do Term) → (x ≡ true → Tells P p) → (x ≡ false → P failed (missed q)) → Tells P (whenAt q x p)
+    unfolding whenAt
+    when-tells-at q true p y n = y refl
+    when-tells-at q false p y n = n refl
+
+    agree-tells-at : {A : Type 0} (q c : ℕ) (xs : List A) (t : Term) (p : Do Term) → (Agree c xs t → Tells P p) → ((Agree c xs t → ⊥) → P failed (missed q)) → Tells P (whenAt q (agree c xs (con t) (kids t)) p)
+    agree-tells-at q c xs t p y n = when-tells-at q _ p (λ e. y (agree-true c xs t e)) (λ e. n (agree-false c xs t e))
+
     -- the same by whether there is a term
     given-tells : (x : Option Term) (k : Term → Do Term) → ((g : Term) → x ≡ some g → Tells P (k g)) → (x ≡ none → P failed over) → Tells P (given x k)
     unfolding given
@@ -225,10 +235,10 @@ module _ (T : Table) where
       → ((ts : List Term) (b′ : Env) (rs : Each T qs b ts b′) → Tells (λ o n. P o (each rs n)) (k (gs ++ ts) b′))
       → ((rs : Stopped T qs b) → P failed (stopped rs))
       → Tells P (walk qs gs b k)
-  unfolding walk each stopped
+  unfolding walk each stopped fate
   walk-tells P [] gs b k y n = rw append-nil at (y [] b System.each-none)
   walk-tells P (q ∷ qs) gs b k y n = (
-    λ t b′ r. walk-tells (Then keep (trace r) P) qs (gs ++ (t ∷ [])) b′ k (λ ts b″ rs. rw append-assoc (y (t ∷ ts) b″ (System.each-more r rs))) (λ rs. n (System.stopped-later r rs)),
+    λ t b′ r. walk-tells (Then (what (q b)) stays (trace r) P) qs (gs ++ (t ∷ [])) b′ k (λ ts b″ rs. rw append-assoc (y (t ∷ ts) b″ (System.each-more r rs))) (λ rs. n (System.stopped-later r rs)),
     λ r. n (System.stopped-here r),
   )
 
@@ -237,22 +247,22 @@ module _ (T : Table) where
       → ((ts : List Term) (b′ : Env) (rs : First T x hs b ts b′) → P (done (mk (con t) (gs ++ ts)) b′) (first rs))
       → ((rs : AllFail T x hs b) → P failed (allFail rs))
       → Tells P (oneOf x gs hs b (again t (con t)))
-  unfolding oneOf first allFail
+  unfolding oneOf first allFail what fate
   one-tells P x gs [] b t y n = n System.fail-none
   one-tells P x gs (h ∷ hs) b t y n = (
-    λ h′ b′ r. again-tells-made (Then keep (trace r) P) t (gs ++ (h′ ∷ hs)) b′ (append-nonempty gs h′ hs) (y (h′ ∷ hs) b′ (System.first-here r)),
-    λ r. one-tells (Then drop (trace r) P) x (gs ++ (h ∷ [])) hs b t (λ ts b′ rs. rw append-assoc (y (h ∷ ts) b′ (System.first-later r rs))) (λ rs. n (System.fail-more r rs)),
+    λ h′ b′ r. again-tells-made (Then (entry x) stays (trace r) P) t (gs ++ (h′ ∷ hs)) b′ (append-nonempty gs h′ hs) (y (h′ ∷ hs) b′ (System.first-here r)),
+    λ r. one-tells (Then (entry x) fails (trace r) P) x (gs ++ (h ∷ [])) hs b t (λ ts b′ rs. rw append-assoc (y (h ∷ ts) b′ (System.first-later r rs))) (λ rs. n (System.fail-more r rs)),
   )
 
   -- SOME, where a child has succeeded already, needs P of the term with the children tried
   some-tells-more : (P : Claim) (x : ℕ) (gs hs : List Term) (b : Env) (t : Term) → Nonempty gs
       → ((ts : List Term) (b′ : Env) (n : ℕ) (rs : Tried T x hs b ts b′ n) → P (done (mk (con t) (gs ++ ts)) b′) (tried rs))
       → Tells P (someOf x true gs hs b (again t (con t)))
-  unfolding someOf when tried
+  unfolding someOf when what fate tried
   some-tells-more P x gs [] b t h y = again-tells-made P t gs b h (rw append-nil at (y [] b 0 System.tried-none))
   some-tells-more P x gs (g ∷ hs) b t h y = (
-    λ g′ b′ r. some-tells-more (Then keep (trace r) P) x (gs ++ (g′ ∷ [])) hs b′ t (append-nonempty gs g′ []) (λ ts b″ n rs. rw append-assoc (y (g′ ∷ ts) b″ (suc n) (System.tried-new r rs))),
-    λ r. some-tells-more (Then drop (trace r) P) x (gs ++ (g ∷ [])) hs b t (append-nonempty gs g []) (λ ts b′ n rs. rw append-assoc (y (g ∷ ts) b′ n (System.tried-kept r rs))),
+    λ g′ b′ r. some-tells-more (Then (entry x) stays (trace r) P) x (gs ++ (g′ ∷ [])) hs b′ t (append-nonempty gs g′ []) (λ ts b″ n rs. rw append-assoc (y (g′ ∷ ts) b″ (suc n) (System.tried-new r rs))),
+    λ r. some-tells-more (Then (entry x) fails (trace r) P) x (gs ++ (g ∷ [])) hs b t (append-nonempty gs g []) (λ ts b′ n rs. rw append-assoc (y (g ∷ ts) b′ n (System.tried-kept r rs))),
   )
 
   -- SOME needs P of the term with the children tried where one succeeds, and of failure where none does
@@ -260,11 +270,11 @@ module _ (T : Table) where
       → ((ts : List Term) (b′ : Env) (n : ℕ) (rs : Tried T x hs b ts b′ (suc n)) → P (done (mk (con t) (gs ++ ts)) b′) (tried rs))
       → ((rs : AllFail T x hs b) → P failed (allFail rs))
       → Tells P (someOf x false gs hs b (again t (con t)))
-  unfolding someOf when tried allFail
+  unfolding someOf when what fate tried allFail
   some-tells P x gs [] b t y n = n System.fail-none
   some-tells P x gs (g ∷ hs) b t y n = (
-    λ g′ b′ r. some-tells-more (Then keep (trace r) P) x (gs ++ (g′ ∷ [])) hs b′ t (append-nonempty gs g′ []) (λ ts b″ n rs. rw append-assoc (y (g′ ∷ ts) b″ n (System.tried-new r rs))),
-    λ r. some-tells (Then drop (trace r) P) x (gs ++ (g ∷ [])) hs b t (λ ts b′ n rs. rw append-assoc (y (g ∷ ts) b′ n (System.tried-kept r rs))) (λ rs. n (System.fail-more r rs)),
+    λ g′ b′ r. some-tells-more (Then (entry x) stays (trace r) P) x (gs ++ (g′ ∷ [])) hs b′ t (append-nonempty gs g′ []) (λ ts b″ n rs. rw append-assoc (y (g′ ∷ ts) b″ n (System.tried-new r rs))),
+    λ r. some-tells (Then (entry x) fails (trace r) P) x (gs ++ (g ∷ [])) hs b t (λ ts b′ n rs. rw append-assoc (y (g ∷ ts) b′ n (System.tried-kept r rs))) (λ rs. n (System.fail-more r rs)),
   )
 
   module _ (x : ℕ) (t : Term) (b : Env) where
@@ -274,19 +284,19 @@ module _ (T : Table) where
 
     -- each kind's plan tells what its rules derive
     strategy-tells : (s : Strategy) → T ∶ x is s → Tells Applied (strategy s t b)
-    unfolding strategy trace
+    unfolding strategy trace what fate
     strategy-tells ID e = (System.id-done e, refl)
     strategy-tells FAIL e = (System.fail-failed e, refl)
     strategy-tells (TEST y) e = (λ t′ b′ r. (System.test-done e r, refl), λ r. (System.test-failed e r, refl))
     strategy-tells (NOT y) e = (λ t′ b′ r. (System.not-failed e r, refl), λ r. (System.not-done e r, refl))
-    strategy-tells (SEQ y z) e = (λ t′ b′ r. last-tells (Then keep (trace r) Applied) (apply z t′ b′) (λ o r′. (System.seq-then e r r′, refl)), λ r. (System.seq-failed e r, refl))
-    strategy-tells (CHOICE y z) e = (λ t′ b′ r. (System.choice-first e r, refl), λ r. last-tells (Then drop (trace r) Applied) (apply z t b) (λ o r′. (System.choice-second e r r′, refl)))
-    strategy-tells (LEFT y z) e = (λ t′ b′ r. (System.left-first e r, refl), λ r. last-tells (Then drop (trace r) Applied) (apply z t b) (λ o r′. (System.left-second e r r′, refl)))
+    strategy-tells (SEQ y z) e = (λ t′ b′ r. last-tells (Then (entry y) stays (trace r) Applied) (apply z t′ b′) (λ o r′. (System.seq-then e r r′, refl)), λ r. (System.seq-failed e r, refl))
+    strategy-tells (CHOICE y z) e = (λ t′ b′ r. (System.choice-first e r, refl), λ r. last-tells (Then (entry y) fails (trace r) Applied) (apply z t b) (λ o r′. (System.choice-second e r r′, refl)))
+    strategy-tells (LEFT y z) e = (λ t′ b′ r. (System.left-first e r, refl), λ r. last-tells (Then (entry y) fails (trace r) Applied) (apply z t b) (λ o r′. (System.left-second e r r′, refl)))
     strategy-tells (REC y) e = last-tells Applied (apply y t b) (λ o r. (System.rec-body e r, refl))
     strategy-tells (CALL y) e = last-tells Applied (apply y t b) (λ o r. (System.call-rec e r, refl))
     strategy-tells (PATH i y) e =
         given-tells Applied (nth (kids t) i) _
-        (λ g n. (λ g′ b′ r. again-tells-made (Then keep (trace r) Applied) t (put (kids t) i g′) b′ (put-nonempty (kids t) i g g′ n) (System.path-done e n r refl, refl), λ r. (System.path-failed e n r, refl)))
+        (λ g n. (λ g′ b′ r. again-tells-made (Then (entry y) stays (trace r) Applied) t (put (kids t) i g′) b′ (put-nonempty (kids t) i g g′ n) (System.path-done e n r refl, refl), λ r. (System.path-failed e n r, refl)))
         (λ n. (System.path-none e n, refl))
     strategy-tells (CONG c ys) e =
         agree-tells Applied c ys t _
@@ -301,34 +311,34 @@ module _ (T : Table) where
     strategy-tells (WHERE y) e = (λ t′ b′ r. (System.where-done e r, refl), λ r. (System.where-failed e r, refl))
 
   -- a bound variable met by MATCH ends as its comparison does
-  compared-tells : (p v : ℕ) (g t : Term) (b : Env) → T ∶ p reads PVAR v → b v ≡ some g → (o : Out Term Env) → o ≡ done t b → (r : T ⊢ compare g t b ⇒ o) → Derived (match p t b) o (visit keep (trace r) over)
+  compared-tells : (p v : ℕ) (g t : Term) (b : Env) → T ∶ p reads PVAR v → b v ≡ some g → (o : Out Term Env) → o ≡ done t b → (r : T ⊢ compare g t b ⇒ o) → Derived (match p t b) o (visit pair stays (trace r) over)
   unfolding trace
-  compared-tells p v g t b e n o c = subst (λ (o : Out Term Env). (r : T ⊢ compare g t b ⇒ o) → Derived (match p t b) o (visit keep (trace r) over)) (sym c) (λ r. (System.match-same e n r, refl))
+  compared-tells p v g t b e n o c = subst (λ (o : Out Term Env). (r : T ⊢ compare g t b ⇒ o) → Derived (match p t b) o (visit pair stays (trace r) over)) (sym c) (λ r. (System.match-same e n r, refl))
 
   -- the plan of a variable met by MATCH tells what its rules derive
-  variable-tells : (p v : ℕ) (x : Option Term) (t : Term) (b : Env) → T ∶ p reads PVAR v → b v ≡ x → Tells (Derived (match p t b)) (variable x v t b)
-  unfolding variable trace
+  variable-tells : (p v : ℕ) (x : Option Term) (t : Term) (b : Env) → T ∶ p reads PVAR v → b v ≡ x → Tells (Derived (match p t b)) (variable p x v t b)
+  unfolding variable trace what fate
   variable-tells p v none t b e n = (System.match-new e n refl, refl)
   variable-tells p v (some g) t b e n = (λ t′ b′ r. compared-tells p v g t b e n (done t′ b′) (compare-keeps T r) r, λ r. (System.match-differs e n r, refl))
 
   -- the plan of a position met by MATCH tells what its rules derive
-  matching-tells : (p : ℕ) (s : Pattern) (t : Term) (b : Env) → T ∶ p reads s → Tells (Derived (match p t b)) (matching s t b)
-  unfolding matching trace
+  matching-tells : (p : ℕ) (s : Pattern) (t : Term) (b : Env) → T ∶ p reads s → Tells (Derived (match p t b)) (matching p s t b)
+  unfolding matching trace what fate
   matching-tells p (PVAR v) t b e = variable-tells p v (b v) t b e refl
   matching-tells p (PCON c ps) t b e =
-      agree-tells (Derived (match p t b)) c ps t _
+      agree-tells-at (Derived (match p t b)) p c ps t _
       (λ a. walk-tells (Derived (match p t b)) (zip match ps (kids t)) [] b (λ gs b′. ret t b′) (λ ts b′ rs. (System.match-con e a rs, refl)) (λ rs. (System.match-failed e a rs, refl)))
       (λ n. (System.match-other e n, refl))
 
   -- the plan of a position met by BUILD tells what its rules derive
   building-tells : (p : ℕ) (s : Pattern) (t : Term) (b : Env) → T ∶ p reads s → Tells (Derived (build p t b)) (building s t b)
-  unfolding building trace
+  unfolding building trace what fate
   building-tells p (PVAR v) t b e = given-tells (Derived (build p t b)) (b v) _ (λ g n. (System.build-bound e n, refl)) (λ n. (System.build-unbound e n, refl))
   building-tells p (PCON c ps) t b e = walk-tells (Derived (build p t b)) (map (λ q. build q t) ps) [] b _ (λ ts b′ rs. (System.build-con e rs refl, refl)) (λ rs. (System.build-failed e rs, refl))
 
   -- the plan of a pair compared tells what its rules derive
   comparing-tells : (g t : Term) (b : Env) → Tells (Derived (compare g t b)) (comparing g t b)
-  unfolding comparing trace
+  unfolding comparing trace what fate
   comparing-tells g t b =
       agree-tells (Derived (compare g t b)) (con g) (kids g) t _
       (λ a. walk-tells (Derived (compare g t b)) (zip compare (kids g) (kids t)) [] b (λ gs b′. ret t b′) (λ ts b′ rs. (System.compare-same a rs, refl)) (λ rs. (System.compare-failed a rs, refl)))

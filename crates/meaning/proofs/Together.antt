@@ -15,13 +15,13 @@ use Rattle.meaning.specs.Bindings.{Bindings}
 use Rattle.meaning.specs.Table.{Table}
 use Rattle.meaning.specs.Plan.{keep, drop}
 use Rattle.meaning.specs.Rules.{Visit, Do, does}
-use Rattle.meaning.specs.Derivation.{terms}
-use Rattle.meaning.specs.Limits.{Limit, ended, lost, cut, counting, roomFor, settled, after, runPlan, run}
+use Rattle.meaning.specs.Derivation.{what, Notes, terms}
+use Rattle.meaning.specs.Limits.{Limit, ended, lost, cut, Counted, at, counting, roomFor, settled, after, closed, runPlan, run}
 use Rattle.meaning.specs.System.{Env}
-use Rattle.meaning.specs.Store.{children, row, State, on, stored, term, Ran, Kept}
+use Rattle.meaning.specs.Store.{children, row, State, on, Left, rest, stored, term, Ran, Kept}
 use Rattle.meaning.proofs.Terms.{list-unlist}
 use Rattle.meaning.proofs.Limits.{Answer}
-use Rattle.meaning.proofs.Alike.{Holdable, Makeable, Worlds, LRel, l-nil, l-cons, BRel, QRel, PRel, p-ret, p-fail, p-look, p-make, p-ask, p-test, p-does}
+use Rattle.meaning.proofs.Alike.{Holdable, Makeable, Worlds, LRel, l-nil, l-cons, BRel, QRel, PRel, q-apply, q-match, q-build, q-compare, p-ret, p-fail, p-miss, p-look, p-make, p-ask, p-test, p-does}
 use Rattle.meaning.proofs.Checked.{Filled}
 use Rattle.meaning.proofs.Words.{kept-refl, kept-trans, kept-filled, Below, below-none, below-more, map-below, children-below, new-kept, new-filled, new-constructor, new-children, term-node, kept-term}
 
@@ -32,8 +32,8 @@ pub record Stored (size : ℕ) : Type 0 where
   pub filled : Filled words mark
   pub long : rows words ≡ size
 
-abbrev pub state : {size : ℕ} → Stored size → State
-state v = on (v .words) (v .mark)
+abbrev pub state : {N : Type 0} {size : ℕ} → Stored size → N → State N
+state v ν = on (v .words) (v .mark) ν
 
 -- new nodes come after those that were there
 pub record Later {size : ℕ} (v v′ : Stored size) : Type 0 where
@@ -131,74 +131,93 @@ module _ (size : ℕ) where
           ∙ ap (mk c) (map-below (term (grown .words)) (term (v .words)) (names-below l) (λ j h. kept-term (v .filled) (later-grown .kept) j h) ∙ names-terms l);
     }
 
-  -- two runs from the store v that end alike
-  pub data EndAlike (v : Stored size) : Ran → Answer Term Env → Type 0 where
-    a-ended : {v′ : Stored size} {k u : ℕ} {t : Term} {b : Bindings ℕ} {c : Env} → Later v v′ → Names v′ k t → BRel stores v′ b c → EndAlike v (ended k b (state v′) u) (ended t c (v′ .mark) u)
-    a-lost : {w : List ℕ} {u : ℕ} → Kept (v .words) (v .mark) w → EndAlike v (lost w u) (lost tt u)
-    a-cut : {x : Limit} {w : List ℕ} {u : ℕ} → Kept (v .words) (v .mark) w → EndAlike v (cut x w u) (cut x tt u)
+  module _ {N : Type 0} (Λ : Notes N) where
+    -- two runs from the store v that end alike
+    pub data EndAlike (v : Stored size) : Ran N → Answer N Term Env → Type 0 where
+      a-ended : {v′ : Stored size} {k u : ℕ} {t : Term} {b : Bindings ℕ} {c : Env} {ν : N} → Later v v′ → Names v′ k t → BRel stores v′ b c → EndAlike v (ended k b (state v′ ν) u) (ended t c (at (v′ .mark) ν) u)
+      a-lost : {w : List ℕ} {u : ℕ} {ν : N} → Kept (v .words) (v .mark) w → EndAlike v (lost (rest w ν) u) (lost ν u)
+      a-cut : {x : Limit} {w : List ℕ} {u : ℕ} {ν : N} → Kept (v .words) (v .mark) w → EndAlike v (cut x (rest w ν) u) (cut x ν u)
 
-  -- from a later store alike, from the store alike
-  alike-before : {v v′ : Stored size} {r : Ran} {r′ : Answer Term Env} → Later v v′ → EndAlike v′ r r′ → EndAlike v r r′
-  alike-before e (a-ended {v′ = v″} f n s) = a-ended {v′ = v″} (later-trans e f) n s
-  alike-before e (a-lost p) = a-lost (kept-trans (e .more) (e .kept) p)
-  alike-before e (a-cut p) = a-cut (kept-trans (e .more) (e .kept) p)
+    -- from a later store alike, from the store alike
+    alike-before : {v v′ : Stored size} {r : Ran N} {r′ : Answer N Term Env} → Later v v′ → EndAlike v′ r r′ → EndAlike v r r′
+    alike-before e (a-ended {v′ = v″} f n s) = a-ended {v′ = v″} (later-trans e f) n s
+    alike-before e (a-lost p) = a-lost (kept-trans (e .more) (e .kept) p)
+    alike-before e (a-cut p) = a-cut (kept-trans (e .more) (e .kept) p)
 
-  -- a node is made in both or in neither
-  alike-room : {v : Stored size} (t : Bool) (u : ℕ) (r : Ran) (r′ : Answer Term Env) → (t ≡ false → EndAlike v r r′) → EndAlike v (roomFor t (v .words) u r) (roomFor t tt u r′)
-  unfolding roomFor
-  alike-room {v} true u r r′ f = a-cut (kept-refl (v .words) (v .mark))
-  alike-room false u r r′ f = f refl
+    -- a node is made in both or in neither
+    alike-room : {v : Stored size} (t : Bool) (ν : N) (u : ℕ) (r : Ran N) (r′ : Answer N Term Env) → (t ≡ false → EndAlike v r r′) → EndAlike v (roomFor t (rest (v .words) ν) u r) (roomFor t ν u r′)
+    unfolding roomFor
+    alike-room {v} true ν u r r′ f = a-cut (kept-refl (v .words) (v .mark))
+    alike-room false ν u r r′ f = f refl
 
-  -- what is asked for ends alike
-  abbrev Together : (Visit ℕ → State → ℕ → Ran) → (Visit Term → ℕ → ℕ → Answer Term Env) → Type 0
-  Together ev ev′ = (v : Stored size) (q : Visit ℕ) (q′ : Visit Term) (u : ℕ) → QRel stores v q q′ → EndAlike v (ev q (state v) u) (ev′ q′ (v .mark) u)
+    -- what is asked for ends alike
+    abbrev Together : (Visit ℕ → State N → ℕ → Ran N) → (Visit Term → Counted N → ℕ → Answer N Term Env) → Type 0
+    Together ev ev′ = (v : Stored size) (q : Visit ℕ) (q′ : Visit Term) (ν : N) (u : ℕ) → QRel stores v q q′ → EndAlike v (ev q (state v ν) u) (ev′ q′ (at (v .mark) ν) u)
 
-  module _ (v : Stored size) (f : ℕ → Bindings ℕ → State → ℕ → Ran) (f′ : Term → Env → ℕ → ℕ → Answer Term Env) (g : State → ℕ → Ran) (g′ : ℕ → ℕ → Answer Term Env)
-      (no : (w : List ℕ) (p : Kept (v .words) (v .mark) w) (u : ℕ) → EndAlike (backed v w p) (g (on w (v .mark)) u) (g′ (v .mark) u)) where
-    alike-ask : {r : Ran} {r′ : Answer Term Env} → EndAlike v r r′
-        → ((v′ : Stored size) (k : ℕ) (t : Term) (b : Bindings ℕ) (c : Env) (u : ℕ) → Later v v′ → Names v′ k t → BRel stores v′ b c → EndAlike v′ (f k b (state v′) u) (f′ t c (v′ .mark) u))
-        → EndAlike v (after stored keep (state v) r f g) (after (counting terms size) keep (v .mark) r′ f′ g′)
-    unfolding after settled
-    alike-ask (a-ended {v′ = v′} {u = u} e n s) yes-then = alike-before e (yes-then v′ _ _ _ _ u e n s)
-    alike-ask (a-lost {w = w} {u = u} p) yes-then = alike-before (later-backed v w p) (no w p u)
-    alike-ask (a-cut p) yes-then = a-cut p
+    module _ (v : Stored size) (f : ℕ → Bindings ℕ → State N → ℕ → Ran N) (f′ : Term → Env → Counted N → ℕ → Answer N Term Env) (g : State N → ℕ → Ran N) (g′ : Counted N → ℕ → Answer N Term Env)
+        (no : (w : List ℕ) (p : Kept (v .words) (v .mark) w) (ν : N) (u : ℕ) → EndAlike (backed v w p) (g (on w (v .mark) ν) u) (g′ (at (v .mark) ν) u)) (ν₀ : N) where
+      alike-ask : {r : Ran N} {r′ : Answer N Term Env} → EndAlike v r r′
+          → ((v′ : Stored size) (k : ℕ) (t : Term) (b : Bindings ℕ) (c : Env) (ν : N) (u : ℕ) → Later v v′ → Names v′ k t → BRel stores v′ b c → EndAlike v′ (f k b (state v′ ν) u) (f′ t c (at (v′ .mark) ν) u))
+          → EndAlike v (after (stored Λ) keep (state v ν₀) r f g) (after (counting terms Λ size) keep (at (v .mark) ν₀) r′ f′ g′)
+      unfolding after settled
+      alike-ask (a-ended {v′ = v′} {u = u} {ν = ν} e n s) yes-then = alike-before e (yes-then v′ _ _ _ _ ν u e n s)
+      alike-ask (a-lost {w = w} {u = u} {ν = ν} p) yes-then = alike-before (later-backed v w p) (no w p ν u)
+      alike-ask (a-cut p) yes-then = a-cut p
 
-    alike-test : {r : Ran} {r′ : Answer Term Env} → EndAlike v r r′
-        → ((w : List ℕ) (p : Kept (v .words) (v .mark) w) (k : ℕ) (t : Term) (b : Bindings ℕ) (c : Env) (u : ℕ) → EndAlike (backed v w p) (f k b (on w (v .mark)) u) (f′ t c (v .mark) u))
-        → EndAlike v (after stored drop (state v) r f g) (after (counting terms size) drop (v .mark) r′ f′ g′)
-    unfolding after settled
-    alike-test (a-ended {v′ = v′} {u = u} e n s) yes-then = alike-before (later-backed v (v′ .words) (e .kept)) (yes-then (v′ .words) (e .kept) _ _ _ _ u)
-    alike-test (a-lost {w = w} {u = u} p) yes-then = alike-before (later-backed v w p) (no w p u)
-    alike-test (a-cut p) yes-then = a-cut p
+      alike-test : {r : Ran N} {r′ : Answer N Term Env} → EndAlike v r r′
+          → ((w : List ℕ) (p : Kept (v .words) (v .mark) w) (k : ℕ) (t : Term) (b : Bindings ℕ) (c : Env) (ν : N) (u : ℕ) → EndAlike (backed v w p) (f k b (on w (v .mark) ν) u) (f′ t c (at (v .mark) ν) u))
+          → EndAlike v (after (stored Λ) drop (state v ν₀) r f g) (after (counting terms Λ size) drop (at (v .mark) ν₀) r′ f′ g′)
+      unfolding after settled
+      alike-test (a-ended {v′ = v′} {u = u} {ν = ν} e n s) yes-then = alike-before (later-backed v (v′ .words) (e .kept)) (yes-then (v′ .words) (e .kept) _ _ _ _ ν u)
+      alike-test (a-lost {w = w} {u = u} {ν = ν} p) yes-then = alike-before (later-backed v w p) (no w p ν u)
+      alike-test (a-cut p) yes-then = a-cut p
 
-  -- related plans end alike where the visits do
-  alike-plan : (ev : Visit ℕ → State → ℕ → Ran) (ev′ : Visit Term → ℕ → ℕ → Answer Term Env) → Together ev ev′ → {v : Stored size} {p : Do ℕ} {p′ : Do Term} → PRel stores v p p′ → (u : ℕ)
-      → EndAlike v (runPlan stored ev p (state v) u) (runPlan (counting terms size) ev′ p′ (v .mark) u)
-  unfolding runPlan
-  alike-plan ev ev′ z {v} (p-ret n s) u = a-ended {v′ = v} (later-refl v) n s
-  alike-plan ev ev′ z {v} p-fail u = a-lost (kept-refl (v .words) (v .mark))
-  alike-plan ev ev′ z {v} (p-look {h = h} {g = t} {k = k} {k′ = k′} n f) u =
-      subst (λ c. EndAlike v (runPlan stored ev (k (constructorOf (v .words) h) (children (v .words) h)) (state v) u) (runPlan (counting terms size) ev′ (k′ c (kids t)) (v .mark) u)) (sym (names-constructor n))
-      (alike-plan ev ev′ z (f (constructorOf (v .words) h) (children (v .words) h) (kids t) (names-holdable n) (names-children n)) u)
-  alike-plan ev ev′ z {v} (p-make {c = c} {hs = hs} {gs = gs} {k = k} {k′ = k′} o l f) u =
-      subst (λ n. EndAlike v (roomFor (leb (rows (v .words)) (v .mark)) (v .words) u (runPlan stored ev (k (v .mark)) (on (putRow (v .words) (v .mark) (row c hs)) (v .mark + 1)) u))
-      (roomFor (leb n (v .mark)) tt u (runPlan (counting terms size) ev′ (k′ (mk c gs)) (suc (v .mark)) u))) (v .long)
-      (alike-room (leb (rows (v .words)) (v .mark)) u _ _ (λ e.
-      let room : v .mark < size = omega (arith, leb-false (rows (v .words)) (v .mark) e, v .long) in
-      alike-before (later-grown v c hs gs o room l)
-      (subst (λ m. EndAlike (grown v c hs gs o room l) (runPlan stored ev (k (v .mark)) (on (putRow (v .words) (v .mark) (row c hs)) (v .mark + 1)) u) (runPlan (counting terms size) ev′ (k′ (mk c gs)) m u)) (add-one (v .mark))
-      (alike-plan ev ev′ z (f (grown v c hs gs o room l) (v .mark) (mk c gs) (later-grown v c hs gs o room l) (names-grown v c hs gs o room l)) u))))
-  alike-plan ev ev′ z {v} (p-ask {q = q} {q′ = q′} r f g) u =
-      alike-ask v _ _ _ _ (λ w p u′. alike-plan ev ev′ z (g (backed v w p) (later-backed v w p)) u′) (z v q q′ u r)
-      (λ v′ k t b c u′ e n s. alike-plan ev ev′ z (f v′ k t b c e n s) u′)
-  alike-plan ev ev′ z {v} (p-test {q = q} {q′ = q′} r f g) u =
-      alike-test v _ _ _ _ (λ w p u′. alike-plan ev ev′ z (g (backed v w p) (later-backed v w p)) u′) (z v q q′ u r)
-      (λ w p k t b c u′. alike-plan ev ev′ z (f (backed v w p) k t b c (later-backed v w p)) u′)
+    -- related plans end alike where the visits do
+    alike-plan : (ev : Visit ℕ → State N → ℕ → Ran N) (ev′ : Visit Term → Counted N → ℕ → Answer N Term Env) → Together ev ev′ → {v : Stored size} {p : Do ℕ} {p′ : Do Term} → PRel stores v p p′ → (ν : N) (u : ℕ)
+        → EndAlike v (runPlan (stored Λ) ev p (state v ν) u) (runPlan (counting terms Λ size) ev′ p′ (at (v .mark) ν) u)
+    unfolding runPlan
+    alike-plan ev ev′ z {v} (p-ret n s) ν u = a-ended {v′ = v} (later-refl v) n s
+    alike-plan ev ev′ z {v} p-fail ν u = a-lost (kept-refl (v .words) (v .mark))
+    alike-plan ev ev′ z {v} (p-miss y) ν u = a-lost (kept-refl (v .words) (v .mark))
+    alike-plan ev ev′ z {v} (p-look {h = h} {g = t} {k = k} {k′ = k′} n f) ν u =
+        subst (λ c. EndAlike v (runPlan (stored Λ) ev (k (constructorOf (v .words) h) (children (v .words) h)) (state v ν) u) (runPlan (counting terms Λ size) ev′ (k′ c (kids t)) (at (v .mark) ν) u)) (sym (names-constructor n))
+        (alike-plan ev ev′ z (f (constructorOf (v .words) h) (children (v .words) h) (kids t) (names-holdable n) (names-children n)) ν u)
+    alike-plan ev ev′ z {v} (p-make {c = c} {hs = hs} {gs = gs} {k = k} {k′ = k′} o l f) ν u =
+        subst (λ n. EndAlike v (roomFor (leb (rows (v .words)) (v .mark)) (rest (v .words) ν) u (runPlan (stored Λ) ev (k (v .mark)) (on (putRow (v .words) (v .mark) (row c hs)) (v .mark + 1) ν) u))
+        (roomFor (leb n (v .mark)) ν u (runPlan (counting terms Λ size) ev′ (k′ (mk c gs)) (at (suc (v .mark)) ν) u))) (v .long)
+        (alike-room (leb (rows (v .words)) (v .mark)) ν u _ _ (λ e.
+        let room : v .mark < size = omega (arith, leb-false (rows (v .words)) (v .mark) e, v .long) in
+        alike-before (later-grown v c hs gs o room l)
+        (subst (λ m. EndAlike (grown v c hs gs o room l) (runPlan (stored Λ) ev (k (v .mark)) (on (putRow (v .words) (v .mark) (row c hs)) (v .mark + 1) ν) u) (runPlan (counting terms Λ size) ev′ (k′ (mk c gs)) (at m ν) u)) (add-one (v .mark))
+        (alike-plan ev ev′ z (f (grown v c hs gs o room l) (v .mark) (mk c gs) (later-grown v c hs gs o room l) (names-grown v c hs gs o room l)) ν u))))
+    alike-plan ev ev′ z {v} (p-ask {q = q} {q′ = q′} r f g) ν u =
+        alike-ask v _ _ _ _ (λ w p ν′ u′. alike-plan ev ev′ z (g (backed v w p) (later-backed v w p)) ν′ u′) ν (z v q q′ ν u r)
+        (λ v′ k t b c ν′ u′ e n s. alike-plan ev ev′ z (f v′ k t b c e n s) ν′ u′)
+    alike-plan ev ev′ z {v} (p-test {q = q} {q′ = q′} r f g) ν u =
+        alike-test v _ _ _ _ (λ w p ν′ u′. alike-plan ev ev′ z (g (backed v w p) (later-backed v w p)) ν′ u′) ν (z v q q′ ν u r)
+        (λ w p k t b c ν′ u′. alike-plan ev ev′ z (f (backed v w p) k t b c (later-backed v w p)) ν′ u′)
 
-  -- at every nesting
-  pub together : (T : Table) → Makeable T → (n : ℕ) → Together (run stored (does T) n) (run (counting terms size) (does T) n)
-  unfolding run
-  together T o zero v q q′ zero r = a-cut (kept-refl (v .words) (v .mark))
-  together T o zero v q q′ (suc u) r = a-cut (kept-refl (v .words) (v .mark))
-  together T o (suc n) v q q′ zero r = a-cut (kept-refl (v .words) (v .mark))
-  together T o (suc n) v q q′ (suc u) r = alike-plan (run stored (does T) n) (run (counting terms size) (does T) n) (together T o n) (p-does T o r) u
+    -- related visits have one name
+    same-what : {v : Stored size} {q : Visit ℕ} {q′ : Visit Term} → QRel stores v q q′ → what q ≡ what q′
+    unfolding what
+    same-what (q-apply r s) = refl
+    same-what (q-match r s) = refl
+    same-what (q-build r s) = refl
+    same-what (q-compare r r′ s) = refl
+
+    alike-closed : {v : Stored size} {q : Visit ℕ} {q′ : Visit Term} {r : Ran N} {r′ : Answer N Term Env} → QRel stores v q q′ → EndAlike v r r′ → EndAlike v (closed (stored Λ) q r) (closed (counting terms Λ size) q′ r′)
+    unfolding closed
+    alike-closed {v} {q} e (a-ended {v′ = v′} {k = k} {u = u} {t = t} {b = b} {c = c} {ν = ν} f n s) =
+        subst (λ w. EndAlike v (ended k b (state v′ (Λ .ends (what q) true ν)) u) (ended t c (at (v′ .mark) (Λ .ends w true ν)) u)) (same-what e) (a-ended {v′ = v′} f n s)
+    alike-closed {v} {q} e (a-lost {w = w₀} {u = u} {ν = ν} p) = subst (λ w. EndAlike v (lost (rest w₀ (Λ .ends (what q) false ν)) u) (lost (Λ .ends w false ν) u)) (same-what e) (a-lost p)
+    alike-closed e (a-cut p) = a-cut p
+
+    -- at every nesting
+    pub together : (T : Table) → Makeable T → (n : ℕ) → Together (run (stored Λ) (does T) n) (run (counting terms Λ size) (does T) n)
+    unfolding run
+    together T o zero v q q′ ν zero r = a-cut (kept-refl (v .words) (v .mark))
+    together T o zero v q q′ ν (suc u) r = a-cut (kept-refl (v .words) (v .mark))
+    together T o (suc n) v q q′ ν zero r = a-cut (kept-refl (v .words) (v .mark))
+    together T o (suc n) v q q′ ν (suc u) r =
+        alike-closed r (subst (λ w. EndAlike v (runPlan (stored Λ) (run (stored Λ) (does T) n) (does T q) (state v (Λ .begins (what q) ν)) u) (runPlan (counting terms Λ size) (run (counting terms Λ size) (does T) n) (does T q′) (at (v .mark) (Λ .begins w ν)) u)) (same-what r)
+        (alike-plan (run (stored Λ) (does T) n) (run (counting terms Λ size) (does T) n) (together T o n) (p-does T o r) (Λ .begins (what q) ν) u))

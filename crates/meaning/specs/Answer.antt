@@ -37,7 +37,7 @@ abbrev pub asGiven : Input → ℕ → List ℕ → ℕ → Returned
 asGiven i a w u = record { answer = a; place = 0; subject = i .subject; mark = i .mark; units = i .units - u; store = clearedFrom w (8 * i .mark); bindings = i .bindings }
 
 -- 0 with the new subject, mark and bindings; else as given. The units are those used, and from the mark on the store is zero
-unfoldable pub returned : Input → Ran → Returned
+unfoldable pub returned : {N : Type 0} → Input → Ran N → Returned
 returned i (ended k b s u) = record { answer = 0; place = 0; subject = k; mark = s .mark; units = i .units - u; store = clearedFrom (s .words) (8 * s .mark); bindings = bindingWords variables b }
-returned i (lost w u) = asGiven i 1 w u
-returned i (cut l w u) = asGiven i (number l) w u
+returned i (lost l u) = asGiven i 1 (l .words) u
+returned i (cut c l u) = asGiven i (number c) (l .words) u

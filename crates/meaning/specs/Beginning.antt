@@ -6,7 +6,7 @@ use Rattle.meaning.specs.Term.{Term, con, kids, mk}
 use Rattle.meaning.specs.Table.{Table}
 use Rattle.meaning.specs.Plan.{Keep, keep, drop, look, make, ask}
 use Rattle.meaning.specs.Rules.{Visit, Do, does}
-use Rattle.meaning.specs.Derivation.{done, failed, Trace, over, node, visit, visits, nesting, left, most}
+use Rattle.meaning.specs.Derivation.{done, failed, what, fate, fails, in-flight, Trace, over, node, visit, visits, depth, left, most}
 use Rattle.meaning.specs.Limits.{Limit, units, room, nesting as nested}
 use Rattle.meaning.specs.System.{Env, _⊢_⇒_, trace as traceOf}
 
@@ -30,9 +30,9 @@ trace b-visit = over
 trace b-node = over
 trace (b-look b) = trace b
 trace (b-make b) = node (trace b)
-trace (b-in b) = visit keep (trace b) over
-trace (b-yes {t = t} r b) = visit t (traceOf r) (trace b)
-trace (b-no r b) = visit drop (traceOf r) (trace b)
+trace (b-in {q = q} b) = visit (what q) in-flight (trace b) over
+trace (b-yes {t = t} {q = q} r b) = visit (what q) (fate t) (traceOf r) (trace b)
+trace (b-no {q = q} r b) = visit (what q) fails (traceOf r) (trace b)
 
 -- the nesting of the visit before which it is broken off
 unfoldable pub level : {T : Table} {p : Do Term} {w : Stop} → Begun T p w → ℕ
@@ -55,7 +55,7 @@ pub record Given : Type 0 where
 pub record Fits (g : Given) (t : Trace) (rest : ℕ) : Type 0 where
   pub units : g .units ≡ visits t + rest
   pub room : g .mark + most t ≤ g .size
-  pub nesting : nesting t ≤ g .nesting
+  pub nesting : depth t ≤ g .nesting
 
 -- where a limit stops a run
 abbrev pub stop : Limit → Stop

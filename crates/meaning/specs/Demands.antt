@@ -9,8 +9,8 @@ use Rattle.meaning.specs.Term.{Term}
 use Rattle.meaning.specs.Table.{Table, SEQ, PATH, table}
 use Rattle.meaning.specs.Plan.{keep, ret, fail, ask}
 use Rattle.meaning.specs.Rules.{Visit, apply, does, compare}
-use Rattle.meaning.specs.Derivation.{Out, done, failed, Trace, over, visit, left, terms, Der, trace as traceDer}
-use Rattle.meaning.specs.Limits.{Res, ended, lost, cut, counting, run}
+use Rattle.meaning.specs.Derivation.{Out, done, failed, what, Fate, stays, fails, Trace, over, visit, left, Notes, noted, terms, Der, trace as traceDer}
+use Rattle.meaning.specs.Limits.{Res, ended, lost, cut, Counted, at, counting, run}
 use Rattle.meaning.specs.System.{Env, _∶_is_, _⊢_⇒_, trace}
 use Rattle.meaning.specs.Beginning.{Begun, Given, Fits, Met, stop, level, trace as traceBegun}
 use Rattle.meaning.specs.Store.{Input, Accepted, ran, term, meant, bindings, value, deepest, Leaves}
@@ -28,38 +28,39 @@ abbrev pub Deterministic : Type 0
 Deterministic = (T : Table) (q : Visit Term) (o o′ : Out Term Env) (r : T ⊢ q ⇒ o) (r′ : T ⊢ q ⇒ o′) → (o ≡ o′) × (trace r ≡ trace r′)
 
 -- the start's own visit, and what it does
-abbrev pub whole : Trace → Trace
-whole t = visit keep t over
+abbrev pub whole : Visit Term → Fate → Trace → Trace
+whole q f t = visit (what q) f t over
 
--- what a run's answer says: done and failed are a derivation that fits, a cut-off is a beginning that fits and meets its limit
-abbrev pub Says : Table → Given → Visit Term → Res Term Env ℕ (Unit {0}) → Type 0
-Says T g q (ended t b m u) = (r : T ⊢ q ⇒ done t b) × Fits g (whole (trace r)) u × (m ≡ g .mark + left (whole (trace r)))
-Says T g q (lost l u) = (r : T ⊢ q ⇒ failed) × Fits g (whole (trace r)) u
-Says T g q (cut c l u) = (s : Begun T (ask keep q ret fail) (stop c)) × Fits g (traceBegun s) u × Met g c (level s) (left (traceBegun s)) u
+-- what a run's answer says: done and failed are a derivation that fits, a cut-off is a beginning that fits and meets its limit;
+-- what was noted is noted of what was done, n being the notes at the beginning
+abbrev pub Says : {N : Type 0} → Notes N → N → Table → Given → Visit Term → Res Term Env (Counted N) N → Type 0
+Says Λ n T g q (ended t b s u) = (r : T ⊢ q ⇒ done t b) × Fits g (whole q stays (trace r)) u × (s .mark ≡ g .mark + left (whole q stays (trace r))) × (s .notes ≡ noted Λ (whole q stays (trace r)) n)
+Says Λ n T g q (lost l u) = (r : T ⊢ q ⇒ failed) × Fits g (whole q fails (trace r)) u × (l ≡ noted Λ (whole q fails (trace r)) n)
+Says Λ n T g q (cut c l u) = (s : Begun T (ask keep q ret fail) (stop c)) × Fits g (traceBegun s) u × Met g c (level s) (left (traceBegun s)) u × (l ≡ noted Λ (traceBegun s) n)
 
 -- Demand 2, terms as values: the run answers r exactly when r says what is so.
-abbrev pub Demand-2-values : Type 0
+abbrev pub Demand-2-values : Type 1
 Demand-2-values =
-    (T : Table) (g : Given) (q : Visit Term) (r : Res Term Env ℕ (Unit {0})) → g .mark ≤ g .size
-    → (run (counting terms (g .size)) (does T) (g .nesting) q (g .mark) (g .units) ≡ r) ↔ Says T g q r
+    (N : Type 0) (Λ : Notes N) (n : N) (T : Table) (g : Given) (q : Visit Term) (r : Res Term Env (Counted N) N) → g .mark ≤ g .size
+    → (run (counting terms Λ (g .size)) (does T) (g .nesting) q (at (g .mark) n) (g .units) ≡ r) ↔ Says Λ n T g q r
 
 -- what an accepted input gives a run, and what it starts with
 abbrev pub limits : Input → Given
 limits i = record { units = i .units; size = rows (i .store); mark = i .mark; nesting = deepest }
 
-abbrev pub begins : Input → Visit Term
-begins i = apply (i .start) (term (i .store) (i .subject)) (meant (i .store) (bindings (i .bindings)))
+abbrev pub startVisit : Input → Visit Term
+startVisit i = apply (i .start) (term (i .store) (i .subject)) (meant (i .store) (bindings (i .bindings)))
 
 -- Demand 2 over the words: on an accepted input the run answers r exactly when r says what is so of the terms that the words name.
-abbrev pub Demand-2 : Type 0
-Demand-2 = (i : Input) → Accepted i → (r : Res Term Env ℕ (Unit {0})) → (value (ran i) ≡ r) ↔ Says (table (i .table)) (limits i) (begins i) r
+abbrev pub Demand-2 : Type 1
+Demand-2 = (N : Type 0) (Λ : Notes N) (n : N) (i : Input) → Accepted i → (r : Res Term Env (Counted N) N) → (value (ran Λ n i) ≡ r) ↔ Says Λ n (table (i .table)) (limits i) (startVisit i) r
 
 -- Over the words and over values a run ends alike; nodes in use stay, new ones come after, and what is left is sound.
-abbrev pub Over-the-words : Type 0
+abbrev pub Over-the-words : Type 1
 Over-the-words =
-    (i : Input) → Accepted i
-    → (value (ran i) ≡ run (counting terms (rows (i .store))) (does (table (i .table))) deepest (begins i) (i .mark) (i .units))
-    × Leaves (i .store) (i .mark) (ran i)
+    (N : Type 0) (Λ : Notes N) (n : N) (i : Input) → Accepted i
+    → (value (ran Λ n i) ≡ run (counting terms Λ (rows (i .store))) (does (table (i .table))) deepest (startVisit i) (at (i .mark) n) (i .units))
+    × Leaves (i .store) (i .mark) (ran Λ n i)
 
 -- Two terms compare equal exactly when they are equal as values.
 abbrev pub Compared : Type 0
@@ -79,9 +80,9 @@ pub data At (T : Table) (x : ℕ) : ℕ → List ℕ → Type 0 where
   at-child : {e y i : ℕ} {π : List ℕ} → T ∶ e is PATH i y → At T x y π → At T x e (i ∷ π)
 
 -- the place π is a beginning of the place ρ
-pub data Begins : List ℕ → List ℕ → Type 0 where
-  begins-root : {ρ : List ℕ} → Begins [] ρ
-  begins-child : {i : ℕ} {π ρ : List ℕ} → Begins π ρ → Begins (i ∷ π) (i ∷ ρ)
+pub data Encloses : List ℕ → List ℕ → Type 0 where
+  encloses-root : {ρ : List ℕ} → Encloses [] ρ
+  encloses-child : {i : ℕ} {π ρ : List ℕ} → Encloses π ρ → Encloses (i ∷ π) (i ∷ ρ)
 
 -- s and s′ both fail on t, or both succeed with equal terms; the bindings are as at the start
 abbrev pub Either-order : Table → (s s′ : ℕ) → Term → Env → Type 0
@@ -93,13 +94,13 @@ Either-order T s s′ t b =
 abbrev pub Demand-3 : Type 0
 Demand-3 =
     (T : Table) (x y e f s s′ : ℕ) (π ρ : List ℕ) (t : Term) (b : Env) (o o′ : Out Term Env)
-    → Closed T x → Closed T y → At T x e π → At T y f ρ → (Begins π ρ → ⊥) → (Begins ρ π → ⊥)
+    → Closed T x → Closed T y → At T x e π → At T y f ρ → (Encloses π ρ → ⊥) → (Encloses ρ π → ⊥)
     → T ∶ s is SEQ e f → T ∶ s′ is SEQ f e
     → T ⊢ apply e t b ⇒ o → T ⊢ apply f t b ⇒ o′
     → Either-order T s s′ t b
 
 -- two answers, where both are done or failed: both failed, or both done with equal terms and bindings
-abbrev pub Agreed : Res Term Env ℕ (Unit {0}) → Res Term Env ℕ (Unit {0}) → Type 0
+abbrev pub Agreed : {N : Type 0} → Res Term Env (Counted N) N → Res Term Env (Counted N) N → Type 0
 Agreed (ended t b m u) (ended t′ b′ m′ u′) = (t ≡ t′) × (b ≡ b′)
 Agreed (ended t b m u) (lost l u′) = ⊥
 Agreed (ended t b m u) (cut c l u′) = Unit {0}
@@ -113,8 +114,8 @@ abbrev pub started : Input → (start units : ℕ) → Input
 started i s u = record { table = i .table; store = i .store; bindings = i .bindings; mark = i .mark; start = s; subject = i .subject; units = u }
 
 -- Demand 3, of runs: two runs, one in each order, that both end in done or failed agree, whatever units each is given.
-abbrev pub Demand-3-runs : Type 0
+abbrev pub Demand-3-runs : Type 1
 Demand-3-runs =
-    (i : Input) (s u : ℕ) → Accepted i → Accepted (started i s u)
+    (N : Type 0) (Λ : Notes N) (n : N) (i : Input) (s u : ℕ) → Accepted i → Accepted (started i s u)
     → Either-order (table (i .table)) (i .start) s (term (i .store) (i .subject)) (meant (i .store) (bindings (i .bindings)))
-    → Agreed (value (ran i)) (value (ran (started i s u)))
+    → Agreed (value (ran Λ n i)) (value (ran Λ n (started i s u)))

@@ -11,6 +11,8 @@ pub data Plan (H B Q : Type 0) : Type 0 where
   -- the state with this term and these bindings
   ret : H → B → Plan H B Q
   fail : Plan H B Q
+  -- it fails, and a match gives up at this pattern
+  miss : ℕ → Plan H B Q
   -- a term's constructor and its children
   look : H → (ℕ → List H → Plan H B Q) → Plan H B Q
   -- one new node with this constructor and these children

@@ -7,7 +7,7 @@ use lib.Dec.{eqb}
 use lib.ListN.{length}
 use Rattle.meaning.specs.Bindings.{Bindings, unbound, bind, masked}
 use Rattle.meaning.specs.Table.{Strategy, ID, FAIL, TEST, NOT, SEQ, CHOICE, LEFT, REC, CALL, PATH, CONG, ALL, ONE, SOME, MATCH, BUILD, SCOPE, WHERE, Pattern, PVAR, PCON, Table}
-use Rattle.meaning.specs.Plan.{keep, drop, Plan, ret, fail, look, make, ask}
+use Rattle.meaning.specs.Plan.{keep, drop, Plan, ret, fail, miss, look, make, ask}
 
 -- a visit: an entry applied as a strategy, a pattern position met by MATCH or by BUILD, a pair of terms compared
 pub data Visit (H : Type 0) : Type 0 where
@@ -93,13 +93,18 @@ module _ {H : Type 0} where
   strategy (WHERE x) h b = ask keep (apply x h b) (λ h′ b′. ret h b′) fail
 
   -- a pattern position met by MATCH: an unbound variable is bound, a bound one needs an equal term
-  unfoldable pub variable : Option H → ℕ → H → Bindings H → Do H
-  variable none v h b = ret h (bind v h b)
-  variable (some g) v h b = ask keep (compare g h b) ret fail
+  unfoldable pub variable : ℕ → Option H → ℕ → H → Bindings H → Do H
+  variable p none v h b = ret h (bind v h b)
+  variable p (some g) v h b = ask keep (compare g h b) ret (miss p)
 
-  unfoldable pub matching : Pattern → H → Bindings H → Do H
-  matching (PVAR v) h b = variable (b v) v h b
-  matching (PCON c ps) h b = look h (λ d hs. when (agree c ps d hs) (walk (zip match ps hs) [] b (λ gs b′. ret h b′)))
+  -- a match gives up at the pattern p unless the test holds
+  unfoldable pub whenAt : ℕ → Bool → Do H → Do H
+  whenAt p true k = k
+  whenAt p false k = miss p
+
+  unfoldable pub matching : ℕ → Pattern → H → Bindings H → Do H
+  matching p (PVAR v) h b = variable p (b v) v h b
+  matching p (PCON c ps) h b = look h (λ d hs. whenAt p (agree c ps d hs) (walk (zip match ps hs) [] b (λ gs b′. ret h b′)))
 
   -- a pattern position met by BUILD
   unfoldable pub building : Pattern → H → Bindings H → Do H
@@ -113,6 +118,6 @@ module _ {H : Type 0} where
   -- the plan of a visit, by the table T
   unfoldable pub does : Table → Visit H → Do H
   does T (apply x h b) = strategy (T .strategies x) h b
-  does T (match p h b) = matching (T .patterns p) h b
+  does T (match p h b) = matching p (T .patterns p) h b
   does T (build p h b) = building (T .patterns p) h b
   does T (compare g h b) = comparing g h b

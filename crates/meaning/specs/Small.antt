@@ -5,6 +5,7 @@ use Prim.Native.Nat.{ℕ, _+_, _-_, _*_}
 use lib.ListN.{length, replicate, set}
 use Rattle.checks.specs.Checked.{tableChecked, storeChecked}
 use Rattle.checks.specs.declared.Checked.{Checked}
+use Rattle.meaning.specs.Derivation.{quiet}
 use Rattle.meaning.specs.Store.{Input, row, ran}
 use Rattle.meaning.specs.Answer.{Returned, returned}
 
@@ -86,7 +87,7 @@ pub record Seen : Type 0 where
   pub returns : Returned
 
 unfoldable pub seen : Case → Seen
-seen c = record { table = tableChecked (c .given .table); store = storeChecked (c .given .store) (c .given .mark); returns = returned (c .given) (ran (c .given)) }
+seen c = record { table = tableChecked (c .given .table); store = storeChecked (c .given .store) (c .given .mark); returns = returned (c .given) (ran quiet tt (c .given)) }
 
 unfoldable pub expected : Case → Seen
 expected c = record { table = record { answer = 0; place = 0 }; store = record { answer = 0; place = 0 }; returns = c .gives }

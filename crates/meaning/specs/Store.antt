@@ -1,7 +1,7 @@
 -- The same rules over the store's words, and what the words mean: the term that a node names, the bindings that the
 -- bindings' words are.
 use mathlib.Core.Path.{_≡_}
-use mathlib.Core.Bool.{true}
+use mathlib.Core.Bool.{true, false}
 use mathlib.Core.Option.{Option, none, some}
 use mathlib.Core.List.{List, [], _∷_, _++_, map}
 use Prim.Native.Nat.{ℕ, zero, suc, _+_, _-_, _*_, _≤_, _<_}
@@ -15,8 +15,9 @@ use Rattle.checks.specs.declared.kinds.Sort.the-variants.{Strategy}
 use Rattle.meaning.specs.Term.{Term, mk}
 use Rattle.meaning.specs.Bindings.{Bindings}
 use Rattle.meaning.specs.Table.{six, table}
-use Rattle.meaning.specs.Rules.{apply, does}
-use Rattle.meaning.specs.Limits.{Store, Res, ended, lost, cut, run}
+use Rattle.meaning.specs.Rules.{Visit, apply, does}
+use Rattle.meaning.specs.Limits.{Store, Res, ended, lost, cut, Counted, at, run}
+use Rattle.meaning.specs.Derivation.{Notes, what}
 use Rattle.meaning.specs.System.{Env}
 
 -- the children of node k
@@ -27,24 +28,37 @@ children w k = take (childCount w k) (six w k)
 unfoldable pub row : ℕ → List ℕ → List ℕ
 row c hs = c ∷ length hs ∷ hs ++ replicate (6 - length hs) 0
 
--- the store: its words and the mark
-pub record State : Type 0 where
+-- the store: its words, the mark, and what was noted
+pub record State (N : Type 0) : Type 0 where
   pub words : List ℕ
   pub mark : ℕ
+  pub notes : N
 
-abbrev pub on : List ℕ → ℕ → State
-on w m = record { words = w; mark = m }
+abbrev pub on : {N : Type 0} → List ℕ → ℕ → N → State N
+on w m n = record { words = w; mark = m; notes = n }
+
+-- what a failure or a cut-off leaves: the words, and what was noted
+pub record Left (N : Type 0) : Type 0 where
+  pub words : List ℕ
+  pub notes : N
+
+abbrev pub rest : {N : Type 0} → List ℕ → N → Left N
+rest w n = record { words = w; notes = n }
 
 -- a new node takes the number at the mark; the words above the mark are of no account, and stay when it returns
-abbrev pub stored : Store ℕ State (List ℕ)
-stored = record {
+abbrev pub stored : {N : Type 0} → Notes N → Store ℕ (Visit ℕ) (State N) (Left N)
+stored Λ = record {
   con = λ s k. constructorOf (s .words) k;
   kids = λ s k. children (s .words) k;
-  full = λ s. leb (rows (s .words)) (s .mark);
+  full = λ s c hs. leb (rows (s .words)) (s .mark);
   new = λ s c hs. s .mark;
-  put = λ s c hs. on (putRow (s .words) (s .mark) (row c hs)) (s .mark + 1);
-  left = λ s. s .words;
-  back = λ s w. on w (s .mark);
+  put = λ s c hs. on (putRow (s .words) (s .mark) (row c hs)) (s .mark + 1) (s .notes);
+  left = λ s. rest (s .words) (s .notes);
+  back = λ s l. on (l .words) (s .mark) (l .notes);
+  missed = λ p s. on (s .words) (s .mark) (Λ .missed p (s .notes));
+  begins = λ q s. on (s .words) (s .mark) (Λ .begins (what q) (s .notes));
+  ends = λ q s. on (s .words) (s .mark) (Λ .ends (what q) true (s .notes));
+  fails = λ q l. rest (l .words) (Λ .ends (what q) false (l .notes));
 }
 
 -- the term of node k, down to the nesting n
@@ -73,14 +87,14 @@ termOf w (some k) = some (term w k)
 unfoldable pub meant : List ℕ → Bindings ℕ → Env
 meant w b = λ v. termOf w (b v)
 
-abbrev pub Ran : Type 0
-Ran = Res ℕ (Bindings ℕ) State (List ℕ)
+abbrev pub Ran : Type 0 → Type 0
+Ran N = Res ℕ (Bindings ℕ) (State N) (Left N)
 
 -- how a run over the words ends, as values
-unfoldable pub value : Ran → Res Term Env ℕ (Unit {0})
-value (ended k b s u) = ended (term (s .words) k) (meant (s .words) b) (s .mark) u
-value (lost l u) = lost tt u
-value (cut c l u) = cut c tt u
+unfoldable pub value : {N : Type 0} → Ran N → Res Term Env (Counted N) N
+value (ended k b s u) = ended (term (s .words) k) (meant (s .words) b) (at (s .mark) (s .notes)) u
+value (lost l u) = lost (l .notes) u
+value (cut c l u) = cut c (l .notes) u
 
 -- what is handed to a run: the table's, the store's and the bindings' words, the mark, the start, the subject, the units
 pub record Input : Type 0 where
@@ -107,8 +121,8 @@ abbrev pub deepest : ℕ
 deepest = 4096
 
 -- the run over the words
-unfoldable pub ran : Input → Ran
-ran i = run stored (does (table (i .table))) deepest (apply (i .start) (i .subject) (bindings (i .bindings))) (on (i .store) (i .mark)) (i .units)
+unfoldable pub ran : {N : Type 0} → Notes N → N → Input → Ran N
+ran Λ n i = run (stored Λ) (does (table (i .table))) deepest (apply (i .start) (i .subject) (bindings (i .bindings))) (on (i .store) (i .mark) n) (i .units)
 
 -- nodes below the mark and the store's length stay
 pub record Kept (w : List ℕ) (m : ℕ) (w′ : List ℕ) : Type 0 where
@@ -123,7 +137,7 @@ pub record Sound (w : List ℕ) (m k : ℕ) (b : Bindings ℕ) : Type 0 where
   pub bound : (v j : ℕ) → b v ≡ some j → j < m
 
 -- what a run over the words leaves, s being the store before it
-abbrev pub Leaves : List ℕ → ℕ → Ran → Type 0
+abbrev pub Leaves : {N : Type 0} → List ℕ → ℕ → Ran N → Type 0
 Leaves w m (ended k b s u) = (m ≤ s .mark) × Kept w m (s .words) × Sound (s .words) (s .mark) k b
-Leaves w m (lost w′ u) = Kept w m w′
-Leaves w m (cut c w′ u) = Kept w m w′
+Leaves w m (lost l u) = Kept w m (l .words)
+Leaves w m (cut c l u) = Kept w m (l .words)

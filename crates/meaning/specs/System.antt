@@ -8,9 +8,8 @@ use lib.ListN.{length}
 use Rattle.meaning.specs.Term.{Term, con, kids, mk}
 use Rattle.meaning.specs.Bindings.{Bindings, unbound, bind, masked}
 use Rattle.meaning.specs.Table.{Strategy, ID, FAIL, TEST, NOT, SEQ, CHOICE, LEFT, REC, CALL, PATH, CONG, ALL, ONE, SOME, MATCH, BUILD, SCOPE, WHERE, Pattern, PVAR, PCON, Table}
-use Rattle.meaning.specs.Plan.{Keep, keep, drop}
 use Rattle.meaning.specs.Rules.{Visit, apply, match, build, compare, nth, put, zip}
-use Rattle.meaning.specs.Derivation.{Out, done, failed, Trace, over, node, visit}
+use Rattle.meaning.specs.Derivation.{Out, done, failed, What, entry, pattern, pair, what, Fate, stays, goes, fails, Trace, over, missed, node, visit}
 
 abbrev pub Env : Type 0
 Env = Bindings Term
@@ -130,13 +129,13 @@ mutual
     tried-kept : {y : ℕ} {t : Term} {ts ts′ : List Term} {b b′ : Env} {n : ℕ} → T ⊢ apply y t b ⇒ failed → Tried T y ts b ts′ b′ n → Tried T y (t ∷ ts) b (t ∷ ts′) b′ n
 
 -- the nodes of a visit that ends so stay, or are given back
-unfoldable pub ending : Out Term Env → Keep
-ending (done t b) = keep
-ending failed = drop
+unfoldable pub ending : Out Term Env → Fate
+ending (done t b) = stays
+ending failed = fails
 
 -- a visit with whose end the one that asked for it ends too
-unfoldable pub last : Out Term Env → Trace → Trace
-last o t = visit (ending o) t over
+unfoldable pub last : What → Out Term Env → Trace → Trace
+last w o t = visit w (ending o) t over
 
 -- a term made anew with these children, where there are some
 unfoldable pub renewing : List Term → Trace
@@ -148,20 +147,20 @@ unfoldable mutual
   pub trace : {T : Table} {q : Visit Term} {o : Out Term Env} → T ⊢ q ⇒ o → Trace
   trace (id-done e) = over
   trace (fail-failed e) = over
-  trace (test-done e r) = visit drop (trace r) over
-  trace (test-failed e r) = visit drop (trace r) over
-  trace (not-done e r) = visit drop (trace r) over
-  trace (not-failed e r) = visit keep (trace r) over
-  trace (seq-then {o = o} e r r′) = visit keep (trace r) (last o (trace r′))
-  trace (seq-failed e r) = visit drop (trace r) over
-  trace (choice-first e r) = visit keep (trace r) over
-  trace (choice-second {o = o} e r r′) = visit drop (trace r) (last o (trace r′))
-  trace (left-first e r) = visit keep (trace r) over
-  trace (left-second {o = o} e r r′) = visit drop (trace r) (last o (trace r′))
-  trace (rec-body {o = o} e r) = last o (trace r)
-  trace (call-rec {o = o} e r) = last o (trace r)
-  trace (path-done e n r q) = visit keep (trace r) (node over)
-  trace (path-failed e n r) = visit drop (trace r) over
+  trace (test-done {y = y} e r) = visit (entry y) goes (trace r) over
+  trace (test-failed {y = y} e r) = visit (entry y) fails (trace r) over
+  trace (not-done {y = y} e r) = visit (entry y) fails (trace r) over
+  trace (not-failed {y = y} e r) = visit (entry y) stays (trace r) over
+  trace (seq-then {y = y} {z = z} {o = o} e r r′) = visit (entry y) stays (trace r) (last (entry z) o (trace r′))
+  trace (seq-failed {y = y} e r) = visit (entry y) fails (trace r) over
+  trace (choice-first {y = y} e r) = visit (entry y) stays (trace r) over
+  trace (choice-second {y = y} {z = z} {o = o} e r r′) = visit (entry y) fails (trace r) (last (entry z) o (trace r′))
+  trace (left-first {y = y} e r) = visit (entry y) stays (trace r) over
+  trace (left-second {y = y} {z = z} {o = o} e r r′) = visit (entry y) fails (trace r) (last (entry z) o (trace r′))
+  trace (rec-body {y = y} {o = o} e r) = last (entry y) o (trace r)
+  trace (call-rec {y = y} {o = o} e r) = last (entry y) o (trace r)
+  trace (path-done {y = y} e n r q) = visit (entry y) stays (trace r) (node over)
+  trace (path-failed {y = y} e n r) = visit (entry y) fails (trace r) over
   trace (path-none e n) = over
   trace (cong-done {ts = ts} e a rs q) = each rs (renewing ts)
   trace (cong-failed e a rs) = stopped rs
@@ -172,18 +171,18 @@ unfoldable mutual
   trace (one-failed e rs) = allFail rs
   trace (some-done e rs q) = tried rs
   trace (some-failed e rs) = allFail rs
-  trace (match-root {o = o} e r) = last o (trace r)
-  trace (build-root {o = o} e r) = last o (trace r)
-  trace (scope-done e r q) = visit keep (trace r) over
-  trace (scope-failed e r) = visit drop (trace r) over
-  trace (where-done e r) = visit keep (trace r) over
-  trace (where-failed e r) = visit drop (trace r) over
+  trace (match-root {p = p} {o = o} e r) = last (pattern p) o (trace r)
+  trace (build-root {p = p} {o = o} e r) = last (pattern p) o (trace r)
+  trace (scope-done {y = y} e r q) = visit (entry y) stays (trace r) over
+  trace (scope-failed {y = y} e r) = visit (entry y) fails (trace r) over
+  trace (where-done {y = y} e r) = visit (entry y) stays (trace r) over
+  trace (where-failed {y = y} e r) = visit (entry y) fails (trace r) over
   trace (match-new e n q) = over
-  trace (match-same e n r) = visit keep (trace r) over
-  trace (match-differs e n r) = visit drop (trace r) over
+  trace (match-same e n r) = visit pair stays (trace r) over
+  trace (match-differs {p = p} e n r) = visit pair fails (trace r) (missed p)
   trace (match-con e a rs) = each rs over
   trace (match-failed e a rs) = stopped rs
-  trace (match-other e n) = over
+  trace (match-other {p = p} e n) = missed p
   trace (build-bound e n) = over
   trace (build-unbound e n) = over
   trace (build-con e rs q) = each rs (node over)
@@ -195,21 +194,21 @@ unfoldable mutual
   -- the visits, and then what follows them
   pub each : {T : Table} {qs : List Task} {b b′ : Env} {ts : List Term} → Each T qs b ts b′ → Trace → Trace
   each each-none k = k
-  each (each-more r rs) k = visit keep (trace r) (each rs k)
+  each (each-more {q = q} {b = b} r rs) k = visit (what (q b)) stays (trace r) (each rs k)
 
   pub stopped : {T : Table} {qs : List Task} {b : Env} → Stopped T qs b → Trace
-  stopped (stopped-here r) = visit drop (trace r) over
-  stopped (stopped-later r rs) = visit keep (trace r) (stopped rs)
+  stopped (stopped-here {q = q} {b = b} r) = visit (what (q b)) fails (trace r) over
+  stopped (stopped-later {q = q} {b = b} r rs) = visit (what (q b)) stays (trace r) (stopped rs)
 
   pub first : {T : Table} {y : ℕ} {ts ts′ : List Term} {b b′ : Env} → First T y ts b ts′ b′ → Trace
-  first (first-here r) = visit keep (trace r) (node over)
-  first (first-later r rs) = visit drop (trace r) (first rs)
+  first (first-here {y = y} r) = visit (entry y) stays (trace r) (node over)
+  first (first-later {y = y} r rs) = visit (entry y) fails (trace r) (first rs)
 
   pub allFail : {T : Table} {y : ℕ} {ts : List Term} {b : Env} → AllFail T y ts b → Trace
   allFail fail-none = over
-  allFail (fail-more r rs) = visit drop (trace r) (allFail rs)
+  allFail (fail-more {y = y} r rs) = visit (entry y) fails (trace r) (allFail rs)
 
   pub tried : {T : Table} {y n : ℕ} {ts ts′ : List Term} {b b′ : Env} → Tried T y ts b ts′ b′ n → Trace
   tried tried-none = node over
-  tried (tried-new r rs) = visit keep (trace r) (tried rs)
-  tried (tried-kept r rs) = visit drop (trace r) (tried rs)
+  tried (tried-new {y = y} r rs) = visit (entry y) stays (trace r) (tried rs)
+  tried (tried-kept {y = y} r rs) = visit (entry y) fails (trace r) (tried rs)

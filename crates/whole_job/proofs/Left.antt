@@ -18,11 +18,13 @@ use Rattle.checks.specs.Good.{childCount}
 use Rattle.checks.specs.Checked.{checked}
 use Rattle.meaning.specs.Bindings.{Bindings}
 use Rattle.meaning.specs.Limits.{ended, lost, cut}
-use Rattle.meaning.specs.Store.{Input, Accepted, Ran, Kept, Leaves, ran}
+use Rattle.meaning.specs.Derivation.{quiet}
+use Rattle.meaning.specs.Store.{Input, Accepted, Kept, Leaves, ran}
 use Rattle.meaning.specs.Answer.{bindingWord, bindingWords, returned}
 use Rattle.meaning.proofs.Checked.{Node, Filled, node-of-good, store-filled}
 use Rattle.meaning.proofs.Words.{kept-filled}
 use Rattle.meaning.proofs.Demands.{over-the-words}
+use Rattle.leaves.specs.Noted.{Ran}
 use Rattle.marshtrundle.specs.Refused.{refused}
 use Rattle.marshtrundle.specs.Run.{runOf}
 use Rattle.marshtrundle.specs.declared.running.Outcome.{Outcome as Five}
@@ -67,7 +69,7 @@ module _ (i : Input) where
           let p = refuses i five (runOf i .store) (runOf i .bindings) refl .1 n in
           absurd (true≢false (sym h ∙ refusal-alone (runOf i .answer) (p .0) (p .1)))
 
-  pub run-shown : Accepted i → runOf i ≡ returned i (ran i)
+  pub run-shown : Accepted i → runOf i ≡ returned i (ran quiet tt i)
   unfolding runOf
   run-shown a = rw (not-refused a)
 
@@ -83,14 +85,14 @@ unfolding returned
 filled-returned i (ended k b s u) f l =
     kept-filled (cleared-kept (s .words) (s .mark))
     (record { fits = l .2 .fits; node = λ j h. node-of-good (s .words) j (l .2 .good j h) })
-filled-returned i (lost w u) f l = kept-filled (cleared-kept w (i .mark)) (kept-filled l f)
-filled-returned i (cut c w u) f l = kept-filled (cleared-kept w (i .mark)) (kept-filled l f)
+filled-returned i (lost w u) f l = kept-filled (cleared-kept (w .words) (i .mark)) (kept-filled l f)
+filled-returned i (cut c w u) f l = kept-filled (cleared-kept (w .words) (i .mark)) (kept-filled l f)
 
 zeros-returned : (i : Input) (r : Ran) (n : ℕ) → 8 * returned i r .mark ≤ n → getD (returned i r .store) n 0 ≡ 0
 unfolding returned
 zeros-returned i (ended k b s u) n l = getD-clearedFrom-from (s .words) (8 * s .mark) n l
-zeros-returned i (lost w u) n l = getD-clearedFrom-from w (8 * i .mark) n l
-zeros-returned i (cut c w u) n l = getD-clearedFrom-from w (8 * i .mark) n l
+zeros-returned i (lost w u) n l = getD-clearedFrom-from (w .words) (8 * i .mark) n l
+zeros-returned i (cut c w u) n l = getD-clearedFrom-from (w .words) (8 * i .mark) n l
 
 -- No word of a good node is above the limit of a number.
 child-most : {w : List ℕ} {k : ℕ} → Node w k → k ≤ 1024 → (i : ℕ) → i < 6 → wordAt w k (2 + i) ≤ 4294967295
@@ -150,14 +152,14 @@ module _ (i : Input) (a : Accepted i) where
   -- What a run leaves, where the mark and the room are at most 1,024.
   pub left : i .mark ≤ 1024 → rows (i .store) ≤ 1024 → Left (runOf i .store) (runOf i .bindings) (runOf i .mark)
   left p q =
-      let l : Leaves (i .store) (i .mark) (ran i) = over-the-words i a .1 in
-      let f : Filled _ _ = filled-returned i (ran i) (store-filled (i .store) (i .mark) (a .store)) l in
-      let m : returned i (ran i) .mark ≤ 1024 = returned-mark i 1024 p q (ran i) l in
+      let l : Leaves (i .store) (i .mark) (ran quiet tt i) = over-the-words (Unit {0}) quiet tt i a .1 in
+      let f : Filled _ _ = filled-returned i (ran quiet tt i) (store-filled (i .store) (i .mark) (a .store)) l in
+      let m : returned i (ran quiet tt i) .mark ≤ 1024 = returned-mark i 1024 p q (ran quiet tt i) l in
       rw (run-shown i a)
       (record {
         inside = omega (arith, f .fits);
         most = m;
-        nodes = plain (returned i (ran i) .store) (returned i (ran i) .mark) f (zeros-returned i (ran i)) m;
-        variables = variables-returned (ran i);
-        bound = λ v. omega (arith, bound-returned (ran i) l v);
+        nodes = plain (returned i (ran quiet tt i) .store) (returned i (ran quiet tt i) .mark) f (zeros-returned i (ran quiet tt i)) m;
+        variables = variables-returned (ran quiet tt i);
+        bound = λ v. omega (arith, bound-returned (ran quiet tt i) l v);
       })

@@ -9,8 +9,8 @@ use Rattle.checks.specs.Good.{countFits, argumentFits, operandPlaced, operandSo
 use Rattle.checks.specs.Checked.{tableLengthFits, storeLengthFits, tableChecked, storeChecked}
 use Rattle.meaning.specs.Bindings.{bind, has, masked}
 use Rattle.meaning.specs.Table.{byKind, table}
-use Rattle.meaning.specs.Rules.{nth, put, zip, agree, when, given, again, walk, strategy, variable, matching, building, does}
-use Rattle.meaning.specs.Limits.{roomFor, settled, after, runPlan, run}
+use Rattle.meaning.specs.Rules.{nth, put, zip, agree, when, given, again, walk, strategy, variable, whenAt, matching, building, does}
+use Rattle.meaning.specs.Limits.{roomFor, settled, after, runPlan, closed, run}
 use Rattle.meaning.specs.Store.{row, named, bindings, ran}
 use Rattle.meaning.specs.Answer.{number, bindingWord, bindingWords, returned}
 use Rattle.marshtrundle.specs.Refused.{sizesFit, boundBelow, startFits, refused}
@@ -33,5 +33,5 @@ answerText =
     ∷ 110 ∷ 9 ∷ 53 ∷ 9 ∷ 49 ∷ 9 ∷ 48 ∷ 10 ∷ []
 
 job-answered : answerTo jobText ≡ answerText
-unfolding every rejected putRow clearedFrom lines kindLine kind sortOf takes countFits argumentFits operandPlaced operandSorted goodEntry goodNode tableLengthFits storeLengthFits tableChecked storeChecked bind has masked byKind table nth put zip agree when given again walk strategy variable matching building does roomFor settled after runPlan run row named bindings ran number bindingWord bindingWords returned sizesFit boundBelow startFits refused runOf parts valued numberOf numbersOf digits letterOf nameOf jobFits entryFits nodeFits bindingFits fits lineOf entryRow nodeRow zeros admitted headed tableWith storeWith bindingsWith with readLines meant nameText numbersText lineText written nodeShown nodeNumbers nodeLines bindingLine bindingLines shown answerLine answered runText meantText answerTo
+unfolding every rejected putRow clearedFrom lines kindLine kind sortOf takes countFits argumentFits operandPlaced operandSorted goodEntry goodNode tableLengthFits storeLengthFits tableChecked storeChecked bind has masked byKind table nth put zip agree when given again walk strategy variable whenAt matching building does roomFor settled after runPlan closed run row named bindings ran number bindingWord bindingWords returned sizesFit boundBelow startFits refused runOf parts valued numberOf numbersOf digits letterOf nameOf jobFits entryFits nodeFits bindingFits fits lineOf entryRow nodeRow zeros admitted headed tableWith storeWith bindingsWith with readLines meant nameText numbersText lineText written nodeShown nodeNumbers nodeLines bindingLine bindingLines shown answerLine answered runText meantText answerTo
 job-answered = refl

@@ -7,7 +7,7 @@ use native.Mathlib.Omega.{arith}
 use borrow.Author.Needs.{needs}
 use Rattle.meaning.specs.Bindings.{Bindings}
 use Rattle.meaning.specs.Rules.{compare}
-use Rattle.meaning.specs.Store.{Ran}
+use Rattle.leaves.specs.Noted.{Ran}
 use Rattle.leaves.specs.Visits.{countOf, visit}
 use Rattle.leaves.proofs.Telling.{done-node}
 use Rattle.leaves.proofs.Limited.{units-kept, nesting-kept}
