@@ -3,8 +3,6 @@
 
 examples.py PROGRAM...   runs the command PROGRAM... on every examples/*.job and compares its output with *.answer;
                          one line for each job, 'N passed, M failed' last; exit status 1 where one differs
-examples.py --stream     writes the jobs as one stream: for each a line '# LENGTH', then LENGTH bytes
-examples.py --answers    writes the answers in the same form and order
 """
 import pathlib
 import subprocess
@@ -12,19 +10,6 @@ import sys
 
 EXAMPLES = pathlib.Path(__file__).resolve().parent.parent / "examples"
 SECONDS = 120
-
-
-def jobs():
-    """The job files, by name: the order of the streams."""
-    return sorted(EXAMPLES.glob("*.job"))
-
-
-def stream(paths):
-    """The files as one stream."""
-    for path in paths:
-        data = path.read_bytes()
-        sys.stdout.buffer.write(b"# %d\n" % len(data) + data)
-    sys.stdout.buffer.flush()
 
 
 def difference(ours, theirs):
@@ -53,7 +38,7 @@ def fault(program, path):
 def compare(program):
     """Runs every job; the exit status."""
     passed = failed = 0
-    for path in jobs():
+    for path in sorted(EXAMPLES.glob("*.job")):
         try:
             wrong = fault(program, path)
         except OSError as error:
@@ -69,12 +54,6 @@ def main(words):
     if not words or words[0] in ("-h", "--help"):
         print(__doc__.strip())
         return 0 if words else 2
-    if words == ["--stream"]:
-        stream(jobs())
-        return 0
-    if words == ["--answers"]:
-        stream(path.with_suffix(".answer") for path in jobs())
-        return 0
     if words[0].startswith("-"):
         print(__doc__.strip(), file=sys.stderr)
         return 2

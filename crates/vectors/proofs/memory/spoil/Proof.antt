@@ -1,0 +1,20 @@
+-- `vectors::memory::spoil` is safe and ends. Assumes nothing.
+use mathlib.Core.Path.{_≡_}
+use Prim.Native.Nat.{_-_}
+use lib.ListN.{length}
+use borrow.Author.Needs.{needs}
+use Rattle.vectors.proofs.memory.spoil.Statement.{statement}
+use Rattle.vectors.proofs.memory.spoil.Tie as tie
+
+abbrev Inv-loop : tie.InvT-loop
+Inv-loop store₀ from i₀ store i = length store ≡ length store₀
+
+abbrev μ-loop : tie.MeasureT-loop
+μ-loop store₀ from i₀ store i = length store₀ - i
+
+pub spoil-spec : {M : Type 1} → statement M
+spoil-spec =
+    tie.close
+    (tie.spec
+    Inv-loop μ-loop (λ c. search needs) (λ c. search needs) (λ c. search needs) (λ c. search needs) (λ c. search needs)
+    (λ c. search needs) (λ c. search needs) (λ c. search needs))

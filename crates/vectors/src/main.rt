@@ -1,0 +1,112 @@
+// Executes the cases of standard input, and writes what each call gave back. A case is a line TAG LENGTH, then LENGTH bytes, at
+// most 131,072, and a line feed. Where the input is not of this form, or ends inside a case, the last line is `# broken`.
+//
+//     t  check_table     s  check_store     f  free_variables     r  run     j  answer_job
+//
+// The bytes of `j` are a job's text. Those of the others say which memory is lent (memory.rt), and end in a label. A further
+// call takes a tag and a function in calls.rt, and tools/cases.py writes its cases.
+ghost use Prim.Native.Nat.{_+_, _≤_};
+ghost use lib.ListN.{length};
+use calls::answer_case;
+use libc::STDIN_FILENO;
+use libc::STDOUT_FILENO;
+use text::number;
+
+mod calls;
+mod memory;
+mod show;
+mod text;
+
+fn wide(b: u8) -> u32 {
+    b as u32
+}
+
+// The next byte of standard input; 256 where there is none.
+fn next_byte() -> u32 {
+    let mut one = [0u8; 1];
+    if io::read_full(STDIN_FILENO, &mut one) == 0 {
+        return 256;
+    }
+    wide(one[0])
+}
+
+// Reads a line, without its line feed: how long it is, 0 at the end of the input.
+fn read_line(line: &mut [u8]) -> usize
+    ensures { λ r. ⌜ r ≤ length (now (line .entry)) ⌝ }
+{
+    let mut n: usize = 0;
+    while n < line.len() {
+        let b = next_byte();
+        if b == 10 {
+            return n;
+        }
+        if 255 < b {
+            return n;
+        }
+        line[n] = b as u8;
+        n += 1;
+    }
+    n
+}
+
+// Says that the input is broken.
+fn broken() -> bool {
+    io::write_all(STDOUT_FILENO, b"# broken\n");
+    false
+}
+
+// Reads a case as long as the buffer, and executes it.
+fn read_case(
+    tag: u8,
+    text: &mut [u8],
+    table: &mut [u32],
+    store: &mut [u32],
+    bindings: &mut [u32],
+) -> bool {
+    if io::read_full(STDIN_FILENO, text) != text.len() {
+        return broken();
+    }
+    if next_byte() != 10 {
+        return broken();
+    }
+    if answer_case(tag, text, table, store, bindings) {
+        return true;
+    }
+    broken()
+}
+
+// Executes the next case, and says whether to go on.
+fn next_case(text: &mut [u8], table: &mut [u32], store: &mut [u32], bindings: &mut [u32]) -> bool {
+    let mut line = [0u8; 16];
+    if read_line(&mut line) == 0 {
+        return false;
+    }
+    let length = number(&line, 2);
+    let n = length.value as usize;
+    if text.len() < n {
+        return broken();
+    }
+    read_case(line[0], &mut text[..n], table, store, bindings)
+}
+
+// The cases of standard input, in arrays that are one row longer than the longest that is not refused. Nothing says that the
+// input ends, so the turns are counted down from a number that no run uses up.
+fn answer_all(
+    text: &mut [u8; 131072],
+    table: &mut [u32; 32776],
+    store: &mut [u32; 1048584],
+    bindings: &mut [u32; 40],
+) {
+    let mut turns = u64::MAX;
+    while turns > 0 && next_case(text, table, store, bindings) {
+        turns -= 1;
+    }
+}
+
+fn main() {
+    let mut text = [0u8; 131072];
+    let mut table = [0u32; 32776];
+    let mut store = [0u32; 1048584];
+    let mut bindings = [0u32; 40];
+    answer_all(&mut text, &mut table, &mut store, &mut bindings);
+}

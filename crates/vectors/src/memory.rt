@@ -1,0 +1,210 @@
+// The memory that a case lends to its call. The case begins with these numbers:
+//
+//     TABLE STORE BINDINGS MARK START SUBJECT UNITS FILL HEAD ARGUMENT SECOND PATCHES (SLICE WORD VALUE).. LABEL
+//
+// The first three are the lengths of the slices, which begin as zeros. FILL is a sum of
+//
+//     1  every store word from the mark on is set
+//     2  the nodes below the mark are a chain: each is the one child of the next
+//     4  the nodes below the mark have six children each, those just below them; the first six have none
+//     8  entries 2 and 3, 4 and 5 and so on are each a REC and its body, a CALL of the REC before
+//
+// Where HEAD is not 0, each entry but the last is HEAD, ARGUMENT, the next entry, SECOND. Then each WORD of SLICE (0 table,
+// 1 store, 2 bindings) is set to its VALUE.
+ghost use Prim.Native.Nat.{_+_, _*_, _≤_};
+ghost use lib.ListN.{length};
+use crate::text::number;
+use words::put_row;
+
+// The twelve numbers that a case begins with, and the place after them.
+pub struct Given {
+    pub words: [u32; 12],
+    pub next: usize,
+}
+
+// The numbers that the text begins with.
+pub fn heads(text: &[u8]) -> Given {
+    let mut words = [0u32; 12];
+    let mut at: usize = 0;
+    let mut i: usize = 0;
+    while i < 12 {
+        let d = number(text, at);
+        words[i] = d.value;
+        at = d.next;
+        i += 1;
+    }
+    Given { words, next: at }
+}
+
+// The n entries of which each but the last has these words and the next entry as its first operand.
+fn fill_entries(table: &mut [u32], n: u32, head: u32, argument: u32, second: u32)
+    requires { ⌜ 8 * n ≤ length (now table) ⌝ }
+{
+    let mut e: u32 = 1;
+    while e < n {
+        put_row(table, e - 1, [head, argument, e, second, 0, 0, 0, 0]);
+        e += 1;
+    }
+}
+
+// The entries below n from entry 2 on: each REC's body calls the REC before.
+fn fill_recs(table: &mut [u32], n: u32)
+    requires { ⌜ (n ≤ 8192) × (8 * n ≤ length (now table)) ⌝ }
+{
+    let mut e: u32 = 3;
+    while e < n {
+        put_row(table, e - 1, [113, 0, e, 0, 0, 0, 0, 0]);
+        put_row(table, e, [129, 0, e - 3, 0, 0, 0, 0, 0]);
+        e += 2;
+    }
+}
+
+// The n nodes of which each is the one child of the next; the first has none.
+fn fill_chain(store: &mut [u32], n: u32)
+    requires { ⌜ 8 * n ≤ length (now store) ⌝ }
+{
+    let mut k: u32 = 1;
+    while k < n {
+        put_row(store, k, [1, 1, k - 1, 0, 0, 0, 0, 0]);
+        k += 1;
+    }
+}
+
+// The n nodes of which each has six children, those just below it; the first six have none.
+fn fill_six(store: &mut [u32], n: u32)
+    requires { ⌜ 8 * n ≤ length (now store) ⌝ }
+{
+    let mut k: u32 = 6;
+    while k < n {
+        put_row(
+            store,
+            k,
+            [k % 65536, 6, k - 1, k - 2, k - 3, k - 4, k - 5, k - 6],
+        );
+        k += 1;
+    }
+}
+
+// Sets every word from `from` on.
+fn spoil(store: &mut [u32], from: usize) {
+    let mut i = from;
+    while i < store.len() {
+        store[i] = 4294967295;
+        i += 1;
+    }
+}
+
+// Sets the words from the mark on, if the case asks for it.
+fn past(store: &mut [u32], fill: u32, mark: u32) {
+    if fill % 2 == 1 {
+        spoil(store, 8 * (mark as usize));
+    }
+}
+
+// Makes the chain of nodes, if the case asks for it.
+fn chain(store: &mut [u32], fill: u32, mark: u32) {
+    if fill / 2 % 2 == 0 {
+        return;
+    }
+    if mark as usize <= store.len() / 8 {
+        fill_chain(store, mark);
+    }
+}
+
+// Makes the nodes of six children, if the case asks for it.
+fn six(store: &mut [u32], fill: u32, mark: u32) {
+    if fill / 4 % 2 == 0 {
+        return;
+    }
+    if mark as usize <= store.len() / 8 {
+        fill_six(store, mark);
+    }
+}
+
+// Makes the RECs, if the case asks for it.
+fn recs(table: &mut [u32], fill: u32) {
+    let rows = table.len() / 8;
+    if 4097 < rows {
+        return;
+    }
+    if fill / 8 % 2 == 1 {
+        fill_recs(table, rows as u32);
+    }
+}
+
+// Makes the entries that the head asks for.
+fn entries(table: &mut [u32], head: u32, argument: u32, second: u32) {
+    let rows = table.len() / 8;
+    if 4097 < rows {
+        return;
+    }
+    if head != 0 {
+        fill_entries(table, rows as u32, head, argument, second);
+    }
+}
+
+// Sets word k, if there is one.
+fn set(words: &mut [u32], k: u32, value: u32) {
+    if (k as usize) < words.len() {
+        words[k as usize] = value;
+    }
+}
+
+// Sets word k of the slice named, if there is one.
+fn set_in(
+    slice: u32,
+    k: u32,
+    value: u32,
+    table: &mut [u32],
+    store: &mut [u32],
+    bindings: &mut [u32],
+) {
+    if slice == 0 {
+        set(table, k, value);
+        return;
+    }
+    if slice == 1 {
+        set(store, k, value);
+        return;
+    }
+    set(bindings, k, value);
+}
+
+// Sets each word that the text names, and gives the place after the last.
+fn patch(
+    text: &[u8],
+    start: usize,
+    count: u32,
+    table: &mut [u32],
+    store: &mut [u32],
+    bindings: &mut [u32],
+) -> usize {
+    let mut at = start;
+    let mut i: u32 = 0;
+    while i < count {
+        let slice = number(text, at);
+        let word = number(text, slice.next);
+        let value = number(text, word.next);
+        set_in(slice.value, word.value, value.value, table, store, bindings);
+        at = value.next;
+        i += 1;
+    }
+    at
+}
+
+// Makes the words of a case, and gives the place after its numbers.
+pub fn make(
+    text: &[u8],
+    given: Given,
+    table: &mut [u32],
+    store: &mut [u32],
+    bindings: &mut [u32],
+) -> usize {
+    let n = given.words;
+    past(store, n[7], n[3]);
+    chain(store, n[7], n[3]);
+    six(store, n[7], n[3]);
+    recs(table, n[7]);
+    entries(table, n[8], n[9], n[10]);
+    patch(text, given.next, n[11], table, store, bindings)
+}

@@ -1,0 +1,84 @@
+// What a call gave back, as text.
+ghost use Prim.Native.Nat.{_<_};
+use checks::Checked;
+use free::FreeVariables;
+use libc::STDOUT_FILENO;
+use marshtrundle::running::Outcome;
+
+// Prints a space and a number.
+fn show_number(n: u64) {
+    io::write_all(STDOUT_FILENO, b" ");
+    io::print_decimal(STDOUT_FILENO, n);
+}
+
+// Prints word i with its place, unless it is zero.
+fn show_word(i: u64, w: u32) {
+    if w != 0 {
+        show_number(i);
+        io::write_all(STDOUT_FILENO, b"=");
+        io::print_decimal(STDOUT_FILENO, w as u64);
+    }
+}
+
+// Prints each word that is not zero.
+fn show_words(words: &[u32]) {
+    let mut i: usize = 0;
+    while i < words.len() {
+        show_word(i as u64, words[i]);
+        i += 1;
+    }
+}
+
+// The sum with one word more.
+fn add(h: u64, w: u32) -> u64
+    requires { ⌜ h < 4294967296 ⌝ }
+    ensures { λ r. ⌜ r < 4294967296 ⌝ }
+{
+    (h * 31 + w as u64) % 4294967296
+}
+
+// The sum of all words modulo 2^32, each times 31 for each word after it.
+fn sum(words: &[u32]) -> u64 {
+    let mut h: u64 = 0;
+    let mut i: usize = 0;
+    while i < words.len() {
+        h = add(h, words[i]);
+        i += 1;
+    }
+    h
+}
+
+// Prints the bindings' words that are not zero, `:`, and the store: in up to 512 words those that are not zero, in more the
+// sum of all.
+fn show_memory(store: &[u32], bindings: &[u32]) {
+    show_words(bindings);
+    io::write_all(STDOUT_FILENO, b" :");
+    if store.len() <= 512 {
+        show_words(store);
+    } else {
+        show_number(sum(store));
+    }
+}
+
+// Prints what a check answers.
+pub fn show_checked(r: Checked) {
+    show_number(r.answer as u64);
+    show_number(r.place as u64);
+}
+
+// Prints what the question of free variables answers.
+pub fn show_free(r: FreeVariables) {
+    show_number(r.answer as u64);
+    show_number(r.place as u64);
+    show_number(r.mask as u64);
+}
+
+// Prints what a run returns, and the memory that it leaves.
+pub fn show_run(r: Outcome, store: &[u32], bindings: &[u32]) {
+    show_number(r.answer as u64);
+    show_number(r.place as u64);
+    show_number(r.subject as u64);
+    show_number(r.mark as u64);
+    show_number(r.units as u64);
+    show_memory(store, bindings);
+}

@@ -1,0 +1,376 @@
+"""A model of document 01, written from its text and sharing nothing with the crates: the two checks, the question of free
+variables, the run, and the job text. What the executed cases must answer comes from it.
+"""
+import re
+
+MOST = 2**32 - 1
+NAMES = ("ID FAIL TEST NOT SEQ CHOICE LEFT REC CALL PATH CONG ALL ONE SOME MATCH BUILD SCOPE WHERE PVAR PCON").split()
+(ID, FAIL, TEST, NOT, SEQ, CHOICE, LEFT, REC, CALL, PATH, CONG, ALL, ONE, SOME, MATCH, BUILD, SCOPE, WHERE, PVAR,
+ PCON) = range(20)
+# The least and the most operands, and the least and the highest argument; (1, 1) and (0, 0) where a kind is not named.
+COUNTS = {ID: (0, 0), FAIL: (0, 0), SEQ: (2, 2), CHOICE: (2, 2), LEFT: (2, 2), CONG: (0, 6), PVAR: (0, 0), PCON: (0, 6)}
+ARGUMENTS = {PATH: (1, 6), CONG: (0, 65535), SCOPE: (0, MOST), PVAR: (0, 31), PCON: (0, 65535)}
+
+
+def counts(kind):
+    return COUNTS.get(kind, (1, 1))
+
+
+def arguments(kind):
+    return ARGUMENTS.get(kind, (0, 0))
+
+
+def sort(kind):
+    return "strategy" if kind <= 17 else "pattern" if kind <= 19 else None
+
+
+def takes(kind):
+    """The sort of its operands."""
+    return "pattern" if kind in (MATCH, BUILD, PCON) else "strategy"
+
+
+def entry(kind, argument=0, *operands, count=None):
+    """The words of an entry that are used."""
+    return [16 * kind + (len(operands) if count is None else count), argument, *operands]
+
+
+# The two checks.
+
+def good_entry(t, e):
+    word = t[8 * e:8 * e + 8]
+    kind, count = divmod(word[0], 16)
+    if kind > 19:
+        return False
+    least, most = counts(kind)
+    low, high = arguments(kind)
+    if not least <= count <= most or not low <= word[1] <= high or any(word[2 + count:]):
+        return False
+    for o in word[2:2 + count]:
+        if o >= len(t) // 8:
+            return False
+        of = t[8 * o] // 16
+        if kind == CALL:
+            if of != REC:
+                return False
+        elif o <= e or sort(of) != takes(kind):
+            return False
+    return True
+
+
+def good_node(s, k):
+    con, count, *rest = s[8 * k:8 * k + 8]
+    return con <= 65535 and count <= 6 and all(c < k for c in rest[:count]) and not any(rest[count:])
+
+
+def table_fits(t):
+    return 0 < len(t) <= 32768 and len(t) % 8 == 0
+
+
+def store_fits(s, mark):
+    return len(s) <= 1048576 and len(s) % 8 == 0 and mark <= len(s) // 8
+
+
+def bad_entry(t):
+    """3 with the lowest bad entry, or 0."""
+    return next(((3, e) for e in range(len(t) // 8) if not good_entry(t, e)), (0, 0))
+
+
+def bad_node(s, mark):
+    """4 with the lowest bad node below the mark, or 0."""
+    return next(((4, k) for k in range(mark) if not good_node(s, k)), (0, 0))
+
+
+def check_table(t):
+    return bad_entry(t) if table_fits(t) else (2, 0)
+
+
+def check_store(s, mark):
+    return bad_node(s, mark) if store_fits(s, mark) else (2, 0)
+
+
+def is_start(t, e):
+    return e < len(t) // 8 and sort(t[8 * e] // 16) == "strategy"
+
+
+# The question of free variables: a variable is free in a strategy when one of its positions can be reached through operands
+# without entering a SCOPE that masks it.
+
+def is_free(t, start, v):
+    seen, rest = {start}, [start]
+    while rest:
+        e = rest.pop()
+        kind, count = divmod(t[8 * e], 16)
+        if kind == PVAR and t[8 * e + 1] == v:
+            return True
+        if kind == SCOPE and t[8 * e + 1] >> v & 1:
+            continue
+        for o in t[8 * e + 2:8 * e + 2 + count]:
+            if o not in seen:
+                seen.add(o)
+                rest.append(o)
+    return False
+
+
+def free_variables(t, e):
+    answer, place = check_table(t)
+    if answer:
+        return answer, place, 0
+    if not is_start(t, e):
+        return 5, 0, 0
+    return 0, 0, sum(1 << v for v in range(32) if is_free(t, e, v))
+
+
+# The run. A state is a term and a dictionary of bindings; a failure is None.
+
+def refusal(t, s, b, mark, start, subject):
+    """The answer and the place; 0 where nothing is refused."""
+    if not table_fits(t) or not store_fits(s, mark) or len(b) != 32:
+        return 2, 0
+    bad = bad_entry(t)
+    if bad == (0, 0):
+        bad = bad_node(s, mark)
+    if bad == (0, 0) and (not is_start(t, start) or subject >= mark or any(w > mark for w in b)):
+        bad = 5, 0
+    return bad
+
+
+class Cut(Exception):
+    pass
+
+
+class Run:
+    def __init__(self, t, s, mark, units):
+        self.entries = [t[i:i + 8] for i in range(0, len(t), 8)]
+        self.nodes = [(s[i], tuple(s[i + 2:i + 2 + s[i + 1]])) for i in range(0, 8 * mark, 8)]
+        self.room, self.units, self.used = len(s) // 8, units, 0
+
+    def visit(self, nesting):
+        if self.used == self.units:
+            raise Cut(6)
+        if nesting > 4096:
+            raise Cut(8)
+        self.used += 1
+
+    def make(self, con, kids):
+        if len(self.nodes) == self.room:
+            raise Cut(7)
+        self.nodes.append((con, tuple(kids)))
+        return len(self.nodes) - 1
+
+    def attempt(self, e, t, b, n):
+        """An operand whose failure the run survives: the mark then returns."""
+        mark = len(self.nodes)
+        got = self.strategy(e, t, b, n)
+        if got is None:
+            del self.nodes[mark:]
+        return got
+
+    def strategy(self, e, t, b, n):
+        self.visit(n)
+        word = self.entries[e]
+        kind, count = divmod(word[0], 16)
+        argument, ops = word[1], word[2:2 + count]
+        con, kids = self.nodes[t]
+        down = n + 1
+        if kind == ID:
+            return t, b
+        if kind == FAIL:
+            return None
+        if kind == TEST:
+            mark = len(self.nodes)
+            got = self.strategy(ops[0], t, b, down)
+            del self.nodes[mark:]
+            return None if got is None else (t, b)
+        if kind == NOT:
+            got = self.attempt(ops[0], t, b, down)
+            return (t, b) if got is None else None
+        if kind == WHERE:
+            got = self.strategy(ops[0], t, b, down)
+            return None if got is None else (t, got[1])
+        if kind == SEQ:
+            got = self.strategy(ops[0], t, b, down)
+            return None if got is None else self.strategy(ops[1], got[0], got[1], down)
+        if kind in (CHOICE, LEFT):
+            return self.attempt(ops[0], t, b, down) or self.strategy(ops[1], t, b, down)
+        if kind in (REC, CALL):
+            return self.strategy(ops[0], t, b, down)
+        if kind == PATH:
+            if argument > len(kids):
+                return None
+            got = self.strategy(ops[0], kids[argument - 1], b, down)
+            if got is None:
+                return None
+            kids = list(kids)
+            kids[argument - 1] = got[0]
+            return self.make(con, kids), got[1]
+        if kind in (CONG, ALL):
+            if kind == CONG and (con, len(kids)) != (argument, count):
+                return None
+            new = []
+            for j, c in enumerate(kids):
+                got = self.strategy(ops[j] if kind == CONG else ops[0], c, b, down)
+                if got is None:
+                    return None
+                new.append(got[0])
+                b = got[1]
+            return (self.make(con, new) if kids else t), b
+        if kind == ONE:
+            for j, c in enumerate(kids):
+                got = self.attempt(ops[0], c, b, down)
+                if got is not None:
+                    return self.make(con, kids[:j] + (got[0],) + kids[j + 1:]), got[1]
+            return None
+        if kind == SOME:
+            new, won = [], False
+            for c in kids:
+                got = self.attempt(ops[0], c, b, down)
+                if got is None:
+                    new.append(c)
+                else:
+                    won = True
+                    new.append(got[0])
+                    b = got[1]
+            return (self.make(con, new), b) if won else None
+        if kind == MATCH:
+            b = self.match(ops[0], t, b, down)
+            return None if b is None else (t, b)
+        if kind == BUILD:
+            t = self.build(ops[0], b, down)
+            return None if t is None else (t, b)
+        assert kind == SCOPE
+        inner = {v: k for v, k in b.items() if not argument >> v & 1}
+        got = self.strategy(ops[0], t, inner, down)
+        if got is None:
+            return None
+        outer = {v: k for v, k in got[1].items() if not argument >> v & 1}
+        outer.update({v: k for v, k in b.items() if argument >> v & 1})
+        return got[0], outer
+
+    def match(self, p, t, b, n):
+        self.visit(n)
+        word = self.entries[p]
+        if word[0] // 16 == PVAR:
+            v = word[1]
+            if v in b:
+                return b if self.same(b[v], t, n + 1) else None
+            return {**b, v: t}
+        con, kids = self.nodes[t]
+        if (con, len(kids)) != (word[1], word[0] % 16):
+            return None
+        for q, c in zip(word[2:], kids):
+            b = self.match(q, c, b, n + 1)
+            if b is None:
+                return None
+        return b
+
+    def same(self, x, y, n):
+        self.visit(n)
+        a, b = self.nodes[x], self.nodes[y]
+        if (a[0], len(a[1])) != (b[0], len(b[1])):
+            return False
+        return all(self.same(c, d, n + 1) for c, d in zip(a[1], b[1]))
+
+    def build(self, p, b, n):
+        self.visit(n)
+        word = self.entries[p]
+        if word[0] // 16 == PVAR:
+            return b.get(word[1])
+        kids = []
+        for q in word[2:2 + word[0] % 16]:
+            k = self.build(q, b, n + 1)
+            if k is None:
+                return None
+            kids.append(k)
+        return self.make(word[1], kids)
+
+
+def run(t, s, b, mark, start, subject, units):
+    """The five numbers, the store and the bindings at return."""
+    bad = refusal(t, s, b, mark, start, subject)
+    if bad[0]:
+        return [*bad, subject, mark, 0], s, b
+    r = Run(t, s, mark, units)
+    clean = s[:8 * mark] + [0] * (len(s) - 8 * mark)
+    try:
+        got = r.strategy(start, subject, {v: w - 1 for v, w in enumerate(b) if w}, 1)
+    except Cut as c:
+        return [c.args[0], 0, subject, mark, r.used], clean, b
+    if got is None:
+        return [1, 0, subject, mark, r.used], clean, b
+    for k in range(mark, len(r.nodes)):
+        con, kids = r.nodes[k]
+        clean[8 * k:8 * k + 2 + len(kids)] = [con, len(kids), *kids]
+    return [0, 0, got[0], len(r.nodes), r.used], clean, [got[1].get(v, -1) + 1 for v in range(32)]
+
+
+# The job: the job of a text, and the text of an answer.
+
+class Bad(Exception):
+    """The number of the first bad line."""
+
+
+def numbers(fields):
+    if not all(re.fullmatch(rb"0|[1-9][0-9]*", f) and int(f) <= MOST for f in fields):
+        raise ValueError
+    return [int(f) for f in fields]
+
+
+def take(job, name, v):
+    """One more line, or ValueError."""
+    need = lambda fact: fact or numbers([b"-"])
+    if name == b"job":
+        need(job["section"] == 0 and len(v) == 4 and v[3] <= 1024)
+        job.update(section=1, units=v[0], start=v[1], subject=v[2], room=v[3])
+        return
+    need(job["section"] > 0)
+    if name == b"e":
+        need(job["section"] == 1 and 2 <= len(v) <= 8 and v[0] <= 255 and len(job["e"]) < 512)
+        job["e"].append([16 * v[0] + len(v) - 2] + v[1:] + [0] * (8 - len(v)))
+    elif name == b"n":
+        need(job["section"] <= 2 and 1 <= len(v) <= 7 and len(job["n"]) < 1024)
+        job["section"] = 2
+        job["n"].append([v[0], len(v) - 1] + v[1:] + [0] * (7 - len(v)))
+    elif name == b"b":
+        need(len(v) == 2 and v[0] < 32 and v[1] < 131072 and v[0] > max(job["b"], default=-1))
+        job["section"] = 3
+        job["b"][v[0]] = v[1]
+    else:
+        need(False)
+
+
+def read(text):
+    if len(text) > 60000:
+        raise Bad(0)
+    lines = text.split(b"\n")
+    job = dict(section=0, e=[], n=[], b={})
+    for k, line in enumerate(lines[:-1], 1):
+        name, *fields = line.split(b"\t")
+        try:
+            take(job, name, numbers(fields))
+        except ValueError:
+            raise Bad(k)
+    if lines[-1] or len(lines) == 1:
+        raise Bad(len(lines))
+    return job
+
+
+def line(name, *v):
+    return b"\t".join([name.encode()] + [b"%d" % x for x in v]) + b"\n"
+
+
+def five_of(text):
+    """The five numbers, and the text of what is left."""
+    try:
+        job = read(text)
+    except Bad as bad:
+        return [9, bad.args[0], 0, 0, 0], b""
+    mark, room = len(job["n"]), job["room"]
+    store = [w for row in job["n"] for w in row] + [0] * 8192
+    bound = [job["b"].get(v, -1) + 1 for v in range(32)]
+    five, store, bound = run([w for row in job["e"] for w in row], store[:8 * room], bound, mark, job["start"],
+                             job["subject"], job["units"])
+    if five[0] not in (0, 1, 6, 7, 8):
+        return five, b""
+    nodes = [store[8 * k:8 * k + 8] for k in range(five[3])]
+    return five, b"".join([line("n", r[0], *r[2:2 + r[1]]) for r in nodes]
+                          + [line("b", v, w - 1) for v, w in enumerate(bound) if w])

@@ -1,0 +1,410 @@
+"""The cases of the run. S1 to S12 are held to the answers that 01 prints."""
+import random
+
+from lend import add, lend, memory, rows_of, say
+from model import (ALL, BUILD, CALL, CHOICE, CONG, FAIL, ID, LEFT, MATCH, MOST, NAMES, NOT, ONE, PATH, PCON, PVAR, REC, SCOPE,
+                   SEQ, SOME, TEST, WHERE, counts, entry, run, sort)
+
+labels = set()
+
+
+def case(label, table=(), store=(), *, tlen=None, slen=None, blen=32, mark=None, room=None, start=0, subject=None,
+         units=1000, bound=(), fill=1, head=(0, 0, 0), words=()):
+    """table and store: rows. bound: pairs of a variable and a node. words: further patches."""
+    assert label not in labels, label
+    labels.add(label)
+    tlen = 8 * len(table) if tlen is None else tlen
+    mark = len(store) if mark is None else mark
+    slen = 8 * (mark + 2 if room is None else room) if slen is None else slen
+    subject = (mark - 1 if mark else 0) if subject is None else subject
+    if head[0]:
+        table = {e: row + [0] * (4 - len(row)) for e, row in dict(table).items()}
+    patches = rows_of(0, table, head[0]) + rows_of(1, store, fill > 1) + [(2, v, k + 1) for v, k in bound] + list(words)
+    t, s, b, body = lend(label, table=tlen, store=slen, bindings=blen, mark=mark, start=start, subject=subject, units=units,
+                         fill=fill, head=head, patches=patches)
+    five, s, b = run(t, s, b, mark, start, subject, units)
+    add("r", body, say(label, *five)[:-1] + memory(s, b).encode() + b"\n")
+    return five, s, b
+
+
+FLIP = [entry(SCOPE, 3, 1), entry(SEQ, 0, 2, 3), entry(MATCH, 0, 4), entry(BUILD, 0, 5), entry(PCON, 5, 6, 7),
+        entry(PCON, 5, 7, 6), entry(PVAR, 0), entry(PVAR, 1)]
+THREE = [[1], [2], [5, 2, 0, 1]]
+X, Y = entry(PVAR, 0), entry(PVAR, 1)
+
+
+def small_runs():
+    """S1 to S12, held to what 01 prints."""
+    def s(label, table, answer, used, subject=2, mark=3, binds=(), store=THREE, new=(), given=2, **more):
+        five, words, b = case(label, table, store, **{"fill": 0, "room": 6, "units": 100, "subject": given, **more})
+        assert five == [answer, 0, subject, mark, used], (label, five)
+        assert b == [dict(binds).get(v, -1) + 1 for v in range(32)], (label, b)
+        assert words[24:24 + len(new)] == list(new) and not any(words[24 + len(new):]), (label, words)
+    flipped = [5, 2, 1, 0]
+    s("S1", FLIP, 0, 10, 3, 4, new=flipped, units=10, room=4)
+    s("S2", FLIP, 6, 9, units=9, room=4)
+    s("S3", FLIP, 7, 10, units=10, room=3)
+    s("S4", [entry(MATCH, 0, 1), entry(PCON, 5, 2, 2), X], 1, 5)
+    s("S5", [entry(MATCH, 0, 1), entry(PCON, 5, 2, 2), X], 0, 5, binds=[(0, 0)], store=[[1], [2], [5, 2, 0, 0]])
+    s("S6", [entry(LEFT, 0, 1, 4), entry(SEQ, 0, 2, 3), entry(MATCH, 0, 5), entry(FAIL), entry(ID), X], 0, 6)
+    s("S7 ALL", [entry(ALL, 0, 1), entry(FAIL)], 0, 1, 0, given=0)
+    s("S7 ONE", [entry(ONE, 0, 1), entry(ID)], 1, 1, 0, given=0)
+    s("S8", [entry(SOME, 0, 1), entry(MATCH, 0, 2), entry(PCON, 1)], 0, 5, 3, 4, new=[5, 2, 0, 1])
+    s("S9 PATH 3", [entry(PATH, 3, 1), entry(ID)], 1, 1)
+    s("S9 PATH 2", [entry(PATH, 2, 1), entry(ID)], 0, 2, 3, 4, new=[5, 2, 0, 1])
+    s("S10 TEST", [entry(TEST, 0, 1), entry(MATCH, 0, 2), X], 0, 3)
+    s("S10 WHERE", [entry(WHERE, 0, 1), entry(MATCH, 0, 2), X], 0, 3, binds=[(0, 2)])
+    s("S11 7 units", [entry(REC, 0, 1), entry(CALL, 0, 0)], 6, 7, units=7)
+    s("S11 5000 units", [entry(REC, 0, 1), entry(CALL, 0, 0)], 8, 4096, units=5000)
+    s("S12", [entry(BUILD, 0, 1), X], 1, 2)
+
+
+def refusals():
+    ok, bad, node = [entry(ID)], [entry(ID), [16, 1]], [[1], [65536]]
+    one = [(0, 0)]
+    for n in (0, 7, 9, 32769, 32776):
+        case("2 table of %d words" % n, (), THREE, tlen=n, bound=one)
+    for n in (7, 9, 23, 25, 1048577, 1048584):
+        case("2 store of %d words" % n, ok, mark=0, slen=n)
+    for n in (0, 31, 33, 40):
+        case("2 bindings of %d words" % n, ok, THREE, blen=n, bound=one if n else ())
+    case("2 mark one past the store", ok, mark=4, slen=24)
+    case("2 mark far past the store", ok, mark=MOST, slen=24)
+    case("2 empty store with mark 1", ok, mark=1, slen=0)
+    for label, table in (
+            ("kind 20", [entry(ID), entry(20)]), ("kind far above", [entry(ID), [MOST]]),
+            ("operand missing", [entry(TEST, 0, 1), [16 * NOT]]), ("operand too many", [entry(ID),
+                entry(ID, 0, 2), entry(ID)]),
+            ("seven operands", [entry(ID), [16 * CONG + 7, 1, 2, 2, 2, 2, 2, 2], entry(ID)]),
+            ("argument where none is named", [entry(ID), entry(FAIL, 1)]), ("PATH 0", [entry(PATH, 0, 1), entry(ID)]),
+            ("PATH 7", [entry(PATH, 7, 1), entry(ID)]), ("variable 32", [entry(ID), entry(PVAR, 32)]),
+            ("constructor 65536", [entry(CONG, 65536)]), ("operand its own entry", [entry(ID), entry(TEST, 0, 1)]),
+            ("operand below", [entry(ID), entry(TEST, 0, 0)]), ("operand past the table", [entry(TEST, 0, 1)]),
+            ("strategy of a pattern", [entry(TEST, 0, 1), X]), ("MATCH of a strategy", [entry(MATCH, 0, 1), entry(ID)]),
+            ("PCON of a strategy", [entry(ID), entry(PCON, 1, 2),
+                entry(ID)]), ("CALL of no REC", [entry(CALL, 0, 1), entry(ID)]),
+            ("CALL past the table", [entry(CALL, 0, 1)]), ("unused word", [entry(ID), [0, 0, 0, 0, 0, 0, 0, 1]]),
+            ("operand of no sort", [entry(TEST, 0, 1), entry(20)]), ("lowest of two", [entry(ID),
+                entry(FAIL, 1), entry(20)])):
+        case("3 " + label, table, THREE, bound=one)
+    case("3 last of 4096 entries", {4095: [320]}, THREE, tlen=32768)
+    for label, store in (
+            ("constructor 65536", [[1], [65536]]), ("seven children", [[1], [1, 7]]), ("child its own number", [[1], [1, 1, 1]]),
+            ("child above", [[1], [1, 1, 2], [1]]), ("unused word", [[1], [1, 1, 0, 1], [1]]), ("lowest of two", [[1], [65536], [65536]]),
+            ("node 0 with a child", [[1, 1, 0]])):
+        case("4 " + label, ok, store, subject=0, bound=one)
+    case("4 last of 131072 nodes", ok, {131071: [65536]}, mark=131072, slen=1048576, fill=0)
+    case("a bad node at the mark is no refusal", ok, [[1], [65536]], mark=1)
+    for label, more in (("start past the table", dict(start=1)), ("start far past the table", dict(start=MOST)),
+                        ("subject at the mark", dict(subject=3)), ("subject far above", dict(subject=MOST)),
+                        ("a binding one past the mark", dict(words=[(2, 31, 4)])), ("a binding far above", dict(words=[(2, 0, MOST)]))):
+        case("5 " + label, ok, THREE, **more)
+    case("5 start a PVAR", [entry(ID), X], THREE, start=1)
+    case("5 start a PCON", [entry(ID), entry(PCON, 1)], THREE, start=1)
+    case("5 no nodes", ok, mark=0, slen=16)
+    case("5 empty store", ok, mark=0, slen=0)
+    case("a binding of the last node is no refusal", ok, THREE, bound=[(31, 2)])
+    case("2 before 3", bad, THREE, mark=4, slen=24)
+    case("2 before 4", ok, node, blen=31)
+    case("2 before 5", ok, THREE, blen=33, start=1)
+    case("3 before 4", bad, node)
+    case("3 before 5", bad, THREE, start=9)
+    case("4 before 5", ok, node, start=9)
+    case("2 before 3, 4 and 5", bad, node, blen=0, start=9)
+    case("3 before 4 and 5", bad, node, start=9, subject=9)
+
+
+SIX = [[1], [2], [3], [4], [5], [6]]
+
+
+def needed():
+    """Small jobs of each kind, with one unit less than needed, as many, and one more; and with the room just missing."""
+    jobs = {
+        "ID": [entry(ID)], "FAIL": [entry(FAIL)], "TEST": [entry(TEST, 0, 1), entry(PATH, 1, 2), entry(ID)],
+        "NOT": [entry(NOT, 0, 1), entry(PATH, 3, 2), entry(ID)], "NOT of a success": [entry(NOT, 0, 1),
+            entry(PATH, 2, 2), entry(ID)],
+        "SEQ": [entry(SEQ, 0, 1, 2), entry(PATH, 1, 3), entry(PATH, 2, 3), entry(ID)],
+        "CHOICE": [entry(CHOICE, 0, 1, 2), entry(PATH, 3, 3), entry(PATH, 2, 3), entry(ID)],
+        "LEFT": [entry(LEFT, 0, 1, 2), entry(SEQ, 0, 3, 4), entry(PATH, 2, 5), entry(PATH, 1, 5), entry(FAIL),
+            entry(ID)],
+        "REC": [entry(REC, 0, 1), entry(LEFT, 0, 2, 4), entry(ONE, 0, 3), entry(CALL, 0, 0), entry(ID)],
+        "PATH": [entry(PATH, 2, 1), entry(WHERE, 0, 2), entry(MATCH, 0, 3), X],
+        "CONG": [entry(CONG, 5, 1, 2), entry(ID), entry(MATCH, 0, 3), X], "ALL": [entry(ALL, 0, 1),
+            entry(ALL, 0, 2), entry(FAIL)],
+        "ONE": [entry(ONE, 0, 1), entry(MATCH, 0, 2), entry(PCON, 2)], "SOME": [entry(SOME, 0, 1),
+            entry(MATCH, 0, 2), entry(PCON, 2)],
+        "MATCH": [entry(MATCH, 0, 1), entry(PCON, 5, 2, 3), X, Y],
+        "BUILD": [entry(BUILD, 0, 1), entry(PCON, 7, 2, 3, 2), entry(PCON, 1), entry(PCON, 8, 4, 4), entry(PVAR, 9)],
+        "SCOPE": FLIP, "WHERE": [entry(WHERE, 0, 1), entry(SEQ, 0, 2, 3), entry(MATCH, 0, 4),
+            entry(PATH, 1, 5), X, entry(ID)],
+        "compare": [entry(SEQ, 0, 1, 1), entry(MATCH, 0, 2), entry(PCON, 5, 3, 4), X, Y],
+    }
+    for name, table in jobs.items():
+        five, s, b = case(name + " with ample units", table, THREE, room=9, bound=[(9, 0)])
+        used, made = five[4], five[3] - 3
+        for n, what in ((0, "no units"), (used - 1, "one unit less"), (used, "its units"), (used + 1, "one unit more"), (MOST, "most units")):
+            if n > 0 or used == 1 and what == "no units":
+                case("%s with %s" % (name, what), table, THREE, units=n, bound=[(9, 0)])
+        if made:
+            case(name + " with one node too few", table, THREE, room=2 + made, bound=[(9, 0)])
+            case(name + " with its room", table, THREE, room=3 + made, bound=[(9, 0)])
+        case(name + " at a full store", table, THREE, room=3, bound=[(9, 0)])
+
+
+def children():
+    for n in range(7):
+        store = SIX + [[9, n, *range(n)]]
+        for name, table in (("ALL of ID", [entry(ALL, 0, 1), entry(ID)]), ("ONE of ID", [entry(ONE, 0, 1), entry(ID)]),
+                            ("SOME of ID", [entry(SOME, 0, 1), entry(ID)]),
+                            ("ONE of MATCH the last", [entry(ONE, 0, 1), entry(MATCH, 0, 2), entry(PCON, n)]),
+                            ("SOME of MATCH the last", [entry(SOME, 0, 1), entry(SEQ, 0, 2, 3),
+                                entry(MATCH, 0, 4), entry(BUILD, 0, 5),
+                                                        entry(PCON, n), entry(PCON, 77)]),
+                            ("ALL of a build", [entry(ALL, 0, 1), entry(BUILD, 0, 2), entry(PCON, 7)]),
+                            ("CONG of matches", [entry(CONG, 9, *range(1, n + 1))] + [entry(MATCH, 0, n + 1 + j) for j in range(n)]
+                             + [entry(PVAR, j) for j in range(n)]),
+                            ("CONG of builds", [entry(CONG, 9, *range(n, 0, -1))] + [entry(BUILD, 0, n + 1 + j) for j in range(n)]
+                             + [entry(PCON, 20 + j) for j in range(n)]),
+                            ("PATH to the last", [entry(PATH, max(n, 1), 1), entry(BUILD, 0, 2), entry(PCON, 7)]),
+                            ("MATCH of all", [entry(MATCH, 0, 1),
+                                entry(PCON, 9, *range(2, n + 2))] + [entry(PVAR, 31 - j) for j in range(n)]),
+                            ("BUILD of all", [entry(BUILD, 0, 1),
+                                entry(PCON, 9, *range(2, n + 2))] + [entry(PCON, 30 + j) for j in range(n)])):
+            case("%s, %d children" % (name, n), table, store, room=16)
+    for n in range(1, 6):
+        store = SIX + [[9, n, *range(n)]]
+        case("PATH past the last of %d children" % n, [entry(PATH, n + 1, 1), entry(ID)], store)
+        case("CONG of %d operands, one child more" % (n - 1), [entry(CONG, 9, *[1] * (n - 1)), entry(ID)], store)
+        case("CONG of %d operands, one child less" % (n + 1), [entry(CONG, 9, *[1] * (n + 1)), entry(ID)], store)
+    case("CONG with another constructor", [entry(CONG, 8, 1), entry(ID)], SIX + [[9, 1, 0]])
+
+
+def bindings():
+    for kind in (CHOICE, LEFT):
+        case("%s drops the binding of a failed first" % NAMES[kind],
+             [entry(kind, 0, 1, 4), entry(SEQ, 0, 2, 3), entry(MATCH, 0, 5), entry(FAIL), entry(ID), X], THREE)
+        case("%s tries the second with the outer binding" % NAMES[kind],
+             [entry(kind, 0, 1, 4), entry(SEQ, 0, 2, 3), entry(MATCH, 0, 5), entry(FAIL), entry(PATH, 1, 6), X,
+                 entry(MATCH, 0, 7), X], THREE)
+        case("%s drops a built term" % NAMES[kind],
+             [entry(kind, 0, 1, 4), entry(SEQ, 0, 2, 3), entry(BUILD, 0, 5), entry(FAIL), entry(ID),
+                 entry(PCON, 7, 6), entry(PCON, 8)], THREE, room=5)
+    half = [entry(PCON, 5, 6, 7), X, entry(PCON, 9)]
+    case("a failed MATCH keeps no binding", [entry(LEFT, 0, 1, 2), entry(MATCH, 0, 5), entry(ID), entry(ID),
+         entry(ID)] + half, THREE)
+    first = [entry(SEQ, 0, 2, 3), entry(MATCH, 0, 4), entry(MATCH, 0, 5), X, entry(PCON, 2)]
+    case("ONE drops the binding of a failed child", [entry(ONE, 0, 1)] + first, THREE)
+    case("SOME drops the binding of a failed child", [entry(SOME, 0, 1)] + first, THREE)
+    case("NOT drops the binding of its operand", [entry(NOT, 0, 1), entry(SEQ, 0, 2, 3), entry(MATCH, 0, 4),
+         entry(FAIL), X], THREE)
+    case("TEST drops the binding of its operand", [entry(TEST, 0, 1), entry(MATCH, 0, 2), X], THREE)
+    case("WHERE keeps a binding to a made node", [entry(WHERE, 0, 1), entry(SEQ, 0, 2, 3), entry(BUILD, 0, 4),
+         entry(MATCH, 0, 5), entry(PCON, 7), X], THREE)
+    case("PATH keeps the binding of its child", [entry(PATH, 2, 1), entry(MATCH, 0, 2), X], THREE)
+    case("ONE keeps the binding of its child", [entry(ONE, 0, 1), entry(MATCH, 0, 2), X], THREE)
+    case("ALL hands bindings on", [entry(ALL, 0, 1), entry(MATCH, 0, 2), X], THREE)
+    case("ALL hands bindings on to an equal child", [entry(ALL, 0, 1), entry(MATCH, 0, 2), X], [[1], [1], [5, 2, 0, 1]])
+    case("SOME hands bindings on", [entry(SOME, 0, 1), entry(MATCH, 0, 2), X], THREE)
+    case("SOME hands bindings on past a failure", [entry(SOME, 0, 1),
+         entry(MATCH, 0, 2), X], [[1], [2], [1], [5, 3, 0, 1, 2]])
+    case("CONG hands bindings on", [entry(CONG, 5, 1, 1), entry(MATCH, 0, 2), X], THREE)
+    case("CONG hands bindings on to a build", [entry(CONG, 5, 1, 2), entry(MATCH, 0, 3), entry(BUILD, 0, 3), X], THREE)
+    case("a failed job gives the bindings back", [entry(SEQ, 0, 1, 2), entry(MATCH, 0, 3), entry(FAIL), Y],
+         THREE, bound=[(0, 1)])
+    inner = [entry(SCOPE, 1, 1), entry(MATCH, 0, 2), X]
+    case("SCOPE puts a bound variable back", inner, THREE, bound=[(0, 0)])
+    case("SCOPE puts an unbound variable back", inner, THREE)
+    case("SCOPE of all variables", [entry(SCOPE, MOST, 1), entry(MATCH, 0, 2), entry(PCON, 5, 3, 4), X,
+         entry(PVAR, 31)], THREE, bound=[(0, 2), (31, 2), (7, 1)])
+    case("SCOPE of none", [entry(SCOPE, 0, 1), entry(MATCH, 0, 2), X], THREE)
+    case("SCOPE of none, bound", [entry(SCOPE, 0, 1), entry(MATCH, 0, 2), X], THREE, bound=[(0, 0)])
+    case("SCOPE keeps other new bindings", [entry(SCOPE, 1, 1), entry(MATCH, 0, 2), entry(PCON, 5, 3, 4), X, Y],
+         THREE, bound=[(0, 2)])
+    case("SCOPE of variable 31", [entry(SCOPE, 2**31, 1), entry(MATCH, 0, 2), entry(PVAR, 31)], THREE,
+         bound=[(31, 0), (30, 1)])
+    case("a failed SCOPE puts bindings back", [entry(LEFT, 0, 1, 4), entry(SCOPE, 1, 2), entry(SEQ, 0, 3, 5),
+         entry(MATCH, 0, 6), entry(BUILD, 0, 6), entry(FAIL), X],
+         THREE, bound=[(0, 0)])
+    case("a failed SCOPE binds nothing", [entry(LEFT, 0, 1, 4), entry(SCOPE, 1, 2), entry(SEQ, 0, 3, 5),
+         entry(MATCH, 0, 6), entry(BUILD, 0, 6), entry(FAIL), X], THREE)
+    case("scope in a scope", [entry(SCOPE, 1, 1), entry(SEQ, 0, 2, 4), entry(MATCH, 0, 7), entry(MATCH, 0, 7),
+         entry(SCOPE, 1, 5), entry(PATH, 1, 6),
+                              entry(MATCH, 0, 7), X], THREE, bound=[(0, 1)])
+    case("CALL runs inside the scope", [entry(SEQ, 0, 1, 2), entry(REC, 0, 3), entry(SCOPE, 1, 4),
+         entry(MATCH, 0, 5), entry(CALL, 0, 1), X], THREE)
+    case("CALL runs inside the scope, x bound by the scope", [entry(SCOPE, 1, 1), entry(SEQ, 0, 2, 3),
+         entry(MATCH, 0, 6), entry(PATH, 1, 4), entry(CALL, 0, 5),
+                                                             entry(REC, 0, 7), X, entry(MATCH, 0, 8), X], THREE,
+                                                                 bound=[(0, 0)])
+    twice = [entry(MATCH, 0, 1), entry(PCON, 5, 2, 2), X]
+    case("equal terms at different nodes", twice, [[1], [2], [4, 2, 0, 1], [1], [4, 2, 3, 1], [5, 2, 2, 4]])
+    case("terms that differ below", twice, [[1], [2], [4, 2, 0, 1], [1], [4, 2, 3, 0], [5, 2, 2, 4]])
+    case("terms of other counts", twice, [[1], [4, 2, 0, 0], [4, 1, 0], [5, 2, 1, 2]])
+    case("terms of other constructors", twice, [[1], [4, 1, 0], [3, 1, 0], [5, 2, 1, 2]])
+    case("the same node compared in full", twice, [[1], [4, 6, 0, 0, 0, 0, 0, 0], [5, 2, 1, 1]])
+    case("a bound variable keeps its first node", [entry(MATCH, 0, 1), X], [[1], [1]], bound=[(0, 0)])
+    case("BUILD of a bound variable is its node", [entry(BUILD, 0, 1), X], THREE, bound=[(0, 1)])
+    case("BUILD fails after nodes were made", [entry(LEFT, 0, 1, 2), entry(BUILD, 0, 3), entry(BUILD, 0, 4),
+         entry(PCON, 6, 4, 5), entry(PCON, 7), Y], THREE, room=4)
+    case("BUILD without a match fails", [entry(BUILD, 0, 1), entry(PCON, 6, 2, 3), entry(PCON, 7), Y], THREE)
+    case("BUILD uses one variable twice", [entry(BUILD, 0, 1), entry(PCON, 6, 2, 2), X], THREE, bound=[(0, 1)])
+    case("variable 31 matched and built", [entry(SEQ, 0, 1, 2), entry(MATCH, 0, 3), entry(BUILD, 0, 4),
+         entry(PVAR, 31), entry(PCON, 65535, 3)], THREE)
+
+
+def limits():
+    make = entry(BUILD, 0, 5)
+    loop = [entry(REC, 0, 4), entry(CALL, 0, 3)]
+    for kind in (NOT, TEST, WHERE, ONE, SOME, ALL):
+        table = [entry(kind, 0, 1), entry(ID), entry(ID), *loop, entry(PCON, 7)]
+        table[1] = entry(SEQ, 0, 2, 3)
+        case("%s does not catch 6" % NAMES[kind], table, THREE, units=50)
+        case("%s does not catch 8" % NAMES[kind], table, THREE, units=5000)
+        case("%s does not catch 7" % NAMES[kind], [entry(kind, 0, 1), make, entry(ID), *loop, entry(PCON, 7)],
+             THREE, room=3)
+    for kind in (LEFT, CHOICE):
+        table = [entry(kind, 0, 3, 1), entry(ID), entry(ID), *loop, entry(PCON, 7)]
+        case("%s does not catch 6" % NAMES[kind], table, THREE, units=50)
+        case("%s does not catch 8" % NAMES[kind], table, THREE, units=5000)
+        case("%s does not catch 7" % NAMES[kind], [entry(kind, 0, 2, 1), entry(ID), make, *loop, entry(PCON, 7)],
+             THREE, room=3)
+    case("SCOPE does not lose a binding at a cut-off", [entry(SCOPE, 1, 1), entry(SEQ, 0, 2, 3),
+         entry(MATCH, 0, 5), *loop, X], THREE, bound=[(0, 0)], units=40)
+    built = [entry(PCON, 7, 7, 7), entry(PCON, 8)]
+    case("room used again after a failure",
+         [entry(LEFT, 0, 1, 4), entry(SEQ, 0, 2, 3), entry(BUILD, 0, 6), entry(FAIL), entry(BUILD, 0, 6),
+             entry(ID)] + built, THREE, room=6)
+    case("room used again after TEST", [entry(SEQ, 0, 1, 2), entry(TEST, 0, 2), entry(BUILD, 0, 3),
+         entry(PCON, 7, 4, 4), entry(PCON, 8)], THREE, room=6)
+    case("room used again after NOT", [entry(SEQ, 0, 1, 5), entry(NOT, 0, 2), entry(SEQ, 0, 3, 4),
+         entry(BUILD, 0, 6), entry(FAIL), entry(BUILD, 0, 6)] + built, THREE, room=6)
+    first = [entry(SEQ, 0, 2, 3), entry(WHERE, 0, 4), entry(MATCH, 0, 5), entry(BUILD, 0, 6), entry(PCON, 2),
+        entry(PCON, 7, 7, 7), entry(PCON, 8)]
+    case("room used again after a failed child of ONE", [entry(ONE, 0, 1)] + first, THREE, room=7)
+    case("room used again after a failed child of SOME", [entry(SOME, 0, 1)] + first, THREE, room=7)
+    case("room missing after a failed child of SOME", [entry(SOME, 0, 1)] + first, THREE, room=6)
+    case("WHERE keeps the nodes it made", [entry(WHERE, 0, 1), entry(BUILD, 0, 2), entry(PCON, 7)], THREE, room=4)
+    case("no unit at all", [entry(ID)], THREE, units=0)
+    case("no unit at a full store", [entry(ID)], THREE, units=0, room=3)
+    case("a full store where no node is made", FLIP[:2] + [entry(MATCH, 0, 4), entry(ID)] + FLIP[4:], THREE, room=3)
+    case("a node made with all units used", [entry(PATH, 1, 1), entry(ID)], THREE, units=2)
+    case("no room with all units used", [entry(PATH, 1, 1), entry(ID)], THREE, units=2, room=3)
+    case("units before nesting", [entry(REC, 0, 1), entry(CALL, 0, 0)], THREE, units=4096)
+    case("nesting with a unit left", [entry(REC, 0, 1), entry(CALL, 0, 0)], THREE, units=4097)
+    case("nesting with most units", [entry(REC, 0, 1), entry(CALL, 0, 0)], THREE, units=MOST)
+    case("the start is not entry 0", FLIP, THREE, start=1)
+    case("the subject is not the last node", [entry(MATCH, 0, 1), X], THREE, subject=1)
+
+
+def deep():
+    """Chains of 4,096 visits by each way down, which pass, and of 4,097, which end in 8."""
+    for name, head, chain in (("TEST", (16 * TEST + 1, 0, 0), 1), ("WHERE", (16 * WHERE + 1, 0, 0), 1), ("NOT", (16 * NOT + 1, 0, 0), 1),
+                              ("SCOPE", (16 * SCOPE + 1, 3, 0), 1), ("PATH", (16 * PATH + 1, 1, 0), 4096), ("CONG", (16 * CONG + 1, 1, 0), 4096),
+                              ("ALL", (16 * ALL + 1, 0, 0), 4096), ("ONE", (16 * ONE + 1, 0, 0), 4096), ("SOME", (16 * SOME + 1, 0, 0), 4096),
+                              ("SEQ", (16 * SEQ + 2, 0, 4095), 1), ("LEFT", (16 * LEFT + 2, 0, 4095), 1),
+                              ("CHOICE", (16 * CHOICE + 2, 0, 4095), 1), ("REC", (16 * REC + 1, 0, 0), 1)):
+        more = dict(tlen=32768, mark=chain, fill=3, head=head, units=100000, bound=[(0, 0)], slen=8 * (2 * chain + 2))
+        case("%s nested 4096 deep" % name, **more)
+        case("%s nested 4097 deep" % name, {0: entry(REC, 0, 1), 4095: entry(CALL, 0, 0)}, **more)
+        if chain > 1:
+            case("%s nested 4096 deep, one node too few" % name, **{**more, "slen": 8 * (chain + 4094)})
+    one = [entry(MATCH, 0, 1), X]
+    case("compare 4096 deep", one, mark=4094, fill=3, bound=[(0, 4093)], units=5000, slen=8 * 4100)
+    case("compare 4097 deep", one, mark=4095, fill=3, bound=[(0, 4094)], units=5000, slen=8 * 4100)
+    two = [(1, 8 * k + 1, 2) for k in range(1, 4095)]
+    case("compare 4096 deep, down the first of two", one, mark=4094, fill=3, bound=[(0, 4093)], units=9000, slen=8 * 4100, words=two[:-1])
+    case("compare 4097 deep, down the first of two", one, mark=4095, fill=3, bound=[(0, 4094)], units=9000, slen=8 * 4100, words=two)
+    case("compare ends by units", one, mark=4094, fill=3, bound=[(0, 4093)], units=4095, slen=8 * 4100)
+    for kind in (MATCH, BUILD):
+        pcon = (16 * PCON + 1, 1, 0)
+        case("%s 4096 deep" % NAMES[kind], {0: entry(kind, 0, 1), 4095: X}, tlen=32768, mark=4095, fill=3, head=pcon,
+             units=5000, slen=8 * 8200, bound=[] if kind == MATCH else [(0, 7)])
+        for last in (4093, 4094):
+            case("%s %d deep through CALL" % (NAMES[kind], last + 3),
+                 {0: entry(REC, 0, 1), 1: entry(LEFT, 0, 2, 4), 2: entry(CONG, 2, 3), 3: entry(CALL, 0, 0), 4: entry(kind, 0, 5), last: X},
+                 {4095: [2, 1, 4094]}, tlen=8 * (last + 1), mark=4096, fill=3, head=pcon, units=9000, slen=8 * 8200,
+                 bound=[] if kind == MATCH else [(0, 7)])
+    hides = [entry(REC, 0, 1), entry(SCOPE, 1, 2), entry(SEQ, 0, 3, 4), entry(MATCH, 0, 5), entry(CALL, 0, 0), X]
+    case("SCOPE hides a binding at every level", hides, THREE, units=9000, bound=[(0, 1)])
+    case("SCOPE hides and ends by units", hides, THREE, units=3000, bound=[(0, 1)])
+    down = [entry(REC, 0, 1), entry(ALL, 0, 2), entry(CALL, 0, 0)]
+    case("ALL through CALL, 1365 levels", down, mark=1365, fill=3, units=5000, slen=8 * 3000)
+    case("ALL through CALL, 1366 levels", down, mark=1366, fill=3, units=5000, slen=8 * 3000)
+
+
+def full():
+    whole = dict(slen=1048576, units=100)
+    case("131072 nodes, ID", [entry(ID)], mark=131072, fill=2, **whole)
+    case("131072 nodes, PATH", [entry(PATH, 1, 1), entry(ID)], mark=131072, fill=2, **whole)
+    case("131071 nodes, PATH", [entry(PATH, 1, 1), entry(ID)], mark=131071, fill=3, **whole)
+    # node k has k - 1 twice, so that a pass over it makes 2**k - 1 nodes; the last three make up what is missing
+    shared = [[1]] + [[1, 2, k - 1, k - 1] for k in range(1, 17)]
+    shared += [[1, 5, 6, 5, 4, 2, 2], [1, 6, 11, 10, 9, 8, 7, 17], [1, 6, 16, 15, 14, 13, 12, 18]]
+    down = [entry(REC, 0, 1), entry(ALL, 0, 2), entry(CALL, 0, 0)]
+    five, _, _ = case("a run that fills 131072 nodes", down, shared, slen=1048576, units=MOST)
+    assert five[0] == 0 and five[3] == 131072
+    five, _, _ = case("a run that needs one node more than there are", down, shared, slen=1048568, units=MOST)
+    assert five[0] == 7
+    case("room for 131072 nodes, none kept", [entry(TEST, 0, 1), entry(BUILD, 0, 2), entry(PCON, 7)], [[1]], **whole)
+    case("4096 entries, the last is the start", {4095: entry(FAIL)}, THREE, tlen=32768, start=4095)
+
+
+def term(rng, store, cons):
+    kids = [rng.randrange(len(store)) for _ in range(rng.choice((0, 1, 2, 2, 3)))] if store else []
+    store.append([rng.choice(cons), len(kids), *kids])
+
+
+def table_of(rng, n):
+    """n entries, the last two a PVAR and an ID."""
+    rows = [entry(PVAR, rng.randrange(3)), entry(ID)]
+    for e in range(n - 3, -1, -1):
+        above = range(e + 1, n)
+        of = lambda s: [o for o in above if sort(rows[o - e - 1][0] // 16) == s]
+        strategies, patterns = of("strategy"), of("pattern")
+        kind = rng.choice((TEST, NOT, SEQ, SEQ, SEQ, CHOICE, LEFT, LEFT, REC, PATH, CONG, CONG, ALL, ONE, SOME, MATCH, MATCH, MATCH, BUILD, BUILD,
+                           SCOPE, WHERE, PVAR, PCON, PCON, PCON, FAIL))
+        if e == 0 and kind in (PVAR, PCON, FAIL):
+            kind = SEQ
+        low, high = counts(kind)
+        count = rng.randint(low, min(high, 3))
+        pick = patterns if kind in (MATCH, BUILD, PCON) else strategies
+        argument = {PATH: rng.randint(1, 3), CONG: rng.randint(1, 3), SCOPE: rng.choice((1, 2, 3, 5, MOST)), PVAR: rng.randrange(3),
+                    PCON: rng.randint(1, 3)}.get(kind, 0)
+        rows.insert(0,
+            entry(kind, argument, *[pick[0] if rng.random() < 0.6 else rng.choice(pick) for _ in range(count)]))
+    recs = [e for e, row in enumerate(rows) if row[0] // 16 == REC]
+    for e, row in enumerate(rows):
+        if recs and row[0] // 16 in (FAIL, ID) and rng.random() < 0.5:
+            rows[e] = entry(CALL, 0, rng.choice(recs))
+    return rows
+
+
+def random_jobs():
+    rng = random.Random(20261115)
+    wanted = {0: 70, 1: 40, 6: 25, 7: 25, 8: 10}
+    tried = 0
+    while any(wanted.values()) and tried < 30000:
+        tried += 1
+        table, store = table_of(rng, rng.randint(4, 12)), []
+        for _ in range(rng.randint(2, 6)):
+            term(rng, store, (1, 2, 3))
+        mark = len(store)
+        units = rng.choice((5, 8, 12, 20, 40, 400, 400, 400, 5000))
+        slen = 8 * (mark + rng.choice((0, 1, 2, 4, 8)))
+        bound = [(v, rng.randrange(mark)) for v in range(3) if rng.random() < 0.3]
+        b = [dict(bound).get(v, -1) + 1 for v in range(32)]
+        t = [w for row in table for w in row + [0] * (8 - len(row))]
+        s = [w for row in store for w in row + [0] * (8 - len(row))] + [MOST] * (slen - 8 * mark)
+        five, _, after = run(t, s, b, mark, 0, mark - 1, units)
+        if five[0] not in wanted or wanted[five[0]] == 0 or five[4] < (4 if five[0] != 0 else 6):
+            continue
+        if five[0] == 0 and five[3] == mark and after == b:
+            continue
+        wanted[five[0]] -= 1
+        case("random job %d" % tried, table, store, slen=slen, units=units, bound=bound)
+    assert not any(wanted.values()), wanted
+
+
+def write():
+    for part in (small_runs, refusals, needed, children, bindings, limits, deep, full, random_jobs):
+        part()
