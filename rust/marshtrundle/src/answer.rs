@@ -28,7 +28,8 @@ pub enum Answer {
 }
 
 impl Answer {
-    /// The answer for the first two numbers that the archive gives back. Its contracts leave no answer above 8.
+    /// The answer for the first two numbers that the archive gives back. Its contracts leave no other answer, so that another
+    /// number means an archive that does not go with this crate, and ends the thread.
     pub(crate) fn told(answer: u32, place: u32) -> Answer {
         match answer {
             0 => Answer::Done,
@@ -39,7 +40,8 @@ impl Answer {
             5 => Answer::BadStart,
             6 => Answer::OutOfUnits,
             7 => Answer::OutOfRoom,
-            _ => Answer::TooDeep,
+            8 => Answer::TooDeep,
+            other => panic!("the archive answers {other}, which this crate does not know"),
         }
     }
 
@@ -70,18 +72,27 @@ impl Answer {
     pub fn place(self) -> u32 {
         match self {
             Answer::BadEntry(place) | Answer::BadNode(place) => place,
-            _ => 0,
+            Answer::Done
+            | Answer::Failed
+            | Answer::RefusedSizes
+            | Answer::BadStart
+            | Answer::OutOfUnits
+            | Answer::OutOfRoom
+            | Answer::TooDeep => 0,
         }
     }
 
     /// True for answers 2 to 5: the input is malformed and nothing was run.
     pub fn is_refusal(self) -> bool {
-        (2..=5).contains(&self.number())
+        matches!(
+            self,
+            Answer::RefusedSizes | Answer::BadEntry(_) | Answer::BadNode(_) | Answer::BadStart
+        )
     }
 
     /// True for answers 6 to 8: a limit was met.
     pub fn is_cut_off(self) -> bool {
-        self.number() > 5
+        matches!(self, Answer::OutOfUnits | Answer::OutOfRoom | Answer::TooDeep)
     }
 }
 
@@ -161,3 +172,22 @@ impl fmt::Display for BuildError {
 }
 
 impl Error for BuildError {}
+
+#[cfg(test)]
+mod tests {
+    use super::Answer;
+
+    #[test]
+    fn every_answer_has_its_own_number() {
+        for number in 0..=8 {
+            assert_eq!(Answer::told(number, 0).number(), number);
+        }
+    }
+
+    #[test]
+    fn no_other_number_is_an_answer() {
+        for number in [9, 10, 11, 12, 13, 27, u32::MAX] {
+            assert!(std::panic::catch_unwind(|| Answer::told(number, 0)).is_err());
+        }
+    }
+}

@@ -1,0 +1,76 @@
+#!/usr/bin/env python3
+"""answers.py: compares the lists of answers that stand in this repository, and ends with 1 where two differ.
+
+An answer has a number of document 01. It is named in the C header, in the Rust crate over the archive (twice: read and written),
+in rust/twin, and in the definitions of crates/*/specs. LIST says under which name. What stands in one of these places and is not
+in LIST, or is in LIST and not there, is a difference.
+"""
+import pathlib
+import re
+import sys
+
+ROOT = pathlib.Path(__file__).resolve().parent.parent
+
+# number: the name in the header, in the crate, in rust/twin, and in the definitions
+LIST = {
+    0: ("MT_DONE", "Done", "DONE", "returned"),
+    1: ("MT_FAILED", "Failed", "FAILED", "asGiven"),
+    2: ("MT_BAD_SIZES", "RefusedSizes", "BAD_LENGTH", "checked"),
+    3: ("MT_BAD_ENTRY", "BadEntry", "BAD_ENTRY", "found"),
+    4: ("MT_BAD_NODE", "BadNode", "BAD_NODE", "found"),
+    5: ("MT_BAD_START", "BadStart", "BAD_START", "checked"),
+    6: ("MT_OUT_OF_UNITS", "OutOfUnits", "NO_UNITS", "number units"),
+    7: ("MT_OUT_OF_ROOM", "OutOfRoom", "NO_ROOM", "number room"),
+    8: ("MT_TOO_DEEP", "TooDeep", "NO_NESTING", "number nesting"),
+    9: (None, None, "BAD_TEXT", "answered"),  # of the job program alone
+}
+
+
+def part(path, start, end):
+    """The text of a file from one mark to another."""
+    text = (ROOT / path).read_text()
+    return text[text.index(start):text.index(end, text.index(start))]
+
+
+def pairs(text, pattern, number_first=False):
+    """The names and numbers that a pattern finds."""
+    found = re.findall(pattern, text)
+    return {(name, int(n)) for n, name in found} if number_first else {(name, int(n)) for name, n in found}
+
+
+def specs():
+    """The answers that the definitions give: by a name, or by the function that takes the number."""
+    answer = (ROOT / "crates/meaning/specs/Answer.antt").read_text()
+    found = pairs(answer, r"(?m)^(number \w+) = (\d+)$")
+    found |= {("returned", int(n)) for n in re.findall(r"\banswer = (\d+);", answer)}
+    found |= pairs(answer, r"\b(asGiven) i (\d+) ")
+    for path in ("crates/checks/specs/Checked.antt", "crates/marshtrundle/specs/Refused.antt"):
+        found |= pairs((ROOT / path).read_text(), r"\b(checked|found) (\d+) ")
+    found |= pairs((ROOT / "crates/whole_job/specs/Whole.antt").read_text(), r"\b(answered) (\d+) ")
+    return found - {("checked", 0)}  # nothing is refused
+
+
+def main(words):
+    if words:
+        print("usage: tools/answers.py\n" + __doc__.strip(), file=sys.stderr)
+        return 2
+    crate = "rust/marshtrundle/src/answer.rs"
+    places = (
+        ("include/marshtrundle.h", 0, pairs(part("include/marshtrundle.h", "enum mt_answer", "};"), r"(MT_\w+) = (\d+)")),
+        (crate + ", read", 1, pairs(part(crate, "fn told", "other =>"), r"(\d+) => Answer::(\w+)", True)),
+        (crate + ", written", 1, pairs(part(crate, "fn number", "fn place"), r"Answer::(\w+)(?:\(_\))? => (\d+)")),
+        ("rust/twin/src/checks.rs", 2, pairs(part("rust/twin/src/checks.rs", "pub const DONE", "pub mod kind"), r"pub const (\w+): u32 = (\d+);")),
+        ("crates/*/specs", 3, specs()),
+    )
+    differ = 0
+    for place, column, found in places:
+        wanted = {(names[column], n) for n, names in LIST.items() if names[column]}
+        for name, n in sorted(found ^ wanted, key=lambda p: p[1]):
+            differ = 1
+            print("%s: %s = %d %s" % (place, name, n, "is not in tools/answers.py" if (name, n) in found else "is missing"))
+    print("answers: %d numbers, %d places%s" % (len(LIST), len(places), ", they differ" if differ else " agree"))
+    return differ
+
+
+if __name__ == "__main__":
+    sys.exit(main(sys.argv[1:]))
