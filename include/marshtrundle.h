@@ -8,7 +8,10 @@
  *
  * SLICES. A slice is a pointer and a number of 32-bit words, not of bytes. The pointer is aligned to 4 bytes and valid for
  * that many words. A null pointer is an empty slice. What is written (store, bindings, numbers) overlaps nothing else that
- * is passed in the same call. The table is only read, and the checks only read. Nothing else is asked of the caller.
+ * is passed in the same call. The table is only read, and the checks only read.
+ *
+ * NUMBERS. `numbers` is where the answer goes. It is never null: it is aligned to 4 bytes and valid for writing as many words
+ * as the function's parameter says, 5, 3 or 2. Nothing else is asked of the caller.
  *
  * OWNERSHIP. All memory is the caller's. Nothing is allocated, no pointer is kept after the call, nothing is freed.
  *

@@ -81,18 +81,41 @@ def find(crate, stem, name):
     return found
 
 
-todo, seen = {at for name in sys.argv[1:] for key in files for at in find(*key, name) if at[:2] == key}, set()
-while todo:
-    crate, stem, k = at = todo.pop()
-    seen.add(at)
-    for word in words_of(files[crate, stem][2][k][1]):
-        todo |= find(crate, stem, word) - seen
-total = whole = 0
-for key in files:
-    mine = sorted(k for c, s, k in seen if (c, s) == key)
-    if mine:
-        n = sum(len(files[key][2][k][1]) for k in mine)
-        total, whole = total + n, whole + files[key][0].count("\n")
-        left = [sorted(ns)[0] for k, (ns, b) in enumerate(files[key][2]) if k not in mine]
-        print("%-8s %-11s %4d of %4d lines" % (*key, n, files[key][0].count("\n")), "not reached: " + " ".join(left) if left else "")
-print("%d lines of definitions; the files in all %d" % (total, whole))
+def reached(names_given):
+    """The definitions that the statements reach, or nothing where a name is no statement."""
+    todo, seen = set(), set()
+    for name in names_given:
+        found = {at for key in files for at in find(*key, name) if at[:2] == key}
+        if not found:
+            print("reach.py: no definition of crates/*/specs is named " + name, file=sys.stderr)
+            return None
+        todo |= found
+    while todo:
+        crate, stem, k = at = todo.pop()
+        seen.add(at)
+        for word in words_of(files[crate, stem][2][k][1]):
+            todo |= find(crate, stem, word) - seen
+    return seen
+
+
+def main(words):
+    if not words or words[0].startswith("-"):
+        print("usage: tools/reach.py NAME..\n" + __doc__.strip(), file=sys.stderr)
+        return 2
+    seen = reached(words)
+    if seen is None:
+        return 2
+    total = whole = 0
+    for key in files:
+        mine = sorted(k for c, s, k in seen if (c, s) == key)
+        if mine:
+            n = sum(len(files[key][2][k][1]) for k in mine)
+            total, whole = total + n, whole + files[key][0].count("\n")
+            left = [sorted(ns)[0] for k, (ns, b) in enumerate(files[key][2]) if k not in mine]
+            print("%-8s %-11s %4d of %4d lines" % (*key, n, files[key][0].count("\n")), "not reached: " + " ".join(left) if left else "")
+    print("%d lines of definitions; the files in all %d" % (total, whole))
+    return 0
+
+
+if __name__ == "__main__":
+    sys.exit(main(sys.argv[1:]))

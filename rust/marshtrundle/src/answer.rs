@@ -92,7 +92,10 @@ impl Answer {
 
     /// True for answers 6 to 8: a limit was met.
     pub fn is_cut_off(self) -> bool {
-        matches!(self, Answer::OutOfUnits | Answer::OutOfRoom | Answer::TooDeep)
+        matches!(
+            self,
+            Answer::OutOfUnits | Answer::OutOfRoom | Answer::TooDeep
+        )
     }
 }
 

@@ -3,7 +3,8 @@
 //! goes through the proved engine, the plain one and the optimised one, and the
 //! five numbers, every word of the store and every word of the bindings are
 //! compared; so are the two checks of its words. The questions go through the
-//! proved function and the plain one. It ends with 1 where two of them differ.
+//! proved function and the plain one. It ends with 1 where two of them differ,
+//! and with 2 where the words leave nothing to compare.
 
 #![forbid(unsafe_code)]
 
@@ -62,19 +63,16 @@ fn compare(first: u64, last: u64, count: u64) -> u64 {
 }
 
 fn main() -> ExitCode {
-    let words: Vec<u64> = std::env::args()
-        .skip(1)
-        .filter_map(|word| word.parse().ok())
-        .collect();
-    let (first, last, count) = match words[..] {
-        [first, last, count] => (first, last, count),
+    let words: Result<Vec<u64>, _> = std::env::args().skip(1).map(|word| word.parse()).collect();
+    let (first, last, count) = match words.as_deref() {
+        Ok(&[first, last, count]) if first <= last && count > 0 => (first, last, count),
         _ => {
-            eprintln!("usage: differ FIRST LAST COUNT");
+            eprintln!("usage: differ FIRST LAST COUNT, with FIRST at most LAST and COUNT above 0");
             return ExitCode::from(2);
         }
     };
     let differ = twin::with_big_stack(move || compare(first, last, count));
-    let each = (last + 1).saturating_sub(first) * count;
+    let each = (last - first + 1) * count;
     println!(
         "{} runs and {} questions compared, {} differ",
         each, each, differ
