@@ -14,7 +14,7 @@ use Rattle.checks.specs.Good.{kindOf, operandCount, argumentOf, goodNode}
 use Rattle.meaning.specs.Bindings.{Bindings}
 use Rattle.meaning.specs.Table.{table, operands}
 use Rattle.meaning.specs.Plan.{ret}
-use Rattle.meaning.specs.Rules.{Visit, match, Do, does, strategy, walk, zip}
+use Rattle.meaning.specs.Rules.{Visit, compare, match, Do, does, strategy, walk, zip}
 use Rattle.meaning.specs.Limits.{Limit, units, room, nesting, ended, lost, cut, run, runPlan, roomFor}
 use Rattle.meaning.specs.Store.{children}
 use Rattle.leaves.specs.Noted.{on, stored, Ran, leftWords}
@@ -66,6 +66,10 @@ giving (Cut c) k b w m = cut (limitOf c) (leftWords w) (unitsIn c)
 
 unfoldable pub kept : ℕ → ℕ → Bindings ℕ → List ℕ → ℕ → Ran
 kept r k b w m = giving (toldOf r) k b w m
+
+-- r answers the comparison of nodes a and b: by every table, whatever the bindings and the mark, which it leaves
+abbrev pub Compares : (w : List ℕ) (a b u d r : ℕ) → Type 0
+Compares w a b u d r = (t : List ℕ) (β : Bindings ℕ) (m : ℕ) → kept r b β w m ≡ visit t d (compare a b β) w m u
 
 -- entry p is a pattern
 abbrev pub Pattern : List ℕ → ℕ → Type 0

@@ -1,5 +1,6 @@
-// Term comparison: first the pair, then child pairs left to right, ending at the first difference. Node numbers fall,
-// since children lie below their parent; nesting and units are counted as for every visit. The last child pair goes round the
+// Term comparison: first the pair, then child pairs left to right, ending at the first difference. It calls itself on the child
+// pairs. In a good store their node numbers are lower, since children lie below their parent; that it ends in every store is by
+// the nesting, which falls at each call. Nesting and units are counted as for every visit. The last child pair goes round the
 // loop, one deeper as the others, and takes no new frame of the machine's stack.
 use crate::answers::Answer;
 use crate::answers::done;
@@ -9,74 +10,47 @@ use crate::answers::no_units;
 use crate::answers::told;
 use crate::reading::count;
 use words::word;
-ghost use mathlib.Core.Path.{_≡_};
-ghost use mathlib.Core.List.{List};
-ghost use Prim.Native.Nat.{ℕ};
-ghost use Rattle.meaning.specs.Bindings.{Bindings as Bound};
-ghost use Rattle.meaning.specs.Rules.{compare};
-ghost use Rattle.leaves.specs.Visits.{visit, kept};
+ghost use Rattle.leaves.specs.Visits.{Compares};
 
-pub fn same(store: &[u32], a: u32, b: u32, left: u32, deep: u32) -> u64
-    ensures { λ r. ⌜ ((t : List ℕ) (β : Bound ℕ) (m : ℕ) → kept r b β (now (store .entry)) m ≡ visit t deep (compare a b β) (now (store .entry)) m left) ⌝ }
+// Whether nodes a and b are the same term. The answer's node means nothing; its units count.
+pub fn same(store: &[u32], a: u32, b: u32, units: u32, deep: u32) -> u64
+    ensures { λ r. ⌜ Compares (now (store .entry)) a b units deep r ⌝ }
 {
     let mut x = a;
     let mut y = b;
-    let mut u = left;
+    let mut left = units;
     let mut d = deep;
     loop {
-        if u == 0 {
+        if left == 0 {
             return no_units();
         }
         if d == 0 {
-            return no_nesting(u);
+            return no_nesting(left);
         }
-        u -= 1;
+        left -= 1;
         d -= 1;
         let n = count(store, x);
         if word(store, x, 0) != word(store, y, 0) {
-            return failure(u);
+            return failure(left);
         }
         if n != count(store, y) {
-            return failure(u);
+            return failure(left);
         }
         if n == 0 {
-            return done(0, u);
+            return done(0, left);
         }
         let mut i: u32 = 0;
         while i + 1 < n {
+            // The call gets a copy of the slice, so that the slice itself stays in registers.
             let words = store;
-            let got = pair(words, word(store, x, 2 + i), word(store, y, 2 + i), u, d);
-            let Answer::Done(_, more) = told(got) else {
+            let got = same(words, word(store, x, 2 + i), word(store, y, 2 + i), left, d);
+            let Answer::Done(_, rest) = told(got) else {
                 return got;
             };
-            u = more;
+            left = rest;
             i += 1;
         }
         x = word(store, x, 2 + i);
         y = word(store, y, 2 + i);
     }
-}
-
-// The same for a pair inside another. One without children is answered at once, and takes no frame of the loop.
-fn pair(store: &[u32], a: u32, b: u32, left: u32, deep: u32) -> u64
-    ensures { λ r. ⌜ ((t : List ℕ) (β : Bound ℕ) (m : ℕ) → kept r b β (now (store .entry)) m ≡ visit t deep (compare a b β) (now (store .entry)) m left) ⌝ }
-{
-    if left == 0 {
-        return no_units();
-    }
-    if deep == 0 {
-        return no_nesting(left);
-    }
-    let n = count(store, a);
-    if word(store, a, 0) != word(store, b, 0) {
-        return failure(left - 1);
-    }
-    if n != count(store, b) {
-        return failure(left - 1);
-    }
-    if n == 0 {
-        return done(0, left - 1);
-    }
-    let words = store;
-    same(words, a, b, left, deep)
 }

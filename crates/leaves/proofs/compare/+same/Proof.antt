@@ -1,6 +1,6 @@
--- `compare::same` and `compare::pair` meet their contract. The outer loop's invariant: a word that answers the pair at hand answers the whole. The
+-- `compare::same` meets its contract. The outer loop's invariant: a word that answers the pair at hand answers the whole. The
 -- inner one's: from pair i on all goes on to what answers it. By every table, with any bindings and mark. The measure of a
--- call, and of the outer loop, is the nesting; `pair` hands its own to `same`.
+-- call, and of the outer loop, is the nesting.
 use mathlib.Core.Path.{_≡_, sym, _∙_}
 use mathlib.Core.List.{List}
 use native.Mathlib.Omega.{arith}
@@ -15,12 +15,9 @@ use Rattle.leaves.proofs.Comparing.{Goes-on, Carried, other-constructor
 use Prim.Native.Nat.{ℕ, _+_, _-_, _*_, _<_, _≤_}
 use borrow.Fn.Kinds.{In}
 use borrow.Fn.PlainCycle.{Measures, is, falls, and}
-use Rattle.leaves.proofs.compare.pair.Reads as pair
-use Rattle.leaves.proofs.compare.pair.Kinds as pair-kinds
-use Rattle.leaves.proofs.compare.+pair+same.Lts-pair as pair-lts
 use Rattle.leaves.proofs.compare.same.Reads as same
 use Rattle.leaves.proofs.compare.same.Kinds as same-kinds
-use Rattle.leaves.proofs.compare.+pair+same.Lts-same as same-lts
+use Rattle.leaves.proofs.compare.+same.Lts-same as same-lts
 use Rattle.leaves.proofs.answers.done.Reads as done-reads
 use Rattle.leaves.proofs.answers.failure.Reads as failure-reads
 use Rattle.leaves.proofs.answers.no_nesting.Reads as no-nesting-reads
@@ -28,20 +25,11 @@ use Rattle.leaves.proofs.answers.no_units.Reads as no-units-reads
 use Rattle.leaves.proofs.answers.told.Reads as told-reads
 use Rattle.leaves.proofs.reading.count.Reads as count-reads
 use Rattle.words.proofs.word.Reads as word-reads
-use Rattle.leaves.proofs.compare.+pair+same.{statement}
-use Rattle.leaves.proofs.compare.+pair+same.Tie.{close}
-
-abbrev μ-pair : Measures 1 pair-kinds.ps ℕ
-μ-pair κs a = 2 * a .1 .1 .1 .1 .0 + 1
+use Rattle.leaves.proofs.compare.+same.{statement}
+use Rattle.leaves.proofs.compare.+same.Tie.{close}
 
 abbrev μ-same : Measures 1 same-kinds.ps ℕ
-μ-same κs a = 2 * a .1 .1 .1 .1 .0
-
-abbrev pair-at : ℕ → In 1 pair-kinds.ps
-pair-at t = and 1 pair-kinds.ps (is 1 pair-kinds.ps μ-pair t) pair.Pre
-
-abbrev pair-below : ℕ → In 1 pair-kinds.ps
-pair-below t = and 1 pair-kinds.ps (falls 1 pair-kinds.ps _<_ μ-pair t) pair.Pre
+μ-same κs a = a .1 .1 .1 .1 .0
 
 abbrev same-at : ℕ → In 1 same-kinds.ps
 same-at t = and 1 same-kinds.ps (is 1 same-kinds.ps μ-same t) same.Pre
@@ -50,64 +38,7 @@ abbrev same-below : ℕ → In 1 same-kinds.ps
 same-below t = and 1 same-kinds.ps (falls 1 same-kinds.ps _<_ μ-same t) same.Pre
 
 abbrev same-calls : ℕ → same-lts.Claims
-same-calls t = (no-units-reads.Asked, no-units-reads.Learnt, no-nesting-reads.Asked, no-nesting-reads.Learnt, count-reads.Asked, count-reads.Learnt, word-reads.Asked, word-reads.Learnt, failure-reads.Asked, failure-reads.Learnt, done-reads.Asked, done-reads.Learnt, pair-below t, pair.Post, told-reads.Asked, told-reads.Learnt)
-
-abbrev pair-calls : ℕ → pair-lts.Claims
-pair-calls t = (no-units-reads.Asked, no-units-reads.Learnt, no-nesting-reads.Asked, no-nesting-reads.Learnt, count-reads.Asked, count-reads.Learnt, word-reads.Asked, word-reads.Learnt, failure-reads.Asked, failure-reads.Learnt, done-reads.Asked, done-reads.Learnt, same-below t, same.Post)
-
-pair-returns : (t : ℕ) → pair-lts.Need-returns (pair-calls t) (pair-at t) pair.Post
-pair-returns t c = λ t β m. units-kept t _ _ _ m _ _ _ β (c .no-units .ensures) (c .before .if1 .taken)
-
-pair-returns-2 : (t : ℕ) → pair-lts.Need-returns-2 (pair-calls t) (pair-at t) pair.Post
-pair-returns-2 t c = λ t β m. nesting-kept t _ _ _ m _ _ _ β (c .no-nesting .ensures) (c .before .before .before .before .fits .left .fits) (c .before .before .if1 .left) (c .before .if2 .taken)
-
-pair-returns-3 : (t : ℕ) → pair-lts.Need-returns-3 (pair-calls t) (pair-at t) pair.Post
-pair-returns-3 t c =
-    let at-if3 = c .before in
-    let at-word2 = at-if3 .before in
-    let at-word = at-word2 .before in
-    let at-if2 = at-word .before .before in
-    let at-if1 = at-if2 .before in
-    let start = at-if1 .before .before in
-    let e : _ ≡ _ → ⊥ = λ h. at-if3 .if3 .taken (at-word .word .ensures ∙ h ∙ sym (at-word2 .word2 .ensures)) in
-    λ t β m. other-constructor _ _ _ t _ m _ β (at-if1 .if1 .left) (at-if2 .if2 .left) _ (c .failure .ensures) (start .fits .left .fits) e
-
-pair-returns-4 : (t : ℕ) → pair-lts.Need-returns-4 (pair-calls t) (pair-at t) pair.Post
-pair-returns-4 t c =
-    let at-if4 = c .before in
-    let at-count2 = at-if4 .before in
-    let at-if3 = at-count2 .before in
-    let at-word2 = at-if3 .before in
-    let at-word = at-word2 .before in
-    let at-count = at-word .before in
-    let at-if2 = at-count .before in
-    let at-if1 = at-if2 .before in
-    let start = at-if1 .before .before in
-    let a = sym (at-word .word .ensures) ∙ at-if3 .if3 .left ∙ at-word2 .word2 .ensures in
-    λ t β m. other-count _ _ _ t _ m _ β (at-if1 .if1 .left) (at-if2 .if2 .left) _ (c .failure2 .ensures) (start .fits .left .fits) a (λ h. at-if4 .if4 .taken (at-count .count .ensures ∙ h ∙ sym (at-count2 .count2 .ensures)))
-
-pair-returns-5 : (t : ℕ) → pair-lts.Need-returns-5 (pair-calls t) (pair-at t) pair.Post
-pair-returns-5 t c =
-    let at-if5 = c .before in
-    let at-if4 = at-if5 .before in
-    let at-count2 = at-if4 .before in
-    let at-if3 = at-count2 .before in
-    let at-word2 = at-if3 .before in
-    let at-word = at-word2 .before in
-    let at-count = at-word .before in
-    let at-if2 = at-count .before in
-    let at-if1 = at-if2 .before in
-    let start = at-if1 .before .before in
-    let a = sym (at-word .word .ensures) ∙ at-if3 .if3 .left ∙ at-word2 .word2 .ensures in
-    let n = sym (at-count .count .ensures) ∙ at-if4 .if4 .left ∙ at-count2 .count2 .ensures in
-    let z = sym (at-count .count .ensures) ∙ at-if5 .if5 .taken in
-    λ t β m. compared _ _ _ t _ 0 β m _ (agreed _ _ _ t _ m _ β (at-if1 .if1 .left) (at-if2 .if2 .left) a n) _ (c .done .ensures) (omega (arith, start .fits .left .fits)) (omega (arith, z))
-
-pair-same-requires : (t : ℕ) → pair-lts.Need-same-requires (pair-calls t) (pair-at t) pair.Post
-pair-same-requires t c κs = (omega arith, tt)
-
-pair-returns-6 : (t : ℕ) → pair-lts.Need-returns-6 (pair-calls t) (pair-at t) pair.Post
-pair-returns-6 t c = c .same .ensures
+same-calls t = (no-units-reads.Asked, no-units-reads.Learnt, no-nesting-reads.Asked, no-nesting-reads.Learnt, count-reads.Asked, count-reads.Learnt, word-reads.Asked, word-reads.Learnt, failure-reads.Asked, failure-reads.Learnt, done-reads.Asked, done-reads.Learnt, same-below t, same.Post, told-reads.Asked, told-reads.Learnt)
 
 abbrev same-Inv-loop2 : same-lts.InvT-loop2
 same-Inv-loop2 store a b left deep x y u₀ d n i₀ u i =
@@ -192,31 +123,31 @@ same-loop2-holds t c =
     let l = at-loop .loop .inv in
     (omega (arith, c .if5 .left), at-count .count .ensures, n, omega (arith, l .0), omega (arith, l .1, at-if2 .if2 .left), λ t β m. (_, agreed _ _ _ t _ m _ β (at-if1 .if1 .left) (at-if2 .if2 .left) a (sym (at-count .count .ensures) ∙ n), l .2 t β m))
 
-same-pair-requires : (t : ℕ) → same-lts.Need-pair-requires (same-calls t) (same-at t) same.Post same-Inv-loop2 same-μ-loop2 same-Inv-loop same-μ-loop
-same-pair-requires t c κs = (omega (arith, c .before .before .before .loop2 .inv .4), tt)
+same-same-requires : (t : ℕ) → same-lts.Need-same-requires (same-calls t) (same-at t) same.Post same-Inv-loop2 same-μ-loop2 same-Inv-loop same-μ-loop
+same-same-requires t c κs = (omega (arith, c .before .before .before .loop2 .inv .4), tt)
 
 same-returns-6 : (t : ℕ) → same-lts.Need-returns-6 (same-calls t) (same-at t) same.Post same-Inv-loop2 same-μ-loop2 same-Inv-loop same-μ-loop
 same-returns-6 t c = λ t β m.
     let g = c .before .before .before .before .before .before .loop2 .inv .5 t β m in
-    g .2 _ (pair-stops _ _ _ t _ _ β m _ (g .1) (omega arith) (omega arith) _ _ _ (c .before .before .before .before .word3 .ensures) (c .before .before .before .word4 .ensures) (c .before .before .pair .ensures t β m) _ (c .before .told .ensures) (c .match .keys2))
+    g .2 _ (pair-stops _ _ _ t _ _ β m _ (g .1) (omega arith) (omega arith) _ _ _ (c .before .before .before .before .word3 .ensures) (c .before .before .before .word4 .ensures) (c .before .before .same .ensures t β m) _ (c .before .told .ensures) (c .match .keys2))
 
 same-loop2-again : (t : ℕ) → same-lts.Need-loop2-again (same-calls t) (same-at t) same.Post same-Inv-loop2 same-μ-loop2 same-Inv-loop same-μ-loop
 same-loop2-again t c =
-    let at-more = c .before in
-    let at-told = at-more .before .before in
-    let at-pair = at-told .before in
-    let at-word4 = at-pair .before in
+    let at-rest = c .before in
+    let at-told = at-rest .before .before in
+    let at-same = at-told .before in
+    let at-word4 = at-same .before in
     let at-word3 = at-word4 .before in
     let at-loop2 = at-word3 .before .before in
     let l = at-loop2 .loop2 .inv in (
       search needs,
       l .1,
       l .2,
-      omega (arith, done-node _ _ _ (sym (at-told .told .ensures) ∙ at-more .more .given .1)),
+      omega (arith, done-node _ _ _ (sym (at-told .told .ensures) ∙ at-rest .rest .given .1)),
       l .4,
       λ t β m.
           let g = l .5 t β m in
-          (_, pair-done _ _ _ t _ _ β m _ (g .1) (omega arith) (omega arith) _ _ _ (at-word3 .word3 .ensures) (at-word4 .word4 .ensures) (at-pair .pair .ensures t β m) _ (at-told .told .ensures) _ _ (at-more .more .given .1), g .2),
+          (_, pair-done _ _ _ t _ _ β m _ (g .1) (omega arith) (omega arith) _ _ _ (at-word3 .word3 .ensures) (at-word4 .word4 .ensures) (at-same .same .ensures t β m) _ (at-told .told .ensures) _ _ (at-rest .rest .given .1), g .2),
     )
 
 same-loop-less : (t : ℕ) → same-lts.Need-loop-less (same-calls t) (same-at t) same.Post same-Inv-loop2 same-μ-loop2 same-Inv-loop same-μ-loop
@@ -232,15 +163,8 @@ same-loop-again t c =
           g .2 r (last-pair _ _ _ t _ _ β m _ (g .1) (omega arith) (omega arith) _ _ (c .before .word5 .ensures) (c .word6 .ensures) r e),
     )
 
-pub +pair+same-spec : {M : Type 1} → statement M
-+pair+same-spec = close μ-pair μ-same
-    (λ t. pair-lts.spec (pair-calls t)
-    (pair-at t)
-    pair.Post
-    (λ c κs. search needs) (pair-returns t) (λ c κs. search needs) (pair-returns-2 t) (λ c κs. search needs)
-    (λ c κs. search needs) (λ c κs. search needs) (λ c. search needs) (λ c κs. search needs) (pair-returns-3 t)
-    (λ c κs. search needs) (λ c. search needs) (λ c κs. search needs) (pair-returns-4 t) (λ c. search needs)
-    (λ c κs. search needs) (pair-returns-5 t) (pair-same-requires t) (pair-returns-6 t))
+pub +same-spec : {M : Type 1} → statement M
++same-spec = close μ-same
     λ t. same-lts.spec (same-calls t)
     (same-at t)
     same.Post
@@ -249,6 +173,6 @@ pub +pair+same-spec : {M : Type 1} → statement M
     (λ c κs. search needs) (λ c κs. search needs) (λ c κs. search needs) (same-returns-3 t) (λ c κs. search needs)
     (λ c κs. search needs) (same-returns-4 t) (λ c κs. search needs) (same-returns-5 t) (same-loop2-holds t)
     (λ c. search needs) (λ c. search needs) (λ c κs. search needs) (λ c. search needs) (λ c κs. search needs)
-    (same-pair-requires t) (λ c κs. search needs) (λ c. search needs) (same-returns-6 t) (λ c. search needs)
+    (same-same-requires t) (λ c κs. search needs) (λ c. search needs) (same-returns-6 t) (λ c. search needs)
     (λ c. search needs) (same-loop2-again t) (λ c. search needs) (λ c κs. search needs) (λ c. search needs)
     (λ c κs. search needs) (same-loop-less t) (same-loop-again t)
