@@ -107,8 +107,30 @@ static void refused(uint32_t answer, uint32_t place, uint32_t subject, uint32_t 
 
 static void refusals(void)
 {
-    static const uint32_t bad[16] = {0, 0, 0, 0, 0, 0, 0, 0, MT_ENTRY(20, 0), 0, 0, 0, 0, 0, 0, 0};
+    static const struct {
+        uint32_t answer, entry[8];
+        const char *text;
+    } bad[] = {
+        {MT_BAD_KIND, {MT_ENTRY(20, 0), 9, 9, 9, 9, 9, 9, 9}, "a kind above 19"},
+        {MT_BAD_KIND, {MT_ENTRY(MT_ID, 1), 9, 9, 9, 9, 9, 9, 9}, "ID with an operand"},
+        {MT_BAD_ARGUMENT, {MT_ENTRY(MT_PATH, 1), 7, 9, 9, 9, 9, 9, 9}, "PATH 7"},
+        {MT_BAD_OPERAND, {MT_ENTRY(MT_SEQ, 2), 0, 2, 4, 9, 9, 9, 9}, "an operand outside behind a pattern"},
+        {MT_BAD_OPERAND, {MT_ENTRY(MT_CALL, 1), 0, 4, 9, 9, 9, 9, 9}, "a CALL outside the table"},
+        {MT_BAD_SORT, {MT_ENTRY(MT_SEQ, 2), 0, 2, 3, 9, 9, 9, 9}, "a pattern as a strategy"},
+        {MT_BAD_SORT, {MT_ENTRY(MT_CALL, 1), 0, 0, 9, 9, 9, 9, 9}, "a CALL of no REC"},
+        {MT_BAD_WORD, {MT_ENTRY(MT_ALL, 1), 0, 3, 0, 0, 0, 0, 9}, "an unused word"},
+    };
+    size_t k;
     fresh();
+    for (k = 0; k < sizeof bad / sizeof bad[0]; k++) {
+        uint32_t words[32] = {0};
+        size_t j;
+        for (j = 0; j < 8; j++)
+            words[8 + j] = bad[k].entry[j];
+        words[16] = MT_ENTRY(MT_PVAR, 0);
+        mt_run(words, 32, store, 32, bindings, 32, 3, 0, 2, 10, numbers);
+        refused(bad[k].answer, 1, 2, 3, bad[k].text);
+    }
     mt_run(table, 63, store, 32, bindings, 32, 3, 0, 2, 10, numbers);
     refused(MT_BAD_SIZES, 0, 2, 3, "a table of 63 words");
     mt_run(table, 64, store, 31, bindings, 32, 3, 0, 2, 10, numbers);
@@ -117,8 +139,6 @@ static void refusals(void)
     refused(MT_BAD_SIZES, 0, 2, 3, "bindings of 31 words");
     mt_run(table, 64, store, 32, bindings, 32, 5, 0, 2, 10, numbers);
     refused(MT_BAD_SIZES, 0, 2, 5, "a mark above the store's nodes");
-    mt_run(bad, 16, store, 32, bindings, 32, 3, 0, 2, 10, numbers);
-    refused(MT_BAD_ENTRY, 1, 2, 3, "a kind above 19");
     mt_run(table, 64, store, 32, bindings, 32, 4, 0, 2, 10, numbers);
     refused(MT_BAD_NODE, 3, 2, 4, "a bad node");
     mt_run(table, 64, store, 32, bindings, 32, 3, 8, 2, 10, numbers);

@@ -108,8 +108,8 @@ enum mt_kind {
 };
 
 /*
- * The answers. They are asked in the order 2, 3, 4, 5, then comes the run.
- * In answers 2 to 5 nothing is written but the numbers.
+ * The answers. They are asked in the order 2, 13 to 17, 4, 5, then comes the run.
+ * In answers 2, 4, 5 and 13 to 17 nothing is written but the numbers.
  * In answers 0, 1, 6, 7 and 8 the nodes below the given mark are unchanged, and every store word from the returned mark to
  * the end is zero. In answers 1, 6, 7 and 8 the bindings are as given.
  */
@@ -118,23 +118,29 @@ enum mt_answer {
     MT_FAILED = 1,       /* the strategy failed */
     MT_BAD_SIZES = 2,    /* the table is empty, over 32,768 words or no multiple of 8; the store is over 1,048,576 words or
                             no multiple of 8; the bindings are not 32 words; the mark exceeds the store's nodes */
-    MT_BAD_ENTRY = 3,    /* an entry is malformed; the place is the lowest such entry */
     MT_BAD_NODE = 4,     /* a node below the mark is malformed; the place is the lowest such node */
     MT_BAD_START = 5,    /* the start is outside the table or a pattern; the subject is not below the mark; a binding
                             word exceeds the mark */
     MT_OUT_OF_UNITS = 6, /* all units were used */
     MT_OUT_OF_ROOM = 7,  /* a node was to be made and the mark equals the store's nodes */
-    MT_TOO_DEEP = 8      /* a visit would have been nested deeper than 4,096 */
-    /* 9 is an answer of the job program alone: its text is malformed. No function here gives it. */
+    MT_TOO_DEEP = 8,     /* a visit would have been nested deeper than 4,096 */
+    /* 13 to 17: an entry is malformed, and the place is the lowest such entry. Of its faults the first in this order is given;
+       each is looked for in the whole entry before the next. */
+    MT_BAD_KIND = 13,     /* word 0: the kind is above 19, or the operands are too few or too many for the kind */
+    MT_BAD_ARGUMENT = 14, /* word 1: the argument is out of its range, or not zero where none is named */
+    MT_BAD_OPERAND = 15,  /* an operand is outside the table, or not above its own entry; CALL's is outside the table */
+    MT_BAD_SORT = 16,     /* an operand is no strategy, or no pattern, where one is needed; CALL's is no REC */
+    MT_BAD_WORD = 17      /* a word behind the operands is not zero */
+    /* 3 is no longer given: 13 to 17 stand in its place. 9 is an answer of the job program alone: its text is malformed. */
 };
 
 /* Where each number stands in `numbers`. */
 enum mt_number {
     MT_ANSWER = 0,  /* one of enum mt_answer */
-    MT_PLACE = 1,   /* the bad entry or node in answers 3 and 4, and 0 otherwise */
+    MT_PLACE = 1,   /* the bad entry in answers 13 to 17, the bad node in answer 4, and 0 otherwise */
     MT_SUBJECT = 2, /* mt_run: the new subject in answer 0, and the given one otherwise */
     MT_MARK = 3,    /* mt_run: the new mark in answer 0, and the given one otherwise */
-    MT_UNITS = 4,   /* mt_run: the visits counted; 0 in answers 2 to 5 */
+    MT_UNITS = 4,   /* mt_run: the visits counted; 0 where nothing was run */
     MT_MASK = 2     /* mt_free_variables: the mask in answer 0, and 0 otherwise */
 };
 
@@ -163,7 +169,7 @@ static inline void mt_run(const uint32_t *table, size_t table_words, uint32_t *s
 
 /*
  * Asks which variables the strategy at `entry` leaves free. `numbers` gets answer, place and mask. The answers are 0, 2
- * (the table's length), 3 and 5 (`entry` is outside the table or a pattern).
+ * (the table's length), 13 to 17 and 5 (`entry` is outside the table or a pattern).
  */
 static inline void mt_free_variables(const uint32_t *table, size_t table_words, uint32_t entry,
                                      uint32_t numbers[3])
@@ -172,7 +178,7 @@ static inline void mt_free_variables(const uint32_t *table, size_t table_words, 
     marshtrundle_free_variables(table ? table : &none, table ? table_words : 0, entry, numbers);
 }
 
-/* Checks a table as mt_run does. `numbers` gets answer (0, 2 or 3) and place. */
+/* Checks a table as mt_run does. `numbers` gets answer (0, 2 or 13 to 17) and place. */
 static inline void mt_check_table(const uint32_t *table, size_t words, uint32_t numbers[2])
 {
     const uint32_t none = 0;

@@ -1,7 +1,7 @@
 #!/usr/bin/env python3
 """answers.py: compares the lists of answers that stand in this repository, and ends with 1 where two differ.
 
-An answer has a number of document 01. It is named in the C header, in the Rust crate over the archive (twice: read and written),
+An answer has a number of document 01 or 02. It is named in the C header, in the Rust crate over the archive (twice: read and written),
 in rust/twin, and in the definitions of crates/*/specs. LIST says under which name. What stands in one of these places and is not
 in LIST, or is in LIST and not there, is a difference.
 """
@@ -16,13 +16,17 @@ LIST = {
     0: ("MT_DONE", "Done", "DONE", "returned"),
     1: ("MT_FAILED", "Failed", "FAILED", "asGiven"),
     2: ("MT_BAD_SIZES", "RefusedSizes", "BAD_LENGTH", "checked"),
-    3: ("MT_BAD_ENTRY", "BadEntry", "BAD_ENTRY", "found"),
     4: ("MT_BAD_NODE", "BadNode", "BAD_NODE", "found"),
     5: ("MT_BAD_START", "BadStart", "BAD_START", "checked"),
     6: ("MT_OUT_OF_UNITS", "OutOfUnits", "NO_UNITS", "number units"),
     7: ("MT_OUT_OF_ROOM", "OutOfRoom", "NO_ROOM", "number room"),
     8: ("MT_TOO_DEEP", "TooDeep", "NO_NESTING", "number nesting"),
     9: (None, None, "BAD_TEXT", "answered"),  # of the job program alone
+    13: ("MT_BAD_KIND", "Kind", "BAD_KIND", "of-count"),
+    14: ("MT_BAD_ARGUMENT", "Argument", "BAD_ARGUMENT", "of-argument"),
+    15: ("MT_BAD_OPERAND", "Operand", "BAD_OPERAND", "of-place"),
+    16: ("MT_BAD_SORT", "Sort", "BAD_SORT", "of-sort"),
+    17: ("MT_BAD_WORD", "Word", "BAD_WORD", "of-unused"),
 }
 
 
@@ -46,6 +50,7 @@ def specs():
     found |= pairs(answer, r"\b(asGiven) i (\d+) ")
     for path in ("crates/checks/specs/Checked.antt", "crates/marshtrundle/specs/Refused.antt"):
         found |= pairs((ROOT / path).read_text(), r"\b(checked|found) (\d+) ")
+    found |= pairs((ROOT / "crates/checks/specs/Plain.antt").read_text(), r"\b(of-\w+) : .*Faulty (\d+)")
     found |= pairs((ROOT / "crates/whole_job/specs/Whole.antt").read_text(), r"\b(answered) (\d+) ")
     return found - {("checked", 0)}  # nothing is refused
 
@@ -55,10 +60,11 @@ def main(words):
         print("usage: tools/answers.py\n" + __doc__.strip(), file=sys.stderr)
         return 2
     crate = "rust/marshtrundle/src/answer.rs"
+    faults = "rust/marshtrundle/src/fault.rs"
     places = (
         ("include/marshtrundle.h", 0, pairs(part("include/marshtrundle.h", "enum mt_answer", "};"), r"(MT_\w+) = (\d+)")),
-        (crate + ", read", 1, pairs(part(crate, "fn told", "other =>"), r"(\d+) => Answer::(\w+)", True)),
-        (crate + ", written", 1, pairs(part(crate, "fn number", "fn place"), r"Answer::(\w+)(?:\(_\))? => (\d+)")),
+        (crate + ", read", 1, pairs(part(crate, "fn told", "other =>"), r"(\d+) => Answer::(?:BadEntry\(place, Fault::)?(\w+)", True)),
+        (crate + ", written", 1, pairs(part(crate, "fn number", "fn place") + part(faults, "fn number", "impl"), r"(?:Answer|Fault)::(\w+)(?:\(_\))? => (\d+)")),
         ("rust/twin/src/checks.rs", 2, pairs(part("rust/twin/src/checks.rs", "pub const DONE", "pub mod kind"), r"pub const (\w+): u32 = (\d+);")),
         ("crates/*/specs", 3, specs()),
     )

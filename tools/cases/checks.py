@@ -135,6 +135,27 @@ def lowest():
     case("S", 1048576, 131072, [(8 * 131071 + 1, 7), (8 * 70000 + 2, 70000), (8 * 70001, MOST)], "bad nodes 131071, 70000 and 70001")
 
 
+def faults():
+    """Entries with several faults: the first in the order of 13 to 17 is given, each asked of the whole entry."""
+    rest = [9, 9, 9, 9]
+    for first, what in (([16 * 20, 9, 9, 9] + rest, "no kind, and all else"), ([16 * SEQ + 3, 9, 9, 9] + rest, "count, and all else"),
+                        ([16 * SEQ + 2, 9, 9, 9] + rest, "argument, operands and unused words"),
+                        ([16 * SEQ + 2, 0, 2, 9] + rest, "a wrong sort, then outside the table, unused words"),
+                        ([16 * SEQ + 2, 0, 9, 2] + rest, "outside the table, then a wrong sort, unused words"),
+                        ([16 * SEQ + 2, 0, 2, 0] + rest, "a wrong sort, then its own entry, unused words"),
+                        ([16 * SEQ + 2, 0, 1, 2] + rest, "the second of a wrong sort, unused words"),
+                        ([16 * CALL + 1, 0, 9, 9] + rest, "a CALL outside, unused words"),
+                        ([16 * CALL + 1, 0, 0, 9] + rest, "a CALL of itself, unused words"),
+                        ([16 * CALL + 1, 9, 3, 9] + rest, "a CALL with an argument, unused words"),
+                        ([16 * SEQ + 2, 0, 1, 1] + rest, "unused words alone"),
+                        ([16 * PCON + 6, 1, 2, 2, 1, 2, 2, 9], "PCON: third of a wrong sort, sixth outside"),
+                        ([16 * PCON + 6, 65536, 2, 2, 1, 2, 2, 9], "PCON: and its constructor"),
+                        ([16 * PCON + 7, 65536, 2, 2, 1, 2, 2, 9], "PCON: and its count")):
+        table(first, "faults: " + what)
+    for e, f in ((3, 7), (7, 3)):
+        case("t", 80, 0, [(8 * e, 320), (8 * f + 7, 1)], "no kind at %d, an unused word at %d" % (e, f))
+
+
 def nodes():
     low = [[0], [1], [2], [3], [4], [5]]
     for n in range(8):
@@ -159,5 +180,5 @@ def nodes():
 
 
 def write():
-    for part in (lengths, kinds, limits_of_arguments, places, sorts, unused, lowest, nodes):
+    for part in (lengths, kinds, limits_of_arguments, places, sorts, unused, faults, lowest, nodes):
         part()

@@ -81,18 +81,19 @@ def refusals():
         job(text_of(ok, THREE, room=room), [2, 0, 2, 3, 0])
     job(text_of(ok, [[7]] * 1024, room=1023), [2, 0, 1023, 1024, 0])
     job(text_of([entry(20)], [[65536]] * 2, room=1, start=9, subject=9), [2, 0, 9, 2, 0])
-    # 3 with the lowest bad entry
-    for place, table in (
-            (1, [YES, entry(20)]), (1, [YES, entry(255)]), (1, [entry(TEST, 0, 2), [16 * NOT, 0], YES]),
-            (1, [YES, entry(ID, 0, 2), YES]),
-            (1, [YES, entry(FAIL, 1)]), (0, [entry(PATH, 0, 1), YES]), (0, [entry(PATH, 7, 1), YES]), (1, [YES, entry(PVAR, 32)]),
-            (0, [entry(CONG, 65536)]), (1, [YES, entry(PCON, MOST)]), (1, [YES, entry(TEST, 0, 1)]), (1, [YES, entry(TEST, 0, 0)]),
-            (0, [entry(TEST, 0, 1)]), (0, [entry(TEST, 0, MOST)]), (0, [entry(TEST, 0, 1), X]), (0, [entry(MATCH, 0, 1), YES]),
-            (1, [YES, entry(PCON, 1, 2), YES]), (0, [entry(CALL, 0, 1), YES]), (0, [entry(CALL, 0, 1)]),
-            (0, [entry(TEST, 0, 1), entry(20)]),
-            (1, [YES, entry(FAIL, 1), entry(20)]), (511, [YES] * 511 + [entry(ID, 1)])):
-        job(text_of(table, THREE), [3, place, 2, 3, 0])
-    job(text_of([entry(20)], [[65536]], start=9, subject=9), [3, 0, 9, 1, 0])
+    # 13 to 16 with the lowest bad entry; a job has no unused word to set, so that 17 is not seen
+    for answer, place, table in (
+            (13, 1, [YES, entry(20)]), (13, 1, [YES, entry(255)]), (13, 1, [entry(TEST, 0, 2), [16 * NOT, 0], YES]),
+            (13, 1, [YES, entry(ID, 0, 2), YES]),
+            (14, 1, [YES, entry(FAIL, 1)]), (14, 0, [entry(PATH, 0, 1), YES]), (14, 0, [entry(PATH, 7, 1), YES]),
+            (14, 1, [YES, entry(PVAR, 32)]), (14, 0, [entry(CONG, 65536)]), (14, 1, [YES, entry(PCON, MOST)]),
+            (15, 1, [YES, entry(TEST, 0, 1)]), (15, 1, [YES, entry(TEST, 0, 0)]), (15, 0, [entry(TEST, 0, 1)]),
+            (15, 0, [entry(TEST, 0, MOST)]), (16, 0, [entry(TEST, 0, 1), X]), (16, 0, [entry(MATCH, 0, 1), YES]),
+            (16, 1, [YES, entry(PCON, 1, 2), YES]), (16, 0, [entry(CALL, 0, 1), YES]), (15, 0, [entry(CALL, 0, 1)]),
+            (16, 0, [entry(CALL, 0, 0)]), (16, 0, [entry(TEST, 0, 1), entry(20)]), (15, 0, [entry(SEQ, 0, 1, 9), X]),
+            (14, 1, [YES, entry(FAIL, 1), entry(20)]), (14, 511, [YES] * 511 + [entry(ID, 1)])):
+        job(text_of(table, THREE), [answer, place, 2, 3, 0])
+    job(text_of([entry(20)], [[65536]], start=9, subject=9), [13, 0, 9, 1, 0])
     # 4 with the lowest bad node below the mark
     for place, nodes in ((1, [[1], [65536]]), (1, [[1], [MOST]]), (1, [[1], [1, 1]]), (1, [[1], [1, 2], [1]]), (0, [[1, 0]]),
                          (2, [[1], [1, 0], [1, 0, MOST], [65536]]), (1023, [[1]] * 1023 + [[1, 0, 0, 0, 0, 0, 1023]])):

@@ -36,25 +36,22 @@ def entry(kind, argument=0, *operands, count=None):
 
 # The two checks.
 
-def good_entry(t, e):
+def fault(t, e):
+    """13 to 17, the first in this order that entry e has, each asked of the whole entry; 0 where it has none."""
     word = t[8 * e:8 * e + 8]
     kind, count = divmod(word[0], 16)
-    if kind > 19:
-        return False
-    least, most = counts(kind)
+    if kind > 19 or not counts(kind)[0] <= count <= counts(kind)[1]:
+        return 13
     low, high = arguments(kind)
-    if not least <= count <= most or not low <= word[1] <= high or any(word[2 + count:]):
-        return False
-    for o in word[2:2 + count]:
-        if o >= len(t) // 8:
-            return False
-        of = t[8 * o] // 16
-        if kind == CALL:
-            if of != REC:
-                return False
-        elif o <= e or sort(of) != takes(kind):
-            return False
-    return True
+    if not low <= word[1] <= high:
+        return 14
+    operands = word[2:2 + count]
+    if any(o >= len(t) // 8 or kind != CALL and o <= e for o in operands):
+        return 15
+    kinds = [t[8 * o] // 16 for o in operands]
+    if any(of != REC if kind == CALL else sort(of) != takes(kind) for of in kinds):
+        return 16
+    return 17 if any(word[2 + count:]) else 0
 
 
 def good_node(s, k):
@@ -71,8 +68,8 @@ def store_fits(s, mark):
 
 
 def bad_entry(t):
-    """3 with the lowest bad entry, or 0."""
-    return next(((3, e) for e in range(len(t) // 8) if not good_entry(t, e)), (0, 0))
+    """The fault of the lowest bad entry, and its place; or 0."""
+    return next(((fault(t, e), e) for e in range(len(t) // 8) if fault(t, e)), (0, 0))
 
 
 def bad_node(s, mark):

@@ -1,7 +1,7 @@
 -- A length that fits, a good entry and a good node are the plain facts of specs/Plain.antt, both ways.
 -- Assumes nothing.
-use mathlib.Core.Path.{_≡_, refl, ap, sym, _∙_}
-use mathlib.Core.Bool.{Bool, true, false, _&&_, _||_}
+use mathlib.Core.Path.{_≡_, refl, subst}
+use mathlib.Core.Bool.{Bool, true, false, true≢false, false≢true}
 use mathlib.Core.Logic.{_↔_, _≢_}
 use mathlib.Core.List.{List}
 use Prim.Native.Nat.{ℕ, _-_, _%_, _≤_, _<_}
@@ -13,9 +13,9 @@ use Rattle.words.specs.Tests.{if_then_else_, every}
 use Rattle.words.specs.Words.{rows}
 use Rattle.words.proofs.Tests.{and-true, every-true}
 use Rattle.checks.specs.Kinds.{lines, lineOf, kind, lowest, highest, sortOf, takes, same}
-use Rattle.checks.specs.Good.{kindOf, operandCount, argumentOf, operand, countFits, argumentFits, operandPlaced, operandSorted, goodEntry, constructorOf, childCount, child, goodNode}
+use Rattle.checks.specs.Good.{kindOf, operandCount, argumentOf, operand, countFits, argumentFits, operandPlaced, operandSorted, operandsFault, unusedZero, fault, goodEntry, constructorOf, childCount, child, goodNode}
 use Rattle.checks.specs.Checked.{tableLengthFits, storeLengthFits}
-use Rattle.checks.specs.Plain.{TableLength, StoreLength, Entry, Node}
+use Rattle.checks.specs.Plain.{TableLength, StoreLength, Counted, Argued, Placed, Sorted, Unused, Entry, Faulty, of-count, of-argument, of-place, of-sort, of-unused, Node}
 use Rattle.checks.proofs.Tables.{at-each, same-true, same-itself}
 
 -- No kind takes more than six operands, by one computed test.
@@ -38,125 +38,168 @@ unused-zero w n l = (
     zeros : ℕ → Bool
     zeros i = eqb (w i) 0
 
-module _ (t : List ℕ) (e : ℕ) where
-  -- What the test of the count says.
-  pub record Counted : Type 0 where
-    pub known : kindOf t e ≤ 19
-    pub least : kind (kindOf t e) .least ≤ operandCount t e
-    pub most : operandCount t e ≤ kind (kindOf t e) .most
+-- A test that stands for a fact fails where the fact does.
+pub not-fact : {A : Type 0} (b : Bool) → b ≡ true ↔ A → b ≡ false ↔ ¬ A
+not-fact true f = (λ e. absurd (true≢false e), λ n. absurd (n (f .0 refl)))
+not-fact false f = (λ e x. false≢true (f .1 x), λ n. refl)
 
-  -- It is that.
-  pub counted : countFits t e ≡ true → Counted
+module _ (t : List ℕ) (e : ℕ) where
+  -- The test of the count is the plain facts.
+  pub counted : countFits t e ≡ true ↔ Counted t e
   unfolding countFits
-  counted h =
-      let a : (leb (kindOf t e) 19 ≡ true) × _ = and-true _ _ h in
-      let b : (leb (kind (kindOf t e) .least) (operandCount t e) ≡ true) × _ = and-true _ _ (a .1) in
-      record { known = leb-true _ _ (a .0); least = leb-true _ _ (b .0); most = leb-true _ _ (b .1) }
+  counted = (
+    λ h.
+        let a : (leb (kindOf t e) 19 ≡ true) × _ = and-true _ _ h in
+        let b : (leb (kind (kindOf t e) .least) (operandCount t e) ≡ true) × _ = and-true _ _ (a .1) in
+        record { known = leb-true _ _ (a .0); least = leb-true _ _ (b .0); most = leb-true _ _ (b .1) },
+    λ p. rw (le-leb _ _ (p .known), le-leb _ _ (p .least), le-leb _ _ (p .most)),
+  )
 
   -- A count that fits is at most six.
+  pub counted-six : Counted t e → operandCount t e ≤ 6
+  counted-six p = le-trans (p .most) (most-six (kindOf t e) (p .known))
+
   pub at-most-six : countFits t e ≡ true → operandCount t e ≤ 6
-  at-most-six h = le-trans (counted h .most) (most-six (kindOf t e) (counted h .known))
+  at-most-six h = counted-six (counted .0 h)
 
   -- So is a good entry's.
   pub operandCount-six : Entry t e → operandCount t e ≤ 6
-  operandCount-six p = le-trans (p .most) (most-six (kindOf t e) (p .known))
+  operandCount-six p = counted-six (p .counted)
 
-  -- A good entry where f is what the tests of the operands give.
-  pub goodEntry-operands : (f : Bool)
-      → f ≡ every (operandPlaced t e) 0 (operandCount t e) && every (operandSorted t e) 0 (operandCount t e)
-      → goodEntry t e
-      ≡ countFits t e && (argumentFits t e && (f && every (λ i. eqb (operand t e i) 0) (operandCount t e) (6 - operandCount t e)))
-  unfolding goodEntry
-  goodEntry-operands f q =
-      ap (λ (b : Bool). countFits t e && (argumentFits t e && b))
-      (joined (every (operandPlaced t e) 0 (operandCount t e)) (every (operandSorted t e) 0 (operandCount t e)) _ f q)
-    where
-      joined : (a b c d : Bool) → d ≡ a && b → a && (b && c) ≡ d && c
-      joined true b c d h = rw h
-      joined false b c d h = rw h
+  -- The test of the argument.
+  pub argued : argumentFits t e ≡ true ↔ Argued t e
+  unfolding argumentFits
+  argued = (
+    λ h.
+        let a : (leb (lowest (kind (kindOf t e) .argument)) (argumentOf t e) ≡ true) × _ = and-true _ _ h in
+        record { low = leb-true _ _ (a .0); high = leb-true _ _ (a .1) },
+    λ p. rw (le-leb _ _ (p .low), le-leb _ _ (p .high)),
+  )
 
   -- What the test of an operand's place says.
-  Placed : ℕ → Type 0
-  Placed i = (operand t e i < rows t) × (kindOf t e ≢ 8 → e < operand t e i)
+  PlacedAt : ℕ → Type 0
+  PlacedAt i = (operand t e i < rows t) × (kindOf t e ≢ 8 → e < operand t e i)
 
   -- The test is that.
-  placed : (i : ℕ) → operandPlaced t e i ≡ true ↔ Placed i
-  unfolding operandPlaced Placed
-  placed i = (apart, λ p. together p (eqb (kindOf t e) 8) refl)
+  placed-at : (i : ℕ) → operandPlaced t e i ≡ true ↔ PlacedAt i
+  unfolding operandPlaced PlacedAt
+  placed-at i = (apart, λ p. together p (eqb (kindOf t e) 8) refl)
     where
-      apart : operandPlaced t e i ≡ true → Placed i
+      apart : operandPlaced t e i ≡ true → PlacedAt i
       apart h =
           let a : (ltb (operand t e i) (rows t) ≡ true) × _ = and-true _ _ h in
           (ltb-true _ _ (a .0), λ n. ltb-true _ _ (rw (ne-eqb _ _ n) at (a .1)))
 
-      together : Placed i → (b : Bool) → eqb (kindOf t e) 8 ≡ b → operandPlaced t e i ≡ true
+      together : PlacedAt i → (b : Bool) → eqb (kindOf t e) 8 ≡ b → operandPlaced t e i ≡ true
       together p true q = rw (lt-ltb _ _ (p .0), q)
       together p false q = rw (lt-ltb _ _ (p .0), q, lt-ltb _ _ (p .1 (eqb-false _ _ q)))
 
   -- What the test of an operand's sort says.
-  Sorted : ℕ → Type 0
-  Sorted i =
+  SortedAt : ℕ → Type 0
+  SortedAt i =
       (kindOf t e ≢ 8 → sortOf (kindOf t (operand t e i)) ≡ takes (kindOf t e))
       × (kindOf t e ≡ 8 → kindOf t (operand t e i) ≡ 7)
 
   -- The test is that.
-  sorted : (i : ℕ) → operandSorted t e i ≡ true ↔ Sorted i
-  unfolding operandSorted Sorted
-  sorted i = (apart, λ p. together p (eqb (kindOf t e) 8) refl)
+  sorted-at : (i : ℕ) → operandSorted t e i ≡ true ↔ SortedAt i
+  unfolding operandSorted SortedAt
+  sorted-at i = (apart, λ p. together p (eqb (kindOf t e) 8) refl)
     where
-      apart : operandSorted t e i ≡ true → Sorted i
+      apart : operandSorted t e i ≡ true → SortedAt i
       apart h = (λ n. same-true _ _ (rw (ne-eqb _ _ n) at h), λ q. eqb-true _ _ (rw (eq-eqb _ _ q) at h))
 
-      together : Sorted i → (b : Bool) → eqb (kindOf t e) 8 ≡ b → operandSorted t e i ≡ true
+      together : SortedAt i → (b : Bool) → eqb (kindOf t e) 8 ≡ b → operandSorted t e i ≡ true
       together p true q = rw (q, eq-eqb _ _ (p .1 (eqb-true _ _ q)))
       together p false q = rw (q, p .0 (eqb-false _ _ q)) (same-itself (takes (kindOf t e)))
 
+  -- The tests of all operands, and of the unused words.
+  pub placed : every (operandPlaced t e) 0 (operandCount t e) ≡ true ↔ Placed t e
+  unfolding PlacedAt
+  placed = (
+    λ h.
+        let at : (i : ℕ) → i < operandCount t e → PlacedAt i = λ i l. placed-at i .0 (every-true (operandPlaced t e) 0 (operandCount t e) .0 h i (omega arith) (omega arith)) in
+        record { inside = λ i l. at i l .0; above = λ n i l. at i l .1 n },
+    λ p. every-true (operandPlaced t e) 0 (operandCount t e) .1 (λ i l m. placed-at i .1 (p .inside i (omega arith), λ n. p .above n i (omega arith))),
+  )
+
+  pub sorted : every (operandSorted t e) 0 (operandCount t e) ≡ true ↔ Sorted t e
+  unfolding SortedAt
+  sorted = (
+    λ h.
+        let at : (i : ℕ) → i < operandCount t e → SortedAt i = λ i l. sorted-at i .0 (every-true (operandSorted t e) 0 (operandCount t e) .0 h i (omega arith) (omega arith)) in
+        record { sorted = λ n i l. at i l .0 n; called = λ n i l. at i l .1 n },
+    λ p. every-true (operandSorted t e) 0 (operandCount t e) .1 (λ i l m. sorted-at i .1 (λ n. p .sorted n i (omega arith), λ n. p .called n i (omega arith))),
+  )
+
+  pub unused : Counted t e → unusedZero t e ≡ true ↔ Unused t e
+  unfolding unusedZero
+  unused p =
+      let z = unused-zero (operand t e) (operandCount t e) (counted-six p) in
+      (λ h. record { zero = z .0 h }, λ q. z .1 (q .zero))
+
+  -- ---- the fault
+
+  -- An entry is good, or has a fault.
+  pub data Judged : ℕ → Type 0 where
+    good : Entry t e → Judged 0
+    bad : (n : ℕ) → Faulty t e n → Judged n
+
+  -- By the five tests a, b, c, d and u.
+  judge : (a b c d u : Bool) → a ≡ true ↔ Counted t e → b ≡ true ↔ Argued t e → c ≡ true ↔ Placed t e → d ≡ true ↔ Sorted t e
+      → (Counted t e → u ≡ true ↔ Unused t e)
+      → Judged (if a then if b then if eqb (if c then if d then 0 else 16 else 15) 0 then if u then 0 else 17 else if c then if d then 0 else 16 else 15 else 14 else 13)
+  judge true true true true true f g h k j = good record { counted = f .0 refl; argued = g .0 refl; placed = h .0 refl; sorted = k .0 refl; unused = j (f .0 refl) .0 refl }
+  judge true true true true false f g h k j = bad 17 (of-unused (f .0 refl) (g .0 refl) (h .0 refl) (k .0 refl) (not-fact false (j (f .0 refl)) .0 refl))
+  judge true true true false u f g h k j = bad 16 (of-sort (f .0 refl) (g .0 refl) (h .0 refl) (not-fact false k .0 refl))
+  judge true true false d u f g h k j = bad 15 (of-place (f .0 refl) (g .0 refl) (not-fact false h .0 refl))
+  judge true false c d u f g h k j = bad 14 (of-argument (f .0 refl) (not-fact false g .0 refl))
+  judge false b c d u f g h k j = bad 13 (of-count (not-fact false f .0 refl))
+
+  pub judged : Judged (fault t e)
+  unfolding fault operandsFault
+  judged = judge (countFits t e) (argumentFits t e) (every (operandPlaced t e) 0 (operandCount t e)) (every (operandSorted t e) 0 (operandCount t e)) (unusedZero t e) counted argued placed sorted unused
+
+  -- A fault is from 13 to 17.
+  pub faulty-within : (n : ℕ) → Faulty t e n → (12 < n) × (n < 18)
+  faulty-within n (of-count a) = (omega arith, omega arith)
+  faulty-within n (of-argument a b) = (omega arith, omega arith)
+  faulty-within n (of-place a b c) = (omega arith, omega arith)
+  faulty-within n (of-sort a b c d) = (omega arith, omega arith)
+  faulty-within n (of-unused a b c d f) = (omega arith, omega arith)
+
+  -- Where a fault holds, it is the entry's.
+  faulty-is : (n : ℕ) → Faulty t e n → fault t e ≡ n
+  unfolding fault operandsFault
+  faulty-is n (of-count a) = rw (not-fact _ counted .1 a)
+  faulty-is n (of-argument a b) = rw (counted .1 a, not-fact _ argued .1 b)
+  faulty-is n (of-place a b c) = rw (counted .1 a, argued .1 b, not-fact _ placed .1 c)
+  faulty-is n (of-sort a b c d) = rw (counted .1 a, argued .1 b, placed .1 c, not-fact _ sorted .1 d)
+  faulty-is n (of-unused a b c d f) = rw (counted .1 a, argued .1 b, placed .1 c, sorted .1 d, not-fact _ (unused a) .1 f)
+
+  is-faulty : (n : ℕ) → 0 < n → Judged n → Faulty t e n
+  is-faulty n l (good p) = absurd (omega arith)
+  is-faulty n l (bad m p) = p
+
+  is-good : (n : ℕ) → n ≡ 0 → Judged n → Entry t e
+  is-good n q (good p) = p
+  is-good n q (bad m p) = absurd (omega (arith, q, faulty-within m p .0))
+
+  -- A fault is the plain facts.
+  pub fault-plain : (n : ℕ) → 0 < n → fault t e ≡ n ↔ Faulty t e n
+  fault-plain n l = (λ q. is-faulty n l (subst Judged q judged), faulty-is n)
+
   -- A good entry is the plain facts.
   pub goodEntry-plain : goodEntry t e ≡ true ↔ Entry t e
-  unfolding goodEntry countFits argumentFits Placed Sorted
-  goodEntry-plain = (apart, together)
-    where
-      at-place : every (operandPlaced t e) 0 (operandCount t e) ≡ true → (i : ℕ) → i < operandCount t e → Placed i
-      at-place h i l = placed i .0 (every-true (operandPlaced t e) 0 (operandCount t e) .0 h i (omega arith) (omega arith))
+  unfolding goodEntry fault operandsFault
+  goodEntry-plain = (
+    λ h. is-good (fault t e) (eqb-true _ _ h) judged,
+    λ p. rw (counted .1 (p .counted), argued .1 (p .argued), placed .1 (p .placed), sorted .1 (p .sorted), unused (p .counted) .1 (p .unused)),
+  )
 
-      at-sort : every (operandSorted t e) 0 (operandCount t e) ≡ true → (i : ℕ) → i < operandCount t e → Sorted i
-      at-sort h i l = sorted i .0 (every-true (operandSorted t e) 0 (operandCount t e) .0 h i (omega arith) (omega arith))
-
-      apart : goodEntry t e ≡ true → Entry t e
-      apart h =
-          let a : (countFits t e ≡ true) × _ = and-true _ _ h in
-          let b : (argumentFits t e ≡ true) × _ = and-true _ _ (a .1) in
-          let c : (every (operandPlaced t e) 0 (operandCount t e) ≡ true) × _ = and-true _ _ (b .1) in
-          let d : (every (operandSorted t e) 0 (operandCount t e) ≡ true) × _ = and-true _ _ (c .1) in
-          let n : Counted = counted (a .0) in
-          let q : (leb (lowest (kind (kindOf t e) .argument)) (argumentOf t e) ≡ true) × _ = and-true _ _ (b .0) in
-          record {
-            known = n .known;
-            least = n .least;
-            most = n .most;
-            low = leb-true _ _ (q .0);
-            high = leb-true _ _ (q .1);
-            inside = λ i l. at-place (c .0) i l .0;
-            above = λ m i l. at-place (c .0) i l .1 m;
-            sorted = λ m i l. at-sort (d .0) i l .0 m;
-            called = λ m i l. at-sort (d .0) i l .1 m;
-            unused = unused-zero (operand t e) (operandCount t e) (at-most-six (a .0)) .0 (d .1);
-          }
-
-      together : Entry t e → goodEntry t e ≡ true
-      together p =
-          rw (
-            le-leb _ _ (p .known),
-            le-leb _ _ (p .least),
-            le-leb _ _ (p .most),
-            le-leb _ _ (p .low),
-            le-leb _ _ (p .high),
-            every-true (operandPlaced t e) 0 (operandCount t e) .1
-                (λ i l m. placed i .1 (p .inside i (omega arith), λ n. p .above n i (omega arith))),
-            every-true (operandSorted t e) 0 (operandCount t e) .1
-                (λ i l m. sorted i .1 (λ n. p .sorted n i (omega arith), λ n. p .called n i (omega arith))),
-          )
-          (unused-zero (operand t e) (operandCount t e) (operandCount-six p) .1 (p .unused))
+  -- A bad entry has a fault.
+  pub bad-fault : goodEntry t e ≡ false → Faulty t e (fault t e)
+  unfolding goodEntry
+  bad-fault h = let n : fault t e ≢ 0 = eqb-false _ _ h in is-faulty (fault t e) (omega arith) judged
 
 -- A good node is the plain facts.
 pub goodNode-plain : (s : List ℕ) (k : ℕ) → goodNode s k ≡ true ↔ Node s k

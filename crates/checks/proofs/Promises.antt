@@ -1,9 +1,9 @@
--- The promises of specs/Promises.antt, each under its name. Both checks are one search behind one test, so each
--- statement is proved once, of that.
+-- The promises of specs/Promises.antt, each under its name. Both checks are one search behind one test; the table check's
+-- answer is the fault of the entry found.
 -- Assumes nothing.
 use mathlib.Core.Path.{_≡_, refl, ap, sym, _∙_}
 use mathlib.Core.Bool.{Bool, true, false, _&&_, true≢false, false≢true}
-use mathlib.Core.Logic.{_↔_}
+use mathlib.Core.Logic.{_≢_, _↔_}
 use mathlib.Core.List.{List}
 use mathlib.Core.Option.{Option, none, some}
 use Prim.Native.Nat.{ℕ, _≤_, _<_}
@@ -15,12 +15,12 @@ use Rattle.words.specs.Tests.{if_then_else_, rejected}
 use Rattle.words.specs.Words.{rows}
 use Rattle.words.proofs.Tests.{First, and-true, rejected-none, rejected-some}
 use Rattle.checks.specs.declared.Checked.{Checked}
-use Rattle.checks.specs.Good.{goodEntry, goodNode}
-use Rattle.checks.specs.Plain.{TableLength, StoreLength}
-use Rattle.checks.specs.Checked.{checked, found, tableLengthFits, storeLengthFits, tableChecked, storeChecked}
+use Rattle.checks.specs.Good.{fault, goodEntry, goodNode}
+use Rattle.checks.specs.Plain.{TableLength, StoreLength, Faulty}
+use Rattle.checks.specs.Checked.{checked, found, faulted, tableLengthFits, storeLengthFits, tableChecked, storeChecked}
 use Rattle.checks.specs.Promises as promises
-use Rattle.checks.specs.Promises.{AllGood, Lowest, StoreFits}
-use Rattle.checks.proofs.Good.{goodEntry-plain, goodNode-plain, tableLengthFits-plain, storeLengthFits-plain}
+use Rattle.checks.specs.Promises.{AllGood, Lowest, StoreFits, TableAnswer, passed, length-bad, entry-bad}
+use Rattle.checks.proofs.Good.{not-fact, faulty-within, fault-plain, goodEntry-plain, bad-fault, goodNode-plain, tableLengthFits-plain, storeLengthFits-plain}
 
 module _ (good : ℕ → Bool) (n : ℕ) where
   -- The search finds nothing where all are good.
@@ -74,14 +74,13 @@ module _ (a : ℕ) (above : 2 < a) where
   refuses true (some k) = (λ e. absurd (omega (arith, ap (λ (r : Checked). r .answer) e)), λ e. absurd (true≢false e))
   refuses false o = (λ e. refl, λ e. refl)
 
--- A test that stands for a fact fails where the fact does.
-not-fact : (b : Bool) (A : Type 0) → b ≡ true ↔ A → b ≡ false ↔ ¬ A
-not-fact true A f = (λ e. absurd (true≢false e), λ n. absurd (n (f .0 refl)))
-not-fact false A f = (λ e x. false≢true (f .1 x), λ n. refl)
-
 -- A pair of facts in other words.
 in-words : {A B C B′ C′ : Type 0} → A ↔ B × C → B ↔ B′ → C ↔ C′ → A ↔ B′ × C′
 in-words f g h = (λ x. (g .0 (f .0 x .0), h .0 (f .0 x .1)), λ y. f .1 (g .1 (y .0), h .1 (y .1)))
+
+-- Two facts in other words, side by side.
+both : {A B A′ B′ : Type 0} → A ↔ A′ → B ↔ B′ → A × B ↔ A′ × B′
+both f g = (λ p. (f .0 (p .0), g .0 (p .1)), λ p. (f .1 (p .0), g .1 (p .1)))
 
 -- What a check of n numbers promises, where its test b stands for the fact Fits.
 module _ (good : ℕ → Bool) (n a : ℕ) (above : 2 < a) (b : Bool) (Fits : Type 0) (fits : b ≡ true ↔ Fits) where
@@ -93,21 +92,98 @@ module _ (good : ℕ → Bool) (n a : ℕ) (above : 2 < a) (b : Bool) (Fits : Ty
 
   check-refuses : outcome b a (rejected good 0 n) ≡ checked 2 0 ↔ ¬ Fits
   check-refuses = (
-    λ e. not-fact b Fits fits .0 (refuses a above b (rejected good 0 n) .0 e),
-    λ h. refuses a above b (rejected good 0 n) .1 (not-fact b Fits fits .1 h),
+    λ e. not-fact b fits .0 (refuses a above b (rejected good 0 n) .0 e),
+    λ h. refuses a above b (rejected good 0 n) .1 (not-fact b fits .1 h),
   )
 
+-- ---- the table check: the answer is the fault of the entry found
+
+-- what the table check answers
+pub data Known : Checked → Type 0 where
+  passes-all : Known (checked 0 0)
+  refuses-length : Known (checked 2 0)
+  rejects-at : (n p : ℕ) → 12 < n → n < 18 → Known (checked n p)
+
+-- The search's outcome decides, behind the test of the length.
+table-outcome : Bool → List ℕ → Option ℕ → Checked
+table-outcome b t o = if b then faulted t o else checked 2 0
+
+module _ (t : List ℕ) where
+  -- what the search says of the table t
+  abbrev Search : Option ℕ → Type 0
+  Search o = rejected (goodEntry t) 0 (rows t) ≡ o
+
+  -- the fault of an entry that was found is one of 13 to 17
+  found-fault : (e : ℕ) → Search (some e) → Faulty t e (fault t e)
+  found-fault e q = bad-fault t e (some-lowest (goodEntry t) (rows t) e .0 q .bad)
+
+  found-above : (e : ℕ) → Search (some e) → 12 < fault t e
+  found-above e q = faulty-within t e (fault t e) (found-fault e q) .0
+
+  table-passes : (b : Bool) (o : Option ℕ) → Search o → table-outcome b t o .answer ≡ 0 ↔ (b ≡ true) × (o ≡ none)
+  unfolding table-outcome
+  table-passes true none q = (λ e. (refl, refl), λ e. refl)
+  table-passes true (some k) q = (λ e. absurd (omega (arith, found-above k q)), λ e. let q : _≡_ {A = ℕ} 0 1 = cc (e .1) in absurd (omega arith))
+  table-passes false o q = (λ e. absurd (omega arith), λ e. absurd (false≢true (e .0)))
+
+  table-rejects : (n p : ℕ) → 12 < n → (b : Bool) (o : Option ℕ) → Search o
+      → table-outcome b t o ≡ checked n p ↔ (b ≡ true) × ((o ≡ some p) × (fault t p ≡ n))
+  unfolding table-outcome
+  table-rejects n p l true none q = (
+    λ e. absurd (omega (arith, ap (λ (r : Checked). r .answer) e)),
+    λ e. let q : _≡_ {A = ℕ} 0 1 = cc (e .1 .0) in absurd (omega arith),
+  )
+  table-rejects n p l true (some k) q = (
+    λ e.
+        let z : k ≡ p = ap (λ (r : Checked). r .place) e in
+        (refl, (ap some z, ap (fault t) (sym z) ∙ ap (λ (r : Checked). r .answer) e)),
+    λ e. let z : k ≡ p = cc (e .1 .0) in ap (λ (m : ℕ). checked (fault t m) m) z ∙ ap (λ (m : ℕ). checked m p) (e .1 .1),
+  )
+  table-rejects n p l false o q = (λ e. absurd (omega (arith, ap (λ (r : Checked). r .answer) e)), λ e. absurd (false≢true (e .0)))
+
+  table-refuses : (b : Bool) (o : Option ℕ) → Search o → table-outcome b t o ≡ checked 2 0 ↔ b ≡ false
+  unfolding table-outcome
+  table-refuses true none q = (
+    λ e. let q : _≡_ {A = ℕ} 0 2 = ap (λ (r : Checked). r .answer) e in absurd (omega arith),
+    λ e. absurd (true≢false e),
+  )
+  table-refuses true (some k) q = (λ e. absurd (omega (arith, found-above k q, ap (λ (r : Checked). r .answer) e)), λ e. absurd (true≢false e))
+  table-refuses false o q = (λ e. refl, λ e. refl)
+
+  known-outcome : (b : Bool) (o : Option ℕ) → Search o → Known (table-outcome b t o)
+  unfolding table-outcome
+  known-outcome true none q = passes-all
+  known-outcome true (some k) q = let w = faulty-within t k (fault t k) (found-fault k q) in rejects-at (fault t k) k (w .0) (w .1)
+  known-outcome false o q = refuses-length
+
 pub tablePasses : promises.tablePasses
-unfolding tableChecked outcome
-tablePasses t = check-passes (goodEntry t) (rows t) 3 (omega arith) _ _ (tableLengthFits-plain (length t))
+unfolding tableChecked table-outcome
+tablePasses t = in-words (table-passes t _ _ refl) (tableLengthFits-plain (length t)) (none-good (goodEntry t) (rows t))
 
 pub tableRejects : promises.tableRejects
-unfolding tableChecked outcome
-tableRejects t = check-rejects (goodEntry t) (rows t) 3 (omega arith) _ _ (tableLengthFits-plain (length t))
+unfolding tableChecked table-outcome
+tableRejects t n p l =
+    in-words (table-rejects t n p l _ _ refl) (tableLengthFits-plain (length t))
+    (both (some-lowest (goodEntry t) (rows t) p) (fault-plain t p n (omega arith)))
 
 pub tableRefuses : promises.tableRefuses
-unfolding tableChecked outcome
-tableRefuses t = check-refuses (goodEntry t) (rows t) 3 (omega arith) _ _ (tableLengthFits-plain (length t))
+unfolding tableChecked table-outcome
+tableRefuses t =
+    let f = table-refuses t (tableLengthFits (length t)) _ refl in
+    let g = not-fact _ (tableLengthFits-plain (length t)) in
+    (λ e. g .0 (f .0 e), λ h. f .1 (g .1 h))
+
+pub known : (t : List ℕ) → Known (tableChecked t)
+unfolding tableChecked table-outcome
+known t = known-outcome t (tableLengthFits (length t)) _ refl
+
+pub tableAnswers : promises.tableAnswers
+tableAnswers t = go (known t)
+  where
+    go : {c : Checked} → Known c → TableAnswer (c .answer)
+    go passes-all = passed
+    go refuses-length = length-bad
+    go (rejects-at n p l m) = entry-bad n l m
 
 -- The store's test stands for its fact.
 store-fits : (s : List ℕ) (mark : ℕ) → storeLengthFits (length s) && leb mark (rows s) ≡ true ↔ StoreFits s mark
@@ -130,11 +206,30 @@ pub storeRefuses : promises.storeRefuses
 unfolding storeChecked outcome
 storeRefuses s mark = check-refuses (goodNode s) mark 4 (omega arith) _ _ (store-fits s mark)
 
+-- no answer of the table check is 3, and none of the store check
+table-not-three : (n : ℕ) → TableAnswer n → n ≢ 3
+table-not-three n passed q = omega arith
+table-not-three n length-bad q = omega arith
+table-not-three n (entry-bad m l h) q = omega arith
+
+store-not-three : (b : Bool) (o : Option ℕ) → outcome b 4 o .answer ≢ 3
+unfolding outcome
+store-not-three true none q = omega arith
+store-not-three true (some k) q = omega arith
+store-not-three false o q = omega arith
+
+pub neverThree : promises.neverThree
+unfolding storeChecked outcome
+neverThree t s mark = (table-not-three _ (tableAnswers t), store-not-three (storeLengthFits (length s) && leb mark (rows s)) (rejected (goodNode s) 0 mark))
+
 pub tableAgrees : promises.tableAgrees
 tableAgrees t r r′ e f = e ∙ sym f
 
 pub storeAgrees : promises.storeAgrees
 storeAgrees s mark r r′ e f = e ∙ sym f
+
+pub faultPlain : promises.faultPlain
+faultPlain = fault-plain
 
 pub entryPlain : promises.entryPlain
 entryPlain = goodEntry-plain

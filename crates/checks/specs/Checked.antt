@@ -7,7 +7,7 @@ use lib.Dec.{leb, ltb, eqb}
 use lib.ListN.{length}
 use Rattle.words.specs.Tests.{if_then_else_, rejected}
 use Rattle.words.specs.Words.{rows}
-use Rattle.checks.specs.Good.{goodEntry, goodNode}
+use Rattle.checks.specs.Good.{fault, goodEntry, goodNode}
 use Rattle.checks.specs.declared.Checked.{Checked}
 use Rattle.checks.specs.declared.Found.{Found}
 use Rattle.checks.specs.declared.Found.the-variants.{At, Nothing}
@@ -34,9 +34,14 @@ tableLengthFits n = ltb 0 n && (eqb (n % 8) 0 && leb n 32768)
 unfoldable pub storeLengthFits : ℕ → Bool
 storeLengthFits n = eqb (n % 8) 0 && leb n 1048576
 
--- the table check: 2 for a bad length, 3 with the lowest bad entry
+-- the fault of the entry that was found, with its place; nothing found is answer 0 with place 0
+abbrev pub faulted : List ℕ → Option ℕ → Checked
+faulted t none = checked 0 0
+faulted t (some e) = checked (fault t e) e
+
+-- the table check: 2 for a bad length, the fault of the lowest bad entry
 unfoldable pub tableChecked : List ℕ → Checked
-tableChecked t = if tableLengthFits (length t) then found 3 (rejected (goodEntry t) 0 (rows t)) else checked 2 0
+tableChecked t = if tableLengthFits (length t) then faulted t (rejected (goodEntry t) 0 (rows t)) else checked 2 0
 
 -- the store check: 2 for a bad length or a mark above the store's nodes, 4 with the lowest bad node below the mark
 unfoldable pub storeChecked : List ℕ → ℕ → Checked

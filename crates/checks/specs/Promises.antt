@@ -1,14 +1,14 @@
 -- What the two checks promise, as types. Each is proved in proofs/Promises.antt under its name.
 use mathlib.Core.Path.{_≡_}
 use mathlib.Core.Bool.{Bool, true, false}
-use mathlib.Core.Logic.{_↔_}
+use mathlib.Core.Logic.{_≢_, _↔_}
 use mathlib.Core.List.{List}
 use Prim.Native.Nat.{ℕ, _≤_, _<_}
 use lib.ListN.{length}
 use Rattle.words.specs.Words.{rows}
 use Rattle.checks.specs.declared.Checked.{Checked}
-use Rattle.checks.specs.Good.{goodEntry, goodNode}
-use Rattle.checks.specs.Plain.{TableLength, StoreLength, Entry, Node}
+use Rattle.checks.specs.Good.{fault, goodEntry, goodNode}
+use Rattle.checks.specs.Plain.{TableLength, StoreLength, Entry, Faulty, Node}
 use Rattle.checks.specs.Checked.{checked, tableChecked, storeChecked}
 
 -- every number below n is good
@@ -21,14 +21,28 @@ pub record Lowest (good : ℕ → Bool) (n p : ℕ) : Type 0 where
   pub bad : good p ≡ false
   pub before : AllGood good p
 
+-- the answers of the table check
+pub data TableAnswer : ℕ → Type 0 where
+  passed : TableAnswer 0
+  length-bad : TableAnswer 2
+  entry-bad : (n : ℕ) → 12 < n → n < 18 → TableAnswer n
+
 -- answer 0: the length fits, and every entry is good
 abbrev pub tablePasses : Type 0
 tablePasses = (t : List ℕ) → tableChecked t .answer ≡ 0 ↔ TableLength (length t) × AllGood (goodEntry t) (rows t)
 
--- answer 3 with its place: the length fits, and the place is the lowest bad entry
+-- an answer from 13 on with its place: the length fits, the place is the lowest bad entry, and the answer is its first fault
 abbrev pub tableRejects : Type 0
 tableRejects =
-    (t : List ℕ) (p : ℕ) → tableChecked t ≡ checked 3 p ↔ TableLength (length t) × Lowest (goodEntry t) (rows t) p
+    (t : List ℕ) (n p : ℕ) → 12 < n
+    → tableChecked t ≡ checked n p ↔ TableLength (length t) × (Lowest (goodEntry t) (rows t) p × Faulty t p n)
+
+-- no other answer is given; 3 is not
+abbrev pub tableAnswers : Type 0
+tableAnswers = (t : List ℕ) → TableAnswer (tableChecked t .answer)
+
+abbrev pub neverThree : Type 0
+neverThree = (t s : List ℕ) (mark : ℕ) → (tableChecked t .answer ≢ 3) × (storeChecked s mark .answer ≢ 3)
 
 -- answer 2: the length does not fit
 abbrev pub tableRefuses : Type 0
@@ -59,6 +73,10 @@ tableAgrees = (t : List ℕ) (r r′ : Checked) → r ≡ tableChecked t → r�
 abbrev pub storeAgrees : Type 0
 storeAgrees =
     (s : List ℕ) (mark : ℕ) (r r′ : Checked) → r ≡ storeChecked s mark → r′ ≡ storeChecked s mark → r ≡ r′
+
+-- a fault is the plain facts, and all before it is right
+abbrev pub faultPlain : Type 0
+faultPlain = (t : List ℕ) (e n : ℕ) → 0 < n → fault t e ≡ n ↔ Faulty t e n
 
 -- a good entry is the plain facts
 abbrev pub entryPlain : Type 0

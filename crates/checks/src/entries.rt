@@ -1,15 +1,15 @@
-// The table check: each test that document 01 sets a good entry, the lowest entry that fails one, and the answer.
+// The table check: what is wrong with an entry, the lowest entry with which something is, and the answer. Each word of an
+// entry is read once.
 ghost use mathlib.Core.Path.{_≡_};
-ghost use mathlib.Core.Bool.{_&&_};
-ghost use Prim.Native.Nat.{_≤_, _<_};
+ghost use Prim.Native.Nat.{_≤_};
 ghost use lib.ListN.{length};
-ghost use Rattle.words.specs.Tests.{every, rejected};
+ghost use Rattle.words.specs.Tests.{rejected};
 ghost use Rattle.words.specs.Words.{rows};
-ghost use Rattle.checks.specs.Good.{kindOf, operandCount, countFits, argumentFits, operandPlaced, operandSorted, goodEntry};
-ghost use Rattle.checks.specs.Checked.{placeOf, tableLengthFits, tableChecked};
+ghost use Rattle.checks.specs.Good.{countOf, argumentIn, kindOf, operandCount, placedFor, sortedFor, operandsFault, fault, goodEntry};
+ghost use Rattle.checks.specs.Kinds as kinds;
+ghost use Rattle.checks.specs.Checked.{faulted, tableLengthFits, tableChecked};
 use crate::Checked;
-use crate::Found;
-use crate::answered;
+use crate::kinds::Sort;
 use crate::kinds::highest_argument;
 use crate::kinds::least;
 use crate::kinds::lowest_argument;
@@ -35,112 +35,121 @@ pub fn operand_count(table: &[u32], e: u32) -> u32
     word(table, e, 0) % 16
 }
 
-// The kind is known, and the count lies within its bounds.
-fn count_fits(table: &[u32], e: u32) -> bool
-    ensures { λ r. ⌜ r ≡ countFits (now (table .entry)) e ⌝ }
+// The kind k is known, and the count n lies within its bounds.
+fn count_fits(k: u32, n: u32) -> bool
+    ensures { λ r. ⌜ r ≡ countOf k n ⌝ }
 {
-    let k = kind_of(table, e);
     if 19 < k {
         return false;
     }
-    let n = operand_count(table, e);
     if n < least(k) {
         return false;
     }
     n <= most(k)
 }
 
-// The argument is in its range, and zero where none is named.
-fn argument_fits(table: &[u32], e: u32) -> bool
-    requires { ⌜ kindOf (now table) e ≤ 19 ⌝ }
-    ensures { λ r. ⌜ r ≡ argumentFits (now (table .entry)) e ⌝ }
+// The argument a is in the range of the kind k, and zero where none is named.
+fn argument_fits(k: u32, a: u32) -> bool
+    requires { ⌜ k ≤ 19 ⌝ }
+    ensures { λ r. ⌜ r ≡ argumentIn k a ⌝ }
 {
-    let k = kind_of(table, e);
-    let a = word(table, e, 1);
     if a < lowest_argument(k) {
         return false;
     }
     a <= highest_argument(k)
 }
 
-// Operand i is inside the table and above its own entry; CALL's alone may be any entry.
-fn operand_placed(table: &[u32], e: u32, i: u32) -> bool
-    requires { ⌜ i < 6 ⌝ }
-    ensures { λ r. ⌜ r ≡ operandPlaced (now (table .entry)) e i ⌝ }
+// The operand o of entry e, of the kind k, is inside the table and above its entry; CALL's alone may be any entry.
+fn operand_placed(table: &[u32], e: u32, k: u32, o: u32) -> bool
+    ensures { λ r. ⌜ r ≡ placedFor (now (table .entry)) e k o ⌝ }
 {
-    let o = held(table, e, i);
     if table.len() / 8 <= (o as usize) {
         return false;
     }
-    if kind_of(table, e) == 8 {
+    if k == 8 {
         return true;
     }
     e < o
 }
 
-// Operand i has the sort that the kind takes; CALL's is a REC.
-fn operand_sorted(table: &[u32], e: u32, i: u32) -> bool
-    requires { ⌜ (kindOf (now table) e ≤ 19) × (i < 6) ⌝ }
-    ensures { λ r. ⌜ r ≡ operandSorted (now (table .entry)) e i ⌝ }
+// The operand o has the sort that the kind k takes; CALL's is a REC.
+fn operand_sorted(table: &[u32], k: u32, sort: Sort, o: u32) -> bool
+    requires { ⌜ sort ≡ kinds.takes k ⌝ }
+    ensures { λ r. ⌜ r ≡ sortedFor (now (table .entry)) k o ⌝ }
 {
-    let k = kind_of(table, e);
-    let o = kind_of(table, held(table, e, i));
+    let j = kind_of(table, o);
     if k == 8 {
-        return o == 7;
+        return j == 7;
     }
-    same(sort_of(o), takes(k))
+    same(sort_of(j), sort)
 }
 
-// Every operand is in its place and has its sort.
-fn operands_fit(table: &[u32], e: u32) -> bool
-    requires { ⌜ (kindOf (now table) e ≤ 19) × (operandCount (now table) e ≤ 6) ⌝ }
-    ensures { λ r. ⌜ r ≡ every (operandPlaced (now (table .entry)) e) 0 (operandCount (now (table .entry)) e) && every (operandSorted (now (table .entry)) e) 0 (operandCount (now (table .entry)) e) ⌝ }
+// The operands' fault of entry e, of the kind k and with n operands: 15 where one is not in its place, else 16 where one has
+// not its sort, else 0. A wrong sort is kept in mind while the places of the rest are looked at.
+fn operands_fault(table: &[u32], e: u32, k: u32, n: u32) -> u32
+    requires { ⌜ (k ≡ kindOf (now table) e) × ((n ≡ operandCount (now table) e) × ((k ≤ 19) × (n ≤ 6))) ⌝ }
+    ensures { λ r. ⌜ r ≡ operandsFault (now (table .entry)) e ⌝ }
 {
-    let n = operand_count(table, e);
+    if n == 0 {
+        return 0;
+    }
+    let sort = takes(k);
+    let mut fault: u32 = 0;
     let mut i: u32 = 0;
     while i < n {
-        if !operand_placed(table, e, i) {
-            return false;
+        let o = held(table, e, i);
+        if !operand_placed(table, e, k, o) {
+            return 15;
         }
-        if !operand_sorted(table, e, i) {
-            return false;
+        if !operand_sorted(table, k, sort, o) {
+            fault = 16;
         }
         i += 1;
     }
-    true
+    fault
 }
 
-// Entry e is good.
-pub fn entry_fits(table: &[u32], e: u32) -> bool
-    ensures { λ r. ⌜ r ≡ goodEntry (now (table .entry)) e ⌝ }
+// What is wrong with entry e, the first in the order of 13 to 17; 0 where nothing is.
+pub fn entry_fault(table: &[u32], e: u32) -> u32
+    ensures { λ r. ⌜ r ≡ fault (now (table .entry)) e ⌝ }
 {
-    if !count_fits(table, e) {
-        return false;
+    let w = word(table, e, 0);
+    let k = w / 16;
+    let n = w % 16;
+    if !count_fits(k, n) {
+        return 13;
     }
-    if !argument_fits(table, e) {
-        return false;
+    if !argument_fits(k, word(table, e, 1)) {
+        return 14;
     }
-    if !operands_fit(table, e) {
-        return false;
+    let operands = operands_fault(table, e, k, n);
+    if operands != 0 {
+        return operands;
     }
-    let n = operand_count(table, e);
-    unused_zero(table, e, n)
+    if !unused_zero(table, e, n) {
+        return 17;
+    }
+    0
 }
 
-// The lowest bad entry of a table that is no longer than the longest.
-fn lowest_bad_entry(table: &[u32]) -> Found
+// The fault of the lowest bad entry of a table that is no longer than the longest, and its place.
+fn lowest_fault(table: &[u32]) -> Checked
     requires { ⌜ length (now table) ≤ 32768 ⌝ }
-    ensures { λ r. ⌜ placeOf r ≡ rejected (goodEntry (now (table .entry))) 0 (rows (now (table .entry))) ⌝ }
+    ensures { λ r. ⌜ r ≡ faulted (now (table .entry)) (rejected (goodEntry (now (table .entry))) 0 (rows (now (table .entry)))) ⌝ }
 {
     let n = table.len() / 8;
     let mut e: u32 = 0;
     while (e as usize) < n {
-        if !entry_fits(table, e) {
-            return Found::At(e);
+        let answer = entry_fault(table, e);
+        if answer != 0 {
+            return Checked { answer, place: e };
         }
         e += 1;
     }
-    Found::Nothing
+    Checked {
+        answer: 0,
+        place: 0,
+    }
 }
 
 // The table is not empty, a multiple of 8, and at most 32,768 words.
@@ -166,5 +175,5 @@ pub fn check_table(table: &[u32]) -> Checked
             place: 0,
         };
     }
-    answered(3, lowest_bad_entry(table))
+    lowest_fault(table)
 }

@@ -164,13 +164,13 @@ module _ (t : List ℕ) (e : ℕ) where
     count-is : kindOf t e ≢ 10 → kindOf t e ≢ 19 → (operandCount t e ≡ kind (kindOf t e) .least) × (operandCount t e ≤ 2)
     unfolding fixed
     count-is n m =
-        let h = at-each fixed all-fixed (kindOf t e) (good .known) in
+        let h = at-each fixed all-fixed (kindOf t e) (good .counted .known) in
         let k : eqb (kind (kindOf t e) .least) (kind (kindOf t e) .most) && leb (kind (kindOf t e) .most) 2 ≡ true =
         rw (ne-eqb (kindOf t e) 10 n, ne-eqb (kindOf t e) 19 m) at h in
         let (a, b) = and-true _ _ k in
         let c : kind (kindOf t e) .least ≡ kind (kindOf t e) .most = eqb-true _ _ a in
         let d : kind (kindOf t e) .most ≤ 2 = leb-true _ _ b in
-        (omega (arith, good .least, good .most), omega (arith, good .most))
+        (omega (arith, good .counted .least, good .counted .most), omega (arith, good .counted .most))
 
     -- the operands of a strategy that is not CONG
     counted : kindOf t e ≢ 10 → kindOf t e ≢ 19 → operands t e ≡ take (kind (kindOf t e) .least) (wordAt t e 2 ∷ wordAt t e 3 ∷ [])
@@ -187,10 +187,10 @@ module _ (t : List ℕ) (e : ℕ) where
 
     -- the operands' sort
     taken : (y : ℕ) → In y (operands t e) → kindOf t e ≢ 8 → sortOf (kindOf t y) ≡ takes (kindOf t e)
-    taken y h n = let (i, l, q) = at-place t e six-most h in subst (λ y. sortOf (kindOf t y) ≡ takes (kindOf t e)) q (good .sorted n i l)
+    taken y h n = let (i, l, q) = at-place t e six-most h in subst (λ y. sortOf (kindOf t y) ≡ takes (kindOf t e)) q (good .sorted .sorted n i l)
 
     within : (y : ℕ) → In y (operands t e) → y < rows t
-    within y h = let (i, l, q) = at-place t e six-most h in subst (λ y. y < rows t) q (good .inside i l)
+    within y h = let (i, l, q) = at-place t e six-most h in subst (λ y. y < rows t) q (good .placed .inside i l)
 
     strategies : kindOf t e ≢ 14 → kindOf t e ≢ 15 → kindOf t e ≢ 19 → Strategies
     unfolding takes
@@ -199,7 +199,7 @@ module _ (t : List ℕ) (e : ℕ) where
         call : eqb (kindOf t e) 8 ≡ true → kindOf t y ≤ 17
         call z =
             let (i, l, q) = at-place t e six-most h in
-            let k : kindOf t y ≡ 7 = subst (λ y. kindOf t y ≡ 7) q (good .called (eqb-true _ _ z) i l) in
+            let k : kindOf t y ≡ 7 = subst (λ y. kindOf t y ≡ 7) q (good .sorted .called (eqb-true _ _ z) i l) in
             omega arith
 
         other : eqb (kindOf t e) 8 ≡ false → kindOf t y ≤ 17
@@ -229,12 +229,12 @@ module _ (t : List ℕ) (e : ℕ) where
     -- a variable's number
     pub variable-below : kindOf t e ≡ 18 → argumentOf t e ≤ 31
     unfolding kind lineOf lines
-    variable-below k = subst (λ k. argumentOf t e ≤ highest (kind k .argument)) k (good .high)
+    variable-below k = subst (λ k. argumentOf t e ≤ highest (kind k .argument)) k (good .argued .high)
 
     -- a scope's mask
     mask-below : kindOf t e ≡ 16 → argumentOf t e < 4294967296
     unfolding kind lineOf lines
-    mask-below k = let h : argumentOf t e ≤ 4294967295 = subst (λ k. argumentOf t e ≤ highest (kind k .argument)) k (good .high) in omega arith
+    mask-below k = let h : argumentOf t e ≤ 4294967295 = subst (λ k. argumentOf t e ≤ highest (kind k .argument)) k (good .argued .high) in omega arith
 
     pub shape : Shape
     unfolding byKind takes kind lineOf lines
@@ -246,4 +246,4 @@ module _ (t : List ℕ) (e : ℕ) where
         decided (eqb (kindOf t e) 19) (λ q. let k = eqb-true _ _ q in is-con k (pattern-is 19 k) (patterns 19 k refl refl)) (λ f.
         let n18 = eqb-false (kindOf t e) 18 d in
         let n19 = eqb-false (kindOf t e) 19 f in
-        plainly (omega (arith, good .known)) (eqb-false _ _ a) (eqb-false _ _ b) (eqb-false _ _ c))))))
+        plainly (omega (arith, good .counted .known)) (eqb-false _ _ a) (eqb-false _ _ b) (eqb-false _ _ c))))))

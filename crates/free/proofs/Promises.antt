@@ -1,20 +1,18 @@
 -- The promises of specs/Promises.antt, each under its name.
 -- Assumes nothing.
-use mathlib.Core.Path.{_≡_, refl, ap, sym, _∙_}
+use mathlib.Core.Path.{_≡_, refl, ap, sym, _∙_, subst}
 use mathlib.Core.Bool.{Bool, true, false, true≢false, false≢true}
 use mathlib.Core.Logic.{_≢_, _↔_}
 use mathlib.Core.List.{List}
-use mathlib.Core.Option.{Option, none, some}
-use Prim.Native.Nat.{ℕ}
+use Prim.Native.Nat.{ℕ, _≤_, _<_}
 use native.Mathlib.Omega.{arith}
 use lib.Dec.{eqb}
 use lib.ListN.{length}
-use borrow.Author.Tests.{eqb-true, eqb-false}
-use Rattle.words.specs.Tests.{if_then_else_, rejected}
-use Rattle.words.specs.Words.{rows}
+use borrow.Author.Tests.{ne-eqb, eqb-true, eqb-false}
+use Rattle.words.specs.Tests.{if_then_else_}
 use Rattle.checks.specs.declared.Checked.{Checked}
-use Rattle.checks.specs.Good.{goodEntry}
-use Rattle.checks.specs.Checked.{checked, found, tableLengthFits, tableChecked}
+use Rattle.checks.specs.Checked.{checked, tableChecked}
+use Rattle.checks.proofs.Promises.{Known, passes-all, refuses-length, rejects-at, known}
 use Rattle.checks.proofs.Promises as checks
 use Rattle.meaning.specs.Bindings.{has}
 use Rattle.meaning.proofs.Tests.{decided}
@@ -57,65 +55,70 @@ agrees t e r r′ a b =
 outcome : Checked → Bool → Checked
 outcome c s = if eqb (c .answer) 0 then if s then checked 0 0 else checked 5 0 else c
 
--- what the table check answers
-data Known : Checked → Type 0 where
-  passes : Known (checked 0 0)
-  refuses : Known (checked 2 0)
-  rejects : (p : ℕ) → Known (checked 3 p)
-
-known : (t : List ℕ) → Known (tableChecked t)
-unfolding tableChecked
-known t = go (tableLengthFits (length t)) (rejected (goodEntry t) 0 (rows t))
-  where
-    go : (b : Bool) (o : Option ℕ) → Known (if b then found 3 o else checked 2 0)
-    go true none = passes
-    go true (some p) = rejects p
-    go false o = refuses
-
 -- a false equation of an answer
 answers : {A : Type 0} {c d : Checked} → c ≡ d → (c .answer ≡ d .answer → ⊥) → A
 answers e n = absurd (n (ap (λ (c : Checked). c .answer) e))
 
 module _ (s : Bool) where
+  -- a refusal of the table is not looked past
+  stays : (n p : ℕ) → 12 < n → outcome (checked n p) s ≡ checked n p
+  unfolding outcome
+  stays n p l = rw (ne-eqb n 0 (λ e. omega (arith, e, l)))
+
+  not-below : {A : Type 0} (n p k : ℕ) → 12 < n → k ≤ 12 → outcome (checked n p) s .answer ≡ k → A
+  not-below n p k l m h = let e : n ≡ k = sym (ap (λ (c : Checked). c .answer) (stays n p l)) ∙ h in absurd (omega arith)
+
   answer-0 : {c : Checked} → Known c → outcome c s .answer ≡ 0 ↔ (c .answer ≡ 0) × (s ≡ true)
   unfolding outcome
-  answer-0 passes = (λ h. (refl, go s h), λ p. rw (p .1))
+  answer-0 passes-all = (λ h. (refl, go s h), λ p. rw (p .1))
     where
       go : (s : Bool) → (if s then checked 0 0 else checked 5 0) .answer ≡ 0 → s ≡ true
       go true h = refl
       go false h = absurd (omega arith)
-  answer-0 refuses = (λ h. absurd (omega arith), λ p. absurd (omega (arith, p .0)))
-  answer-0 (rejects p) = (λ h. absurd (omega arith), λ p. absurd (omega (arith, p .0)))
+  answer-0 refuses-length = (λ h. absurd (omega arith), λ p. absurd (omega (arith, p .0)))
+  answer-0 (rejects-at n p l m) = (λ h. not-below n p 0 l (omega arith) h, λ q. absurd (omega (arith, q .0)))
 
   answer-5 : {c : Checked} → Known c → outcome c s .answer ≡ 5 ↔ (c .answer ≡ 0) × (s ≡ false)
   unfolding outcome
-  answer-5 passes = (λ h. (refl, go s h), λ p. rw (p .1))
+  answer-5 passes-all = (λ h. (refl, go s h), λ p. rw (p .1))
     where
       go : (s : Bool) → (if s then checked 0 0 else checked 5 0) .answer ≡ 5 → s ≡ false
       go true h = absurd (omega arith)
       go false h = refl
-  answer-5 refuses = (λ h. absurd (omega arith), λ p. absurd (omega (arith, p .0)))
-  answer-5 (rejects p) = (λ h. absurd (omega arith), λ p. absurd (omega (arith, p .0)))
+  answer-5 refuses-length = (λ h. absurd (omega arith), λ p. absurd (omega (arith, p .0)))
+  answer-5 (rejects-at n p l m) = (λ h. not-below n p 5 l (omega arith) h, λ q. absurd (omega (arith, q .0)))
 
   answer-2 : {c : Checked} → Known c → outcome c s .answer ≡ 2 ↔ c ≡ checked 2 0
   unfolding outcome
-  answer-2 passes = (λ h. absurd (go s h), λ e. answers e (λ z. absurd (omega arith)))
+  answer-2 passes-all = (λ h. absurd (go s h), λ e. answers e (λ z. absurd (omega arith)))
     where
       go : (s : Bool) → (if s then checked 0 0 else checked 5 0) .answer ≡ 2 → ⊥
       go true h = omega arith
       go false h = omega arith
-  answer-2 refuses = (λ h. refl, λ e. refl)
-  answer-2 (rejects p) = (λ h. absurd (omega arith), λ e. answers e (λ z. absurd (omega arith)))
+  answer-2 refuses-length = (λ h. refl, λ e. refl)
+  answer-2 (rejects-at n p l m) = (λ h. not-below n p 2 l (omega arith) h, λ e. answers e (λ z. omega arith))
 
-  answer-3 : {c : Checked} (p : ℕ) → Known c → (outcome c s .answer ≡ 3) × (outcome c s .place ≡ p) ↔ c ≡ checked 3 p
+  answer-3 : {c : Checked} → Known c → outcome c s .answer ≢ 3
   unfolding outcome
-  answer-3 p passes = (λ h. absurd (go s (h .0)), λ e. answers e (λ z. absurd (omega arith)))
+  answer-3 passes-all h = go s h
     where
       go : (s : Bool) → (if s then checked 0 0 else checked 5 0) .answer ≡ 3 → ⊥
       go true h = omega arith
       go false h = omega arith
-  answer-3 p refuses = (λ h. absurd (omega (arith, h .0)), λ e. answers e (λ z. absurd (omega arith)))
-  answer-3 p (rejects q) = (λ h. ap (checked 3) (h .1), λ e. (refl, ap (λ (c : Checked). c .place) e))
+  answer-3 refuses-length h = omega arith
+  answer-3 (rejects-at n p l m) h = not-below n p 3 l (omega arith) h
+
+  answer-entry : {c : Checked} (n p : ℕ) → 12 < n → Known c → (outcome c s .answer ≡ n) × (outcome c s .place ≡ p) ↔ c ≡ checked n p
+  unfolding outcome
+  answer-entry n p l passes-all = (λ h. absurd (go s (h .0)), λ e. answers e (λ z. absurd (omega arith)))
+    where
+      go : (s : Bool) → (if s then checked 0 0 else checked 5 0) .answer ≡ n → ⊥
+      go true h = omega arith
+      go false h = omega arith
+  answer-entry n p l refuses-length = (λ h. absurd (omega (arith, h .0)), λ e. answers e (λ z. absurd (omega arith)))
+  answer-entry n p l (rejects-at k q m w) =
+      subst (λ (c : Checked). (c .answer ≡ n) × (c .place ≡ p) ↔ checked k q ≡ checked n p) (sym (stays k q m))
+      (λ h j. record { answer = h .0 j; place = h .1 j }, λ e. (ap (λ (c : Checked). c .answer) e, ap (λ (c : Checked). c .place) e))
 
 -- a fact in other words, and a pair of facts
 in-turn : {A B C : Type 0} → A ↔ B → B ↔ C → A ↔ C
@@ -150,8 +153,11 @@ pub refusesLength : promises.refusesLength
 refusesLength t e r a = in-turn (same-answer t e r a 2) (in-turn (answer-2 (isStrategy t e) (known t)) (checks.tableRefuses t))
 
 pub refusesEntry : promises.refusesEntry
-refusesEntry t e p r a =
-    in-turn (both (same-answer t e r a 3) (same-place t e r a p)) (in-turn (answer-3 (isStrategy t e) p (known t)) (checks.tableRejects t p))
+refusesEntry t e n p r l a =
+    in-turn (both (same-answer t e r a n) (same-place t e r a p)) (in-turn (answer-entry (isStrategy t e) n p l (known t)) (checks.tableRejects t n p l))
+
+pub neverThree : promises.neverThree
+neverThree t e r a h = answer-3 (isStrategy t e) (known t) (same-answer t e r a 3 .0 h)
 
 pub refusesStart : promises.refusesStart
 refusesStart t e r a =

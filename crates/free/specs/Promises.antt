@@ -1,6 +1,6 @@
 -- What the question of free variables promises, as types. Each is proved in proofs/Promises.antt under its name.
 use mathlib.Core.Path.{_≡_}
-use mathlib.Core.Logic.{_↔_}
+use mathlib.Core.Logic.{_≢_, _↔_}
 use mathlib.Core.List.{List}
 use Prim.Native.Nat.{ℕ, _<_}
 use lib.ListN.{length}
@@ -8,7 +8,7 @@ use Rattle.words.specs.Words.{rows}
 use Rattle.checks.specs.declared.kinds.Sort.the-variants.{Strategy}
 use Rattle.checks.specs.Kinds.{variables, sortOf}
 use Rattle.checks.specs.Good.{kindOf, goodEntry}
-use Rattle.checks.specs.Plain.{TableLength}
+use Rattle.checks.specs.Plain.{TableLength, Faulty}
 use Rattle.checks.specs.Promises.{AllGood, Lowest}
 use Rattle.meaning.specs.Table.{table}
 use Rattle.meaning.specs.Free.{Free}
@@ -31,11 +31,15 @@ StrategyOf t e = (e < rows t) × (sortOf (kindOf t e) ≡ Strategy)
 abbrev pub refusesLength : Type 0
 refusesLength = (t : List ℕ) (e : ℕ) (r : FreeVariables) → Answered t e r → r .answer ≡ 2 ↔ ¬ TableLength (length t)
 
--- answer 3 with its place: the length fits, and the place is the lowest bad entry
+-- an answer from 13 on with its place: the length fits, the place is the lowest bad entry, and the answer is its first fault
 abbrev pub refusesEntry : Type 0
 refusesEntry =
-    (t : List ℕ) (e p : ℕ) (r : FreeVariables) → Answered t e r
-    → (r .answer ≡ 3) × (r .place ≡ p) ↔ TableLength (length t) × Lowest (goodEntry t) (rows t) p
+    (t : List ℕ) (e n p : ℕ) (r : FreeVariables) → 12 < n → Answered t e r
+    → (r .answer ≡ n) × (r .place ≡ p) ↔ TableLength (length t) × (Lowest (goodEntry t) (rows t) p × Faulty t p n)
+
+-- answer 3 is not given
+abbrev pub neverThree : Type 0
+neverThree = (t : List ℕ) (e : ℕ) (r : FreeVariables) → Answered t e r → r .answer ≢ 3
 
 -- answer 5: the table is good, and e is no strategy of it
 abbrev pub refusesStart : Type 0

@@ -144,7 +144,7 @@ module _ (t : List ℕ) (c : tableChecked t ≡ checked 0 0) where
   facts-operand e i l = ⊎-elim here (λ z. omega (arith, past e (2 + i) z)) (below-or-from e (rows t))
     where
       here : e < rows t → wordAt t e (2 + i) < 4096
-      here z = ⊎-elim (λ m. omega (arith, plain e z .inside i m, short)) (λ m. omega (arith, plain e z .unused i m l)) (below-or-from i (operandCount t e))
+      here z = ⊎-elim (λ m. omega (arith, plain e z .placed .inside i m, short)) (λ m. omega (arith, plain e z .unused .zero i m l)) (below-or-from i (operandCount t e))
 
   facts-few : (e : ℕ) → operandCount t e ≤ 6
   facts-few e = ⊎-elim (λ z. operandCount-six t e (plain e z)) (λ z. omega (arith, past e 0 z)) (below-or-from e (rows t))
@@ -152,19 +152,19 @@ module _ (t : List ℕ) (c : tableChecked t ≡ checked 0 0) where
   facts-variable : (e : ℕ) → kindOf t e ≡ 18 → argumentOf t e < 32
   unfolding kind lineOf lines
   facts-variable e q =
-      let h : argumentOf t e ≤ 31 = subst (λ k. argumentOf t e ≤ highest (kind k .argument)) q (plain e (inside e 18 q (omega arith)) .high) in
+      let h : argumentOf t e ≤ 31 = subst (λ k. argumentOf t e ≤ highest (kind k .argument)) q (plain e (inside e 18 q (omega arith)) .argued .high) in
       omega arith
 
   facts-constructor : (e : ℕ) → kindOf t e ≡ 19 → argumentOf t e ≤ 65535
   unfolding kind lineOf lines
-  facts-constructor e q = subst (λ k. argumentOf t e ≤ highest (kind k .argument)) q (plain e (inside e 19 q (omega arith)) .high)
+  facts-constructor e q = subst (λ k. argumentOf t e ≤ highest (kind k .argument)) q (plain e (inside e 19 q (omega arith)) .argued .high)
 
   -- an operand of an entry that takes patterns
   taken : (e k i : ℕ) → kindOf t e ≡ k → 8 < k → takes k ≡ Pattern → i < operandCount t e → visits.Pattern t (operand t e i)
-  taken e k i q l s m = pattern-kind (kindOf t (operand t e i)) (plain e (inside e k q (omega arith)) .sorted (λ z. omega arith) i m ∙ ap takes q ∙ s)
+  taken e k i q l s m = pattern-kind (kindOf t (operand t e i)) (plain e (inside e k q (omega arith)) .sorted .sorted (λ z. omega arith) i m ∙ ap takes q ∙ s)
 
   first : (e k : ℕ) → kindOf t e ≡ k → 0 < k → 1 ≤ kind k .least → 0 < operandCount t e
-  first e k q l m = let h : kind k .least ≤ operandCount t e = subst (λ k. kind k .least ≤ operandCount t e) q (plain e (inside e k q l) .least) in omega arith
+  first e k q l m = let h : kind k .least ≤ operandCount t e = subst (λ k. kind k .least ≤ operandCount t e) q (plain e (inside e k q l) .counted .least) in omega arith
 
   -- its first operand
   facts-first : (e k : ℕ) → kindOf t e ≡ k → 8 < k → takes k ≡ Pattern → 1 ≤ kind k .least → visits.Pattern t (wordAt t e 2)
@@ -173,8 +173,8 @@ module _ (t : List ℕ) (c : tableChecked t ≡ checked 0 0) where
   -- an entry of at most two operands does not use word 5
   pub five-unused : (e k : ℕ) → kindOf t e ≡ k → 0 < k → kind k .most ≤ 2 → wordAt t e 5 ≡ 0
   five-unused e k q l m =
-      let g : operandCount t e ≤ kind k .most = subst (λ k. operandCount t e ≤ kind k .most) q (plain e (inside e k q l) .most) in
-      plain e (inside e k q l) .unused 3 (omega arith) (omega arith)
+      let g : operandCount t e ≤ kind k .most = subst (λ k. operandCount t e ≤ kind k .most) q (plain e (inside e k q l) .counted .most) in
+      plain e (inside e k q l) .unused .zero 3 (omega arith) (omega arith)
 
   -- what may be noted is small
   begins-small : {p q n : ℕ} → Begins t p q n → p < 4096

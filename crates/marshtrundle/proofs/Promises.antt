@@ -2,7 +2,7 @@
 use mathlib.Core.Path.{_≡_, refl, ap, sym, _∙_, subst, fun-ext}
 use mathlib.Core.Bool.{Bool, true, false, _&&_, true≢false}
 use mathlib.Core.Option.{Option, none, some}
-use mathlib.Core.Logic.{_⊎_, inl, inr, ⊎-elim, _↔_}
+use mathlib.Core.Logic.{_≢_, _⊎_, inl, inr, ⊎-elim, _↔_}
 use mathlib.Core.List.{List}
 use Prim.Native.Nat.{ℕ, zero, suc, _+_, _-_, _*_, _≤_, _<_}
 use native.Mathlib.Omega.{arith}
@@ -16,7 +16,7 @@ use Rattle.words.proofs.Rows.{length-clearedFrom, take-clearedFrom, getD-cleare
 use Rattle.checks.specs.declared.Checked.{Checked}
 use Rattle.checks.specs.Good.{goodEntry, goodNode}
 use Rattle.checks.specs.Checked.{checked, found, tableLengthFits, storeLengthFits, tableChecked, storeChecked}
-use Rattle.checks.proofs.Promises.{tablePasses}
+use Rattle.checks.proofs.Promises.{tablePasses, neverThree}
 use Rattle.meaning.specs.Bindings.{Bindings, has}
 use Rattle.meaning.specs.Beginning.{Given}
 use Rattle.meaning.specs.Free.{Closed}
@@ -39,10 +39,11 @@ use Rattle.meaning.proofs.Bits.{has-nothing}
 use Rattle.free.specs.declared.FreeVariables.{FreeVariables}
 use Rattle.free.specs.Answered.{Answered}
 use Rattle.free.proofs.Smallest.{below-32}
+use Rattle.free.proofs.Promises.{neverThree as freeNeverThree}
 use Rattle.marshtrundle.specs.Refused.{sizesFit, startFits, refused}
 use Rattle.marshtrundle.specs.Run.{input, atReturn, refusing, runOf}
 use Rattle.marshtrundle.specs.Promises as promises
-use Rattle.marshtrundle.specs.Promises.{Runs, AsGiven, Ended, Told, SizesFit, EntriesGood, NodesGood, StartFits}
+use Rattle.marshtrundle.specs.Promises.{Runs, AsGiven, Ended, Told, SizesFit, EntriesGood, NodesGood, StartFits, Refusal, of-sizes, of-entry, of-node, of-start, InList, when-done, when-failed, when-refused, when-cut-off}
 use Rattle.marshtrundle.specs.declared.running.Outcome.{Outcome}
 use Rattle.marshtrundle.proofs.Accepting.{verdict, accepted-answer, accepted-back}
 use Rattle.marshtrundle.proofs.Accepting as accepting
@@ -81,41 +82,6 @@ module _ (i : Input) where
   unfolding runOf
   turned-away e = rw e
 
--- a verdict that is not 0 is from 2 to 5
-of-check : (b : Bool) (a : ℕ) (o : Option ℕ) → 2 < a → a < 6 → eqb ((if b then found a o else checked 2 0) .answer) 0 ≡ false
-    → (1 < (if b then found a o else checked 2 0) .answer) × ((if b then found a o else checked 2 0) .answer < 6)
-of-check true a none l m e = impossible (cc)
-of-check true a (some k) l m e = (omega arith, m)
-of-check false a o l m e = (omega arith, omega arith)
-
--- one of the verdict's parts: z the sizes, c and d the table's and the store's, f the start
-of-parts : (z x y f : Bool) (c d : Checked) → eqb (c .answer) 0 ≡ x → eqb (d .answer) 0 ≡ y
-    → (x ≡ false → (1 < c .answer) × (c .answer < 6)) → (y ≡ false → (1 < d .answer) × (d .answer < 6))
-    → eqb ((if z then if x then if y then if f then checked 0 0 else checked 5 0 else d else c else checked 2 0) .answer) 0 ≡ false
-    → (1 < (if z then if x then if y then if f then checked 0 0 else checked 5 0 else d else c else checked 2 0) .answer)
-    × ((if z then if x then if y then if f then checked 0 0 else checked 5 0 else d else c else checked 2 0) .answer < 6)
-of-parts true true true true c d p q g h e = impossible (cc)
-of-parts true true true false c d p q g h e = (omega arith, omega arith)
-of-parts true true false f c d p q g h e = h refl
-of-parts true false y f c d p q g h e = g refl
-of-parts false x y f c d p q g h e = (omega arith, omega arith)
-
-table-within : (t : List ℕ) → eqb (tableChecked t .answer) 0 ≡ false → (1 < tableChecked t .answer) × (tableChecked t .answer < 6)
-unfolding tableChecked
-table-within t = of-check (tableLengthFits (length t)) 3 (rejected (goodEntry t) 0 (rows t)) (omega arith) (omega arith)
-
-store-within : (s : List ℕ) (m : ℕ) → eqb (storeChecked s m .answer) 0 ≡ false → (1 < storeChecked s m .answer) × (storeChecked s m .answer < 6)
-unfolding storeChecked
-store-within s m = of-check (storeLengthFits (length s) && leb m (rows s)) 4 (rejected (goodNode s) 0 m) (omega arith) (omega arith)
-
-within : (i : Input) → eqb (verdict i .answer) 0 ≡ false → (1 < verdict i .answer) × (verdict i .answer < 6)
-unfolding refused
-within i e =
-    of-parts (sizesFit (i .table) (i .store) (i .bindings) (i .mark)) (eqb (tableChecked (i .table) .answer) 0)
-    (eqb (storeChecked (i .store) (i .mark) .answer) 0) (startFits (i .table) (i .bindings) (i .mark) (i .start) (i .subject))
-    (tableChecked (i .table)) (storeChecked (i .store) (i .mark)) refl refl
-    (table-within (i .table)) (store-within (i .store) (i .mark)) e
-
 -- a run's own answers
 of-run : (i : Input) (r : Ran) → (returned i r .answer ≤ 1) ⊎ ((6 ≤ returned i r .answer) × (returned i r .answer ≤ 8))
 unfolding returned number
@@ -124,6 +90,27 @@ of-run i (lost w u) = inl (omega arith)
 of-run i (cut units w u) = inr (omega arith, omega arith)
 of-run i (cut room w u) = inr (omega arith, omega arith)
 of-run i (cut nesting w u) = inr (omega arith, omega arith)
+
+-- they are in the list, and none is a refusal's
+listed-ran : (i : Input) (r : Ran) → InList (returned i r .answer)
+unfolding returned number
+listed-ran i (ended k b s u) = when-done
+listed-ran i (lost w u) = when-failed
+listed-ran i (cut units w u) = when-cut-off 6 (omega arith) (omega arith)
+listed-ran i (cut room w u) = when-cut-off 7 (omega arith) (omega arith)
+listed-ran i (cut nesting w u) = when-cut-off 8 (omega arith) (omega arith)
+
+refusal-not-ran : (n : ℕ) → Refusal n → (n ≤ 1) ⊎ ((6 ≤ n) × (n ≤ 8)) → ⊥
+refusal-not-ran n of-sizes z = ⊎-elim (λ l. omega arith) (λ l. omega (arith, l .0)) z
+refusal-not-ran n (of-entry m k l) z = ⊎-elim (λ l. omega arith) (λ l. omega (arith, l .1)) z
+refusal-not-ran n of-node z = ⊎-elim (λ l. omega arith) (λ l. omega (arith, l .0)) z
+refusal-not-ran n of-start z = ⊎-elim (λ l. omega arith) (λ l. omega (arith, l .0)) z
+
+refusal-not-three : (n : ℕ) → Refusal n → n ≢ 3
+refusal-not-three n of-sizes e = omega arith
+refusal-not-three n (of-entry m k l) e = omega arith
+refusal-not-three n of-node e = omega arith
+refusal-not-three n of-start e = omega arith
 
 module _ (i : Input) (o : Outcome) (s b : List ℕ) (p : Runs i o s b) where
   -- what comes back from a run, and from a refusal
@@ -139,17 +126,22 @@ module _ (i : Input) (o : Outcome) (s b : List ℕ) (p : Runs i o s b) where
   ran-answer : Accepted i → (o .answer ≤ 1) ⊎ ((6 ≤ o .answer) × (o .answer ≤ 8))
   ran-answer a = subst (λ n. (n ≤ 1) ⊎ ((6 ≤ n) × (n ≤ 8))) (sym (answer-of (came a))) (of-run i (ran quiet tt i))
 
-  refused-answer : eqb (verdict i .answer) 0 ≡ false → (1 < o .answer) × (o .answer < 6)
-  refused-answer e = subst (λ n. (1 < n) × (n < 6)) (sym (answer-of (refused-came e))) (within i e)
+  refused-answer : eqb (verdict i .answer) 0 ≡ false → Refusal (o .answer)
+  refused-answer e = subst Refusal (sym (answer-of (refused-came e))) (accepting.verdict-refusal i e)
 
-  listed : o .answer ≤ 8
-  listed = ⊎-elim (λ a. ⊎-elim (λ l. omega arith) (λ l. l .1) (ran-answer a)) (λ e. omega (arith, refused-answer e .1)) (judged i)
+  listed : InList (o .answer)
+  listed = ⊎-elim (λ a. subst InList (sym (answer-of (came a))) (listed-ran i (ran quiet tt i))) (λ e. when-refused (o .answer) (refused-answer e)) (judged i)
 
-  malformed : ((1 < o .answer) × (o .answer < 6)) ↔ (Accepted i → ⊥)
+  malformed : Refusal (o .answer) ↔ (Accepted i → ⊥)
   malformed = (
-    λ l a. ⊎-elim (λ m. omega (arith, l .0)) (λ m. omega (arith, l .1, m .0)) (ran-answer a),
+    λ l a. refusal-not-ran (o .answer) l (ran-answer a),
     λ n. ⊎-elim (λ a. absurd (n a)) refused-answer (judged i),
   )
+
+  not-three : o .answer ≢ 3
+  not-three h =
+      ⊎-elim (λ a. ⊎-elim (λ l. omega arith) (λ l. omega (arith, l .0)) (ran-answer a)) (λ e. refusal-not-three (o .answer) (refused-answer e) h)
+      (judged i)
 
 -- a run's own answers have place 0
 ran-place : (i : Input) (r : Ran) → returned i r .place ≡ 0
@@ -160,10 +152,10 @@ ran-place i (cut c w u) = refl
 
 module _ (i : Input) (o : Outcome) (s b : List ℕ) (p : Runs i o s b) where
   -- a refusal's answer and place are the verdict's
-  by-verdict : (n k : ℕ) → 1 < n → n < 6 → ((o .answer ≡ n) × (o .place ≡ k)) ↔ (verdict i ≡ checked n k)
+  by-verdict : (n k : ℕ) → 1 < n → (n < 6) ⊎ (8 < n) → ((o .answer ≡ n) × (o .place ≡ k)) ↔ (verdict i ≡ checked n k)
   by-verdict n k l m = (
     λ e.
-        ⊎-elim (λ a. absurd (⊎-elim (λ h. omega (arith, e .0)) (λ h. omega (arith, e .0, h .0)) (ran-answer i o s b p a)))
+        ⊎-elim (λ a. absurd (⊎-elim (λ h. omega (arith, e .0)) (λ h. ⊎-elim (λ z. omega (arith, e .0, h .0)) (λ z. omega (arith, e .0, h .1)) m) (ran-answer i o s b p a)))
         (λ z. let w : atReturn o s b ≡ refusing i (verdict i) = refused-came i o s b p z in
         let x : verdict i .answer ≡ n = sym (ap (λ (r : Returned). r .answer) w) ∙ e .0 in
         let y : verdict i .place ≡ k = sym (ap (λ (r : Returned). r .place) w) ∙ e .1 in
@@ -177,38 +169,38 @@ module _ (i : Input) (o : Outcome) (s b : List ℕ) (p : Runs i o s b) where
 
   sizes-answer : (o .answer ≡ 2) ↔ (SizesFit i → ⊥)
   sizes-answer = (
-    λ e. accepting.refused-sizes i (o .place) .0 (by-verdict 2 (o .place) (omega arith) (omega arith) .0 (e, refl)) .1,
-    λ n. by-verdict 2 0 (omega arith) (omega arith) .1 (accepting.refused-sizes i 0 .1 (refl, n)) .0,
+    λ e. accepting.refused-sizes i (o .place) .0 (by-verdict 2 (o .place) (omega arith) (inl (omega arith)) .0 (e, refl)) .1,
+    λ n. by-verdict 2 0 (omega arith) (inl (omega arith)) .1 (accepting.refused-sizes i 0 .1 (refl, n)) .0,
   )
 
   start-answer : (o .answer ≡ 5) ↔ (SizesFit i × EntriesGood i × NodesGood i × (StartFits i → ⊥))
   start-answer = (
     λ e.
-        let f = accepting.refused-start i (o .place) .0 (by-verdict 5 (o .place) (omega arith) (omega arith) .0 (e, refl)) in
+        let f = accepting.refused-start i (o .place) .0 (by-verdict 5 (o .place) (omega arith) (inl (omega arith)) .0 (e, refl)) in
         (f .0, f .1 .0, f .1 .1 .0, f .1 .1 .1 .1),
-    λ f. by-verdict 5 0 (omega arith) (omega arith) .1 (accepting.refused-start i 0 .1 (f .0, (f .1, (f .2, (refl, f .3))))) .0,
+    λ f. by-verdict 5 0 (omega arith) (inl (omega arith)) .1 (accepting.refused-start i 0 .1 (f .0, (f .1, (f .2, (refl, f .3))))) .0,
   )
 
-  unplaced : (o .answer ≡ 3 → ⊥) → (o .answer ≡ 4 → ⊥) → o .place ≡ 0
+  unplaced : o .answer ≢ 4 → o .answer ≤ 12 → o .place ≡ 0
   unplaced m n =
       ⊎-elim (λ a. ap (λ (r : Returned). r .place) (came i o s b p a) ∙ ran-place i (ran quiet tt i))
       (λ z. let w : atReturn o s b ≡ refusing i (verdict i) = refused-came i o s b p z in
       let x : o .answer ≡ verdict i .answer = ap (λ (r : Returned). r .answer) w in
-      ap (λ (r : Returned). r .place) w ∙ accepting.verdict-placed i (λ e. m (x ∙ e)) (λ e. n (x ∙ e)))
+      ap (λ (r : Returned). r .place) w ∙ accepting.verdict-placed i (λ e. m (x ∙ e)) (omega (arith, x)))
       (judged i)
 
 pub refuses-sizes : promises.Refuses-sizes
 refuses-sizes = sizes-answer
 
 pub refuses-entry : promises.Refuses-entry
-refuses-entry i o s b k p =
-    let v = by-verdict i o s b p 3 k (omega arith) (omega arith) in
-    let w = accepting.refused-entry i k in
-    (λ e. w .0 (v .0 e), λ f. v .1 (w .1 f))
+refuses-entry i o s b n k l p =
+    let v = by-verdict i o s b p n k (omega arith) (inr (omega arith)) in
+    let w = accepting.refused-entry i n k l in
+    (λ e. let f = w .0 (v .0 e) in (f .0, f .1 .0, f .1 .1), λ f. v .1 (w .1 (f .0, (f .1, f .2))))
 
 pub refuses-node : promises.Refuses-node
 refuses-node i o s b k p =
-    let v = by-verdict i o s b p 4 k (omega arith) (omega arith) in
+    let v = by-verdict i o s b p 4 k (omega arith) (inl (omega arith)) in
     let w = accepting.refused-node i k in
     (λ e. let f = w .0 (v .0 e) in (f .0, f .1 .0, f .1 .1), λ f. v .1 (w .1 (f .0, (f .1, f .2))))
 
@@ -223,6 +215,14 @@ not-refused = accepting.not-refused
 
 pub accepted-plain : promises.Accepted-plain
 accepted-plain = accepting.accepted-plain
+
+pub never-three : promises.Never-three
+never-three = record {
+  run = not-three;
+  free = freeNeverThree;
+  table = λ t c e. subst (λ (c : Checked). c .answer ≢ 3) (sym e) (neverThree t t 0 .0);
+  store = λ s mark c e. subst (λ (c : Checked). c .answer ≢ 3) (sym e) (neverThree s s mark .1);
+}
 
 pub listed-answer : promises.Listed
 listed-answer = listed

@@ -3,7 +3,7 @@ use mathlib.Core.Path.{refl}
 use Rattle.words.specs.Tests.{every, rejected}
 use Rattle.words.specs.Words.{putRow, clearedFrom}
 use Rattle.checks.specs.Kinds.{lines, lineOf, kind, sortOf, takes}
-use Rattle.checks.specs.Good.{countFits, argumentFits, operandPlaced, operandSorted, goodEntry, goodNode}
+use Rattle.checks.specs.Good.{countFits, argumentFits, operandPlaced, operandSorted, operandsFault, unusedZero, fault, goodEntry, goodNode}
 use Rattle.checks.specs.Checked.{tableLengthFits, storeLengthFits, tableChecked, storeChecked}
 use Rattle.meaning.specs.Bindings.{bind, has, masked}
 use Rattle.meaning.specs.Table.{byKind, table}
@@ -18,7 +18,7 @@ use Rattle.marshtrundle.specs.Promises.{Small-runs-of-run}
 
 pub small-runs-of-run : Small-runs-of-run
 unfolding every rejected putRow clearedFrom lines lineOf kind sortOf takes countFits argumentFits operandPlaced
-    operandSorted goodEntry goodNode tableLengthFits storeLengthFits tableChecked storeChecked bind has masked byKind
+    operandSorted operandsFault unusedZero fault goodEntry goodNode tableLengthFits storeLengthFits tableChecked storeChecked bind has masked byKind
     table nth put zip agree when given-of again walk oneOf someOf strategy variable whenAt matching building comparing does
     roomFor settled after runPlan closed run row named bindings ran number bindingWord bindingWords returned entry roomy bound
     three four given gives swap twice matchX cases sizesFit boundBelow startFits refused runOf

@@ -1,7 +1,7 @@
 -- What the contract of `run` promises, in the reader's words. `run`'s contract is `Runs` of what it was handed and what it
 -- returned; each statement below holds of everything that meets it.
 use mathlib.Core.Path.{_≡_}
-use mathlib.Core.Logic.{_↔_}
+use mathlib.Core.Logic.{_≢_, _↔_}
 use mathlib.Core.List.{List, map}
 use Prim.Native.Nat.{ℕ, _+_, _*_, _≤_, _<_}
 use lib.ListN.{length, getD}
@@ -9,8 +9,9 @@ use Rattle.words.specs.Words.{rows}
 use Rattle.checks.specs.declared.kinds.Sort.the-variants.{Strategy}
 use Rattle.checks.specs.Kinds.{variables, sortOf}
 use Rattle.checks.specs.Good.{kindOf, goodEntry, goodNode}
-use Rattle.checks.specs.Plain.{TableLength, StoreLength}
-use Rattle.checks.specs.Checked.{checked}
+use Rattle.checks.specs.Plain.{TableLength, StoreLength, Faulty}
+use Rattle.checks.specs.declared.Checked.{Checked}
+use Rattle.checks.specs.Checked.{checked, tableChecked, storeChecked}
 use Rattle.checks.specs.Promises.{AllGood, Lowest}
 use Rattle.meaning.specs.Term.{Term}
 use Rattle.meaning.specs.System.{Env, _∶_is_}
@@ -35,13 +36,33 @@ Runs i o s b = atReturn o s b ≡ runOf i
 abbrev pub Agreeing : Type 0
 Agreeing = (i : Input) (o o′ : Outcome) (s s′ b b′ : List ℕ) → Runs i o s b → Runs i o′ s′ b′ → (o ≡ o′) × (s ≡ s′) × (b ≡ b′)
 
+-- the answers of a refusal, and all answers
+pub data Refusal : ℕ → Type 0 where
+  of-sizes : Refusal 2
+  of-entry : (n : ℕ) → 12 < n → n < 18 → Refusal n
+  of-node : Refusal 4
+  of-start : Refusal 5
+
+pub data InList : ℕ → Type 0 where
+  when-done : InList 0
+  when-failed : InList 1
+  when-refused : (n : ℕ) → Refusal n → InList n
+  when-cut-off : (n : ℕ) → 5 < n → n < 9 → InList n
+
 -- Demand 1: every answer is one of the list.
 abbrev pub Listed : Type 0
-Listed = (i : Input) (o : Outcome) (s b : List ℕ) → Runs i o s b → o .answer ≤ 8
+Listed = (i : Input) (o : Outcome) (s b : List ℕ) → Runs i o s b → InList (o .answer)
 
 -- Demand 1: malformed input, and no other, is refused.
 abbrev pub Refuses : Type 0
-Refuses = (i : Input) (o : Outcome) (s b : List ℕ) → Runs i o s b → ((1 < o .answer) × (o .answer < 6)) ↔ (Accepted i → ⊥)
+Refuses = (i : Input) (o : Outcome) (s b : List ℕ) → Runs i o s b → Refusal (o .answer) ↔ (Accepted i → ⊥)
+
+-- Answer 3 is given by nothing that the linker calls: not by the run, the question of free variables, or a check.
+pub record Never-three : Type 0 where
+  pub run : (i : Input) (o : Outcome) (s b : List ℕ) → Runs i o s b → o .answer ≢ 3
+  pub free : (t : List ℕ) (e : ℕ) (q : FreeVariables) → Answered t e q → q .answer ≢ 3
+  pub table : (t : List ℕ) (c : Checked) → c ≡ tableChecked t → c .answer ≢ 3
+  pub store : (s : List ℕ) (mark : ℕ) (c : Checked) → c ≡ storeChecked s mark → c .answer ≢ 3
 
 -- ---- which refusal is given, both ways
 
@@ -70,11 +91,11 @@ pub record StartFits (i : Input) : Type 0 where
 abbrev pub Refuses-sizes : Type 0
 Refuses-sizes = (i : Input) (o : Outcome) (s b : List ℕ) → Runs i o s b → (o .answer ≡ 2) ↔ (SizesFit i → ⊥)
 
--- Answer 3 with its place: the sizes fit, and the place is the lowest bad entry.
+-- An answer from 13 on with its place: the sizes fit, the place is the lowest bad entry, and the answer is its first fault.
 abbrev pub Refuses-entry : Type 0
 Refuses-entry =
-    (i : Input) (o : Outcome) (s b : List ℕ) (p : ℕ) → Runs i o s b
-    → ((o .answer ≡ 3) × (o .place ≡ p)) ↔ (SizesFit i × Lowest (goodEntry (i .table)) (rows (i .table)) p)
+    (i : Input) (o : Outcome) (s b : List ℕ) (n p : ℕ) → 12 < n → Runs i o s b
+    → ((o .answer ≡ n) × (o .place ≡ p)) ↔ (SizesFit i × Lowest (goodEntry (i .table)) (rows (i .table)) p × Faulty (i .table) p n)
 
 -- Answer 4 with its place: the sizes fit, every entry is good, and the place is the lowest bad node below the mark.
 abbrev pub Refuses-node : Type 0
@@ -90,7 +111,7 @@ Refuses-start =
 
 -- Every other answer has place 0.
 abbrev pub No-place : Type 0
-No-place = (i : Input) (o : Outcome) (s b : List ℕ) → Runs i o s b → (o .answer ≡ 3 → ⊥) → (o .answer ≡ 4 → ⊥) → o .place ≡ 0
+No-place = (i : Input) (o : Outcome) (s b : List ℕ) → Runs i o s b → o .answer ≢ 4 → o .answer ≤ 12 → o .place ≡ 0
 
 -- What is accepted is just what is not refused; and it is all of the above.
 abbrev pub Not-refused : Type 0

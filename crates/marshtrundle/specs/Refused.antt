@@ -1,5 +1,5 @@
--- What a run refuses, in document 01's order: 2 for a length or the mark, 3 with the lowest bad entry, 4 with the lowest bad
--- node below the mark, 5 for a bad start.
+-- What a run refuses, in document 01's order: 2 for a length or the mark, 13 to 17 with the lowest bad entry, 4 with the lowest
+-- bad node below the mark, 5 for a bad start.
 use mathlib.Core.Bool.{Bool, _&&_}
 use mathlib.Core.List.{List}
 use Prim.Native.Nat.{ℕ}

@@ -1,4 +1,4 @@
-// What a run refuses, in document 01's order: 2, 3, 4, 5. Nothing is written here.
+// What a run refuses, in document 01's order: 2, 13 to 17, 4, 5. Nothing is written here.
 use checks::Checked;
 use checks::entries::check_table;
 use checks::entries::kind_of;

@@ -3,7 +3,7 @@ use mathlib.Core.Path.{refl}
 use Rattle.words.specs.Tests.{every, rejected}
 use Rattle.words.specs.Words.{putRow, clearedFrom}
 use Rattle.checks.specs.Kinds.{lines, lineOf, kind, sortOf, takes}
-use Rattle.checks.specs.Good.{countFits, argumentFits, operandPlaced, operandSorted, goodEntry, goodNode}
+use Rattle.checks.specs.Good.{countFits, argumentFits, operandPlaced, operandSorted, operandsFault, unusedZero, fault, goodEntry, goodNode}
 use Rattle.checks.specs.Checked.{tableLengthFits, storeLengthFits, tableChecked, storeChecked}
 use Rattle.meaning.specs.Bindings.{bind, has, masked}
 use Rattle.meaning.specs.Table.{byKind, table}
@@ -14,5 +14,5 @@ use Rattle.meaning.specs.Answer.{number, bindingWord, bindingWords, retu
 use Rattle.meaning.specs.Small.{entry, roomy, bound, three, four, given, gives, swap, twice, matchX, cases, seen, expected, Small-runs}
 
 pub small-runs : Small-runs
-unfolding every rejected putRow clearedFrom lines lineOf kind sortOf takes countFits argumentFits operandPlaced operandSorted goodEntry goodNode tableLengthFits storeLengthFits tableChecked storeChecked bind has masked byKind table nth put zip agree when given-of again walk oneOf someOf strategy variable whenAt matching building comparing does roomFor settled after runPlan closed run row named bindings ran number bindingWord bindingWords returned entry roomy bound three four given gives swap twice matchX cases seen expected
+unfolding every rejected putRow clearedFrom lines lineOf kind sortOf takes countFits argumentFits operandPlaced operandSorted operandsFault unusedZero fault goodEntry goodNode tableLengthFits storeLengthFits tableChecked storeChecked bind has masked byKind table nth put zip agree when given-of again walk oneOf someOf strategy variable whenAt matching building comparing does roomFor settled after runPlan closed run row named bindings ran number bindingWord bindingWords returned entry roomy bound three four given gives swap twice matchX cases seen expected
 small-runs = refl

@@ -3,13 +3,13 @@
 use mathlib.Core.Path.{_≡_, refl, ap, sym, _∙_}
 use mathlib.Core.Bool.{Bool, true, false, true≢false}
 use mathlib.Core.List.{List}
-use mathlib.Core.Logic.{⊎-elim}
+use mathlib.Core.Logic.{_≢_, ⊎-elim}
 use mathlib.Core.Option.{Option, none, some}
 use Prim.Native.Nat.{ℕ, zero, suc, _+_, _*_, _/_, _%_, _≤_, _<_}
 use native.Mathlib.Omega.{arith}
 use lib.Dec.{eqb}
 use lib.ListN.{length, getD, List·getD-eq-default}
-use borrow.Author.Tests.{lt-leb}
+use borrow.Author.Tests.{le-leb, lt-leb}
 use Rattle.words.specs.Words.{wordAt, rows, clearedFrom}
 use Rattle.words.proofs.Tests.{below-or-from}
 use Rattle.words.proofs.Rows.{length-clearedFrom, take-clearedFrom, getD-clearedFrom-from}
@@ -30,7 +30,8 @@ use Rattle.marshtrundle.specs.Run.{runOf}
 use Rattle.marshtrundle.specs.declared.running.Outcome.{Outcome as Five}
 use Rattle.marshtrundle.proofs.Accepting.{accepted-answer, accepted-back}
 use Rattle.marshtrundle.proofs.Copying.{length-words, word-of}
-use Rattle.marshtrundle.proofs.Promises.{refuses}
+use Rattle.marshtrundle.specs.Promises.{Refusal, of-sizes, of-entry, of-node, of-start}
+use Rattle.marshtrundle.proofs.Promises.{refuses, never-three}
 use Rattle.job.specs.Answer.{shown}
 use Rattle.job.specs.Promises.{Plain, Left}
 use Rattle.whole_job.proofs.Answering.{returned-mark}
@@ -38,9 +39,12 @@ use Rattle.whole_job.proofs.Answering.{returned-mark}
 -- ---- an answer that shows what is left is that of a run
 
 -- A refusal shows nothing.
-refusal-alone : (a : ℕ) → 1 < a → a < 6 → shown a ≡ false
+refusal-alone : (a : ℕ) → Refusal a → shown a ≡ false
 unfolding shown
-refusal-alone a l m = rw (lt-leb a 1 l, lt-leb 6 a m)
+refusal-alone a of-sizes = refl
+refusal-alone a (of-entry n l m) = rw (lt-leb n 1 (omega arith), le-leb 6 n (omega arith), lt-leb n 8 (omega arith))
+refusal-alone a of-node = refl
+refusal-alone a of-start = refl
 
 module _ (i : Input) where
   abbrev verdict : Checked
@@ -67,7 +71,10 @@ module _ (i : Input) where
       go false e =
           let n : Accepted i → ⊥ = λ a. true≢false (sym (ap (λ (c : Checked). eqb (c .answer) 0) (not-refused a)) ∙ e) in
           let p = refuses i five (runOf i .store) (runOf i .bindings) refl .1 n in
-          absurd (true≢false (sym h ∙ refusal-alone (runOf i .answer) (p .0) (p .1)))
+          absurd (true≢false (sym h ∙ refusal-alone (runOf i .answer) p))
+
+  pub run-not-three : runOf i .answer ≢ 3
+  run-not-three = never-three .run i five (runOf i .store) (runOf i .bindings) refl
 
   pub run-shown : Accepted i → runOf i ≡ returned i (ran quiet tt i)
   unfolding runOf

@@ -31,7 +31,7 @@ use Rattle.whole_job.specs.Promises.{runOfJob, firstLine}
 use Rattle.whole_job.specs.Promises as promises
 use Rattle.whole_job.proofs.Sizes.{Sized, pick, sized}
 use Rattle.whole_job.proofs.Answering.{mark-most}
-use Rattle.whole_job.proofs.Left.{accepted-shown, left}
+use Rattle.whole_job.proofs.Left.{accepted-shown, run-not-three, left}
 
 pub oneAnswer : promises.OneAnswer
 oneAnswer s b b′ b″ r r′ p q = (p .put .text ∙ sym (q .put .text), p .put .place ∙ sym (q .put .place))
@@ -99,6 +99,9 @@ noRoom s g e l =
     ∙ rw c
     (answered-alone 2 0 (g .heading .subject) (g .heading .nodes) 0 (handed g .store) (g .bindings) refl
     ∙ sym (answered-alone 2 0 (g .heading .subject) (g .heading .nodes) 0 [] [] refl))
+
+pub neverThree : promises.NeverThree
+neverThree g = run-not-three (handed g)
 
 -- ---- what is left, read again
 

@@ -1,6 +1,7 @@
 -- What is promised of the answer to a text: there is one, it is never too long for the buffer, too many bytes and a mark
 -- above the room are refused as document 01 says, and what an answer shows may be read again.
 use mathlib.Core.Path.{_≡_}
+use mathlib.Core.Logic.{_≢_}
 use mathlib.Core.Bool.{true}
 use mathlib.Core.List.{List, [], _∷_, _++_}
 use Prim.Native.Nat.{ℕ, _*_, _≤_, _<_}
@@ -39,6 +40,10 @@ NoRoom =
 -- what a run of a job returns
 abbrev pub runOfJob : Reading → Returned
 runOfJob g = runOf (handed g)
+
+-- Answer 3 is given to no job.
+abbrev pub NeverThree : Type 0
+NeverThree = (g : Reading) → runOfJob g .answer ≢ 3
 
 -- The lines that an answer shows may follow line 1 and `e` lines, and are read as the nodes and bindings that the run left.
 abbrev pub ReadsBack : Type 0

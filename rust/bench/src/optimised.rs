@@ -722,38 +722,46 @@ fn build_many(table: &Table, m: &mut Machine, p: &Entry, left: u32, deep: u32) -
 
 // ---- the checks
 
-fn good_entry(words: &[u32], number: usize) -> bool {
+/// What is wrong with an entry, 13 to 17, or 0 where nothing is.
+fn entry_fault(words: &[u32], number: usize) -> u32 {
     let entries = words.len() / WIDTH;
     let here = &words[WIDTH * number..WIDTH * number + WIDTH];
     let kind = (here[0] / 16) as usize;
     let count = here[0] % 16;
     if kind >= OPERANDS.len() {
-        return false;
+        return 13;
     }
     let (least, most) = OPERANDS[kind];
+    if count < least || count > most {
+        return 13;
+    }
     let (low, high) = ARGUMENTS[kind];
-    if count < least || count > most || here[1] < low || here[1] > high {
-        return false;
+    if here[1] < low || here[1] > high {
+        return 14;
     }
     let kind = kind as u8;
     let patterns = matches!(kind, MATCH | BUILD | PCON);
+    let mut sorted = true;
     for &operand in &here[2..2 + count as usize] {
-        if operand as usize >= entries {
-            return false;
+        if operand as usize >= entries || kind != CALL && operand as usize <= number {
+            return 15;
         }
         let of_operand = words[WIDTH * operand as usize] / 16;
-        let good = if kind == CALL {
+        sorted &= if kind == CALL {
             of_operand == u32::from(REC)
         } else if patterns {
-            operand as usize > number && (18..20).contains(&of_operand)
+            (18..20).contains(&of_operand)
         } else {
-            operand as usize > number && of_operand < 18
+            of_operand < 18
         };
-        if !good {
-            return false;
-        }
     }
-    here[2 + count as usize..].iter().all(|&word| word == 0)
+    if !sorted {
+        return 16;
+    }
+    if here[2 + count as usize..].iter().any(|&word| word != 0) {
+        return 17;
+    }
+    0
 }
 
 /// All tests of a node are made without a branch between them.
@@ -776,10 +784,10 @@ fn bad_store_length(store: &[u32], mark: u32) -> bool {
     store.len() % WIDTH != 0 || store.len() > WIDTH * NODES || mark as usize > store.len() / WIDTH
 }
 
-fn lowest_bad_entry(table: &[u32]) -> Option<u32> {
+fn lowest_bad_entry(table: &[u32]) -> Option<(u32, u32)> {
     (0..table.len() / WIDTH)
-        .find(|&number| !good_entry(table, number))
-        .map(|number| number as u32)
+        .map(|number| (entry_fault(table, number), number as u32))
+        .find(|&(fault, _)| fault != 0)
 }
 
 fn lowest_bad_node(store: &[u32], mark: u32) -> Option<u32> {
@@ -795,7 +803,7 @@ pub fn check_table(table: &[u32]) -> [u32; 2] {
     if bad_table_length(table) {
         return [2, 0];
     }
-    lowest_bad_entry(table).map_or([0, 0], |number| [3, number])
+    lowest_bad_entry(table).map_or([0, 0], |(fault, number)| [fault, number])
 }
 
 /// The store check: answer and place.
@@ -848,8 +856,8 @@ fn run_by(
     if bad_table_length(table) || bad_store_length(store, mark) || bindings.len() != VARIABLES {
         return [2, 0, subject, mark, 0];
     }
-    if let Some(number) = lowest_bad_entry(table) {
-        return [3, number, subject, mark, 0];
+    if let Some((fault, number)) = lowest_bad_entry(table) {
+        return [fault, number, subject, mark, 0];
     }
     if let Some(number) = lowest_bad_node(store, mark) {
         return [4, number, subject, mark, 0];

@@ -1,4 +1,5 @@
 //! What comes back from a run, and what a builder refuses.
+use crate::fault::Fault;
 use crate::store::Node;
 use std::error::Error;
 use std::fmt;
@@ -12,8 +13,9 @@ pub enum Answer {
     Failed,
     /// 2: a length or the mark is bad. Nothing was written.
     RefusedSizes,
-    /// 3: this entry is the lowest bad entry of the table. Nothing was written.
-    BadEntry(u32),
+    /// 13 to 17: this entry is the lowest bad entry of the table, and this is its first fault. Nothing was written.
+    /// [`Table::explain`](crate::Table::explain) says which word it is, and what was expected there.
+    BadEntry(u32, Fault),
     /// 4: this node is the lowest bad node below the mark. Nothing was written.
     BadNode(u32),
     /// 5: the start is outside the table or a pattern, the subject is not below the mark, or a binding names no node below
@@ -35,12 +37,16 @@ impl Answer {
             0 => Answer::Done,
             1 => Answer::Failed,
             2 => Answer::RefusedSizes,
-            3 => Answer::BadEntry(place),
             4 => Answer::BadNode(place),
             5 => Answer::BadStart,
             6 => Answer::OutOfUnits,
             7 => Answer::OutOfRoom,
             8 => Answer::TooDeep,
+            13 => Answer::BadEntry(place, Fault::Kind),
+            14 => Answer::BadEntry(place, Fault::Argument),
+            15 => Answer::BadEntry(place, Fault::Operand),
+            16 => Answer::BadEntry(place, Fault::Sort),
+            17 => Answer::BadEntry(place, Fault::Word),
             other => panic!("the archive answers {other}, which this crate does not know"),
         }
     }
@@ -53,13 +59,13 @@ impl Answer {
         }
     }
 
-    /// The answer's number, 0 to 8.
+    /// The answer's number.
     pub fn number(self) -> u32 {
         match self {
             Answer::Done => 0,
             Answer::Failed => 1,
             Answer::RefusedSizes => 2,
-            Answer::BadEntry(_) => 3,
+            Answer::BadEntry(_, fault) => fault.number(),
             Answer::BadNode(_) => 4,
             Answer::BadStart => 5,
             Answer::OutOfUnits => 6,
@@ -71,7 +77,7 @@ impl Answer {
     /// The number of the bad entry or node, and 0 in all other answers.
     pub fn place(self) -> u32 {
         match self {
-            Answer::BadEntry(place) | Answer::BadNode(place) => place,
+            Answer::BadEntry(place, _) | Answer::BadNode(place) => place,
             Answer::Done
             | Answer::Failed
             | Answer::RefusedSizes
@@ -82,11 +88,11 @@ impl Answer {
         }
     }
 
-    /// True for answers 2 to 5: the input is malformed and nothing was run.
+    /// True for answers 2, 4, 5 and 13 to 17: the input is malformed and nothing was run.
     pub fn is_refusal(self) -> bool {
         matches!(
             self,
-            Answer::RefusedSizes | Answer::BadEntry(_) | Answer::BadNode(_) | Answer::BadStart
+            Answer::RefusedSizes | Answer::BadEntry(..) | Answer::BadNode(_) | Answer::BadStart
         )
     }
 
@@ -105,7 +111,7 @@ impl fmt::Display for Answer {
             Answer::Done => f.write_str("done"),
             Answer::Failed => f.write_str("failed"),
             Answer::RefusedSizes => f.write_str("a length or the mark is bad"),
-            Answer::BadEntry(e) => write!(f, "entry {e} is bad"),
+            Answer::BadEntry(e, fault) => write!(f, "entry {e} is bad: {fault}"),
             Answer::BadNode(k) => write!(f, "node {k} is bad"),
             Answer::BadStart => f.write_str("the start, the subject or a binding is bad"),
             Answer::OutOfUnits => f.write_str("all units are used"),
@@ -182,14 +188,14 @@ mod tests {
 
     #[test]
     fn every_answer_has_its_own_number() {
-        for number in 0..=8 {
+        for number in (0..=2).chain(4..=8).chain(13..=17) {
             assert_eq!(Answer::told(number, 0).number(), number);
         }
     }
 
     #[test]
     fn no_other_number_is_an_answer() {
-        for number in [9, 10, 11, 12, 13, 27, u32::MAX] {
+        for number in [3, 9, 10, 11, 12, 18, 27, u32::MAX] {
             assert!(std::panic::catch_unwind(|| Answer::told(number, 0)).is_err());
         }
     }

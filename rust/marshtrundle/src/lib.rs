@@ -130,12 +130,14 @@ mod answer;
 #[allow(unsafe_code)]
 mod archive;
 mod bindings;
+mod fault;
 mod store;
 pub mod strategy;
 mod table;
 
 pub use answer::{Answer, BuildError, Outcome};
 pub use bindings::{Bindings, Var, VarSet, VARS};
+pub use fault::{EntryFault, Fault};
 pub use store::{Node, Store, Term};
 pub use strategy::{Pattern, Strategy};
 pub use table::{Entry, Table, TableBuilder};

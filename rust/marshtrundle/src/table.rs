@@ -1,6 +1,7 @@
 //! The strategy table: laying strategies out as words.
 use crate::answer::{Answer, BuildError};
 use crate::archive;
+use crate::fault::{self, EntryFault};
 use crate::strategy::{Strategy, Tie, Tree, CALL, REC};
 use crate::ENTRIES;
 use std::collections::{BTreeMap, HashMap, VecDeque};
@@ -74,6 +75,14 @@ impl Table {
     /// The table check: every entry has its form. This is what a run asks first.
     pub fn check(&self) -> Result<(), Answer> {
         Answer::checked(archive::check_table(&self.words))
+    }
+
+    /// Which word of a bad entry is wrong, and what was expected there. None where the answer is about no entry of this table.
+    pub fn explain(&self, answer: Answer) -> Option<EntryFault> {
+        match answer {
+            Answer::BadEntry(entry, fault) => fault::explain(&self.words, entry, fault),
+            _ => None,
+        }
     }
 }
 

@@ -1,6 +1,8 @@
 //! Every refusal: its number, its place, and that nothing is written.
 use marshtrundle::strategy::*;
-use marshtrundle::{free_variables, run, words, Answer, Bindings, Entry, Node, Store, Table, VARS};
+use marshtrundle::{
+    free_variables, run, words, Answer, Bindings, Entry, Fault, Node, Store, Table, VARS,
+};
 
 const ID: [u32; 8] = [0; 8];
 /// A PVAR entry.
@@ -43,7 +45,7 @@ impl Input {
             99,
         );
         assert_eq!(numbers[..2], [answer, place]);
-        if (2..=5).contains(&answer) {
+        if (2..=5).contains(&answer) || answer > 12 {
             assert_eq!(numbers[2..], [self.subject, self.mark, 0]);
             assert_eq!((self.store, self.bindings), (store, bindings));
         }
@@ -134,41 +136,53 @@ fn with_entry(entry: [u32; 8]) -> Vec<u32> {
 }
 
 #[test]
-fn three_every_way_in_which_an_entry_is_bad() {
-    let bad: &[[u32; 8]] = &[
-        [20 * 16, 0, 0, 0, 0, 0, 0, 0],           // no such kind
-        [u32::MAX; 8],                            // no such kind
-        [1, 0, 2, 0, 0, 0, 0, 0],                 // ID with an operand
-        [2 * 16, 0, 0, 0, 0, 0, 0, 0],            // TEST without one
-        [4 * 16 + 1, 0, 2, 0, 0, 0, 0, 0],        // SEQ with one
-        [10 * 16 + 7, 0, 2, 2, 2, 2, 2, 2],       // CONG with seven
-        [0, 1, 0, 0, 0, 0, 0, 0],                 // an argument that is not named
-        [9 * 16 + 1, 0, 2, 0, 0, 0, 0, 0],        // PATH 0
-        [9 * 16 + 1, 7, 2, 0, 0, 0, 0, 0],        // PATH 7
-        [10 * 16, 65_536, 0, 0, 0, 0, 0, 0],      // CONG of no constructor
-        [18 * 16, 32, 0, 0, 0, 0, 0, 0],          // PVAR of no variable
-        [19 * 16, 65_536, 0, 0, 0, 0, 0, 0],      // PCON of no constructor
-        [2 * 16 + 1, 0, 1, 0, 0, 0, 0, 0],        // an operand that is the entry itself
-        [2 * 16 + 1, 0, 0, 0, 0, 0, 0, 0],        // an operand below it
-        [2 * 16 + 1, 0, 8, 0, 0, 0, 0, 0],        // an operand outside the table
-        [2 * 16 + 1, 0, u32::MAX, 0, 0, 0, 0, 0], // an operand far outside
-        [2 * 16 + 1, 0, 6, 0, 0, 0, 0, 0],        // TEST of a pattern
-        [14 * 16 + 1, 0, 2, 0, 0, 0, 0, 0],       // MATCH of a strategy
-        [19 * 16 + 1, 0, 2, 0, 0, 0, 0, 0],       // PCON of a strategy
-        [8 * 16 + 1, 0, 2, 0, 0, 0, 0, 0],        // CALL of no REC
-        [8 * 16 + 1, 0, 8, 0, 0, 0, 0, 0],        // CALL outside the table
-        [0, 0, 1, 0, 0, 0, 0, 0],                 // an unused word
-        [2 * 16 + 1, 0, 2, 0, 0, 0, 0, 9],        // an unused word behind the operands
+fn thirteen_to_seventeen_every_way_in_which_an_entry_is_bad() {
+    use Fault::*;
+    // The entry, its fault, the first word that shows it.
+    let bad: &[([u32; 8], Fault, usize)] = &[
+        ([20 * 16, 0, 0, 0, 0, 0, 0, 0], Kind, 0), // no such kind
+        ([u32::MAX; 8], Kind, 0),                  // no such kind
+        ([1, 0, 2, 0, 0, 0, 0, 0], Kind, 0),       // ID with an operand
+        ([2 * 16, 0, 0, 0, 0, 0, 0, 0], Kind, 0),  // TEST without one
+        ([4 * 16 + 1, 0, 2, 0, 0, 0, 0, 0], Kind, 0), // SEQ with one
+        ([10 * 16 + 7, 0, 2, 2, 2, 2, 2, 2], Kind, 0), // CONG with seven
+        ([0, 1, 0, 0, 0, 0, 0, 0], Argument, 1),   // an argument that is not named
+        ([9 * 16 + 1, 0, 2, 0, 0, 0, 0, 0], Argument, 1), // PATH 0
+        ([9 * 16 + 1, 7, 2, 0, 0, 0, 0, 0], Argument, 1), // PATH 7
+        ([10 * 16, 65_536, 0, 0, 0, 0, 0, 0], Argument, 1), // CONG of no constructor
+        ([18 * 16, 32, 0, 0, 0, 0, 0, 0], Argument, 1), // PVAR of no variable
+        ([19 * 16, 65_536, 0, 0, 0, 0, 0, 0], Argument, 1), // PCON of no constructor
+        ([2 * 16 + 1, 0, 1, 0, 0, 0, 0, 0], Operand, 2), // an operand that is the entry itself
+        ([2 * 16 + 1, 0, 0, 0, 0, 0, 0, 0], Operand, 2), // an operand below it
+        ([2 * 16 + 1, 0, 8, 0, 0, 0, 0, 0], Operand, 2), // an operand outside the table
+        ([2 * 16 + 1, 0, u32::MAX, 0, 0, 0, 0, 0], Operand, 2), // an operand far outside
+        ([2 * 16 + 1, 0, 6, 0, 0, 0, 0, 0], Sort, 2), // TEST of a pattern
+        ([14 * 16 + 1, 0, 2, 0, 0, 0, 0, 0], Sort, 2), // MATCH of a strategy
+        ([19 * 16 + 1, 0, 2, 0, 0, 0, 0, 0], Sort, 2), // PCON of a strategy
+        ([8 * 16 + 1, 0, 2, 0, 0, 0, 0, 0], Sort, 2), // CALL of no REC
+        ([8 * 16 + 1, 0, 8, 0, 0, 0, 0, 0], Operand, 2), // CALL outside the table
+        ([0, 0, 1, 0, 0, 0, 0, 0], Word, 2),       // an unused word
+        ([2 * 16 + 1, 0, 2, 0, 0, 0, 0, 9], Word, 7), // an unused word behind the operands
+        ([20 * 16, 9, 9, 9, 9, 9, 9, 9], Kind, 0), // and everything else
+        ([2 * 16 + 1, 1, 9, 9, 9, 9, 9, 9], Argument, 1), // and the operand, and unused words
+        ([4 * 16 + 2, 0, 6, 8, 9, 9, 9, 9], Operand, 3), // a pattern first, then outside the table
+        ([4 * 16 + 2, 0, 2, 6, 9, 9, 9, 9], Sort, 3), // a pattern, and unused words
+        ([8 * 16 + 1, 0, 1, 0, 0, 0, 0, 0], Sort, 2), // CALL of itself
     ];
-    for &entry in bad {
+    for &(entry, fault, word) in bad {
         let table = with_entry(entry);
-        assert_eq!(words::check_table(&table), [3, 1], "{entry:?}");
-        assert_eq!(words::free_variables(&table, 0), [3, 1, 0], "{entry:?}");
+        let answer = fault.number();
+        assert_eq!(words::check_table(&table), [answer, 1], "{entry:?}");
         assert_eq!(
-            Table::from_words(table.clone()).check(),
-            Err(Answer::BadEntry(1))
+            words::free_variables(&table, 0),
+            [answer, 1, 0],
+            "{entry:?}"
         );
-        Input { table, ..input() }.gives(3, 1);
+        let whole = Table::from_words(table.clone());
+        assert_eq!(whole.check(), Err(Answer::BadEntry(1, fault)));
+        let shown = whole.explain(Answer::BadEntry(1, fault)).expect("a word");
+        assert_eq!((shown.word, shown.found), (word, entry[word]), "{entry:?}");
+        Input { table, ..input() }.gives(answer, 1);
     }
     let good: &[[u32; 8]] = &[
         [8 * 16 + 1, 0, 4, 0, 0, 0, 0, 0],         // CALL of the REC
@@ -242,7 +256,7 @@ fn five_start_subject_and_bindings() {
 }
 
 #[test]
-fn the_order_is_2_3_4_5() {
+fn the_order_is_2_then_13_to_17_then_4_and_5() {
     let worst = || Input {
         table: [u32::MAX; 8].to_vec(),
         store: vec![u32::MAX; 8],
@@ -252,7 +266,7 @@ fn the_order_is_2_3_4_5() {
         subject: 9,
     };
     Input { mark: 2, ..worst() }.gives(2, 0);
-    worst().gives(3, 0);
+    worst().gives(13, 0);
     Input {
         table: ID.to_vec(),
         ..worst()

@@ -30,8 +30,6 @@ pub const DONE: u32 = 0;
 pub const FAILED: u32 = 1;
 /// 01: "a length or the mark is bad".
 pub const BAD_LENGTH: u32 = 2;
-/// 01: "bad entry".
-pub const BAD_ENTRY: u32 = 3;
 /// 01: "bad node below the mark".
 pub const BAD_NODE: u32 = 4;
 /// 01: "bad start".
@@ -44,6 +42,22 @@ pub const NO_ROOM: u32 = 7;
 pub const NO_NESTING: u32 = 8;
 /// 01: "Answer 9 [..] is for text that breaks these rules".
 pub const BAD_TEXT: u32 = 9;
+/// 02, wish 4: "unknown kind or wrong operand count".
+pub const BAD_KIND: u32 = 13;
+/// 02, wish 4: "argument out of range, or non-zero where none is named".
+pub const BAD_ARGUMENT: u32 = 14;
+/// 02, wish 4: "operand outside its allowed numbers".
+pub const BAD_OPERAND: u32 = 15;
+/// 02, wish 4: "operand of the wrong sort, or a CALL's that is no REC".
+pub const BAD_SORT: u32 = 16;
+/// 02, wish 4: "a non-zero unused word".
+pub const BAD_WORD: u32 = 17;
+
+/// Whether an answer is that of a run that began: done, failed or cut off.
+/// Every other answer is a refusal.
+pub fn ran(answer: u32) -> bool {
+    matches!(answer, DONE | FAILED | NO_UNITS | NO_ROOM | NO_NESTING)
+}
 
 /// The twenty kinds by name, numbered as in 01's table.
 #[allow(missing_docs)]
@@ -139,52 +153,74 @@ fn argument_limits(kind: u32) -> (u32, u32) {
     }
 }
 
-/// Whether one entry of the table is good. It must lie inside the table.
-fn good_entry(table: &[u32], entry: u32) -> bool {
+/// The sort that a kind's operands must have.
+///
+/// 01: "MATCH, BUILD and PCON take patterns; all others take strategies."
+fn operand_sort(kind: u32) -> Sort {
+    match kind {
+        kind::MATCH | kind::BUILD | kind::PCON => Sort::Pattern,
+        _ => Sort::Strategy,
+    }
+}
+
+/// Whether an operand's number is outside those allowed to its entry.
+///
+/// 01: "An operand is a number above its own entry's and inside the table;
+/// CALL's alone may be any entry".
+fn bad_operand(entries: u32, entry: u32, kind: u32, operand: u32) -> bool {
+    operand >= entries || (kind != kind::CALL && operand <= entry)
+}
+
+/// Whether an operand inside the table is not what its user takes.
+///
+/// 01: "that entry must be a REC."; "An operand's sort is read from its kind
+/// alone; a kind above 19 has none."
+fn bad_sort(table: &[u32], kind: u32, operand: u32) -> bool {
+    if kind == kind::CALL {
+        return kind_of(table, operand) != kind::REC;
+    }
+    sort_of(kind_of(table, operand)) != Some(operand_sort(kind))
+}
+
+/// What is wrong with one entry, if anything. It must lie inside the table.
+///
+/// 02, wish 4: "13 to 17 in that order within the lowest bad entry". The reading:
+/// each fault is asked of the whole entry before the next, so an operand outside
+/// the table at the second place goes before a wrong sort at the first.
+fn fault(table: &[u32], entry: u32) -> Option<u32> {
     let entries = (table.len() / WIDTH) as u32;
     let row = &table[WIDTH * entry as usize..WIDTH * entry as usize + WIDTH];
     let kind = row[0] / 16;
     let count = row[0] % 16;
     if kind > kind::PCON {
-        return false;
+        return Some(BAD_KIND);
     }
     let (least, most) = OPERANDS[kind as usize];
     if count < least || count > most {
-        return false;
+        return Some(BAD_KIND);
     }
     let (low, high) = argument_limits(kind);
     if row[1] < low || row[1] > high {
-        return false;
+        return Some(BAD_ARGUMENT);
     }
-    // 01: "MATCH, BUILD and PCON take patterns; all others take strategies."
-    let wanted = match kind {
-        kind::MATCH | kind::BUILD | kind::PCON => Sort::Pattern,
-        _ => Sort::Strategy,
-    };
-    for position in 0..count {
-        let operand = row[2 + position as usize];
-        // 01: "inside the table".
-        if operand >= entries {
-            return false;
-        }
-        if kind == kind::CALL {
-            // 01: "CALL's alone may be any entry, and that entry must be a REC."
-            if kind_of(table, operand) != kind::REC {
-                return false;
-            }
-        } else {
-            // 01: "An operand is a number above its own entry's".
-            if operand <= entry {
-                return false;
-            }
-            // 01: "An operand's sort is read from its kind alone".
-            if sort_of(kind_of(table, operand)) != Some(wanted) {
-                return false;
-            }
-        }
+    let (operands, unused) = row[2..].split_at(count as usize);
+    if operands
+        .iter()
+        .any(|&operand| bad_operand(entries, entry, kind, operand))
+    {
+        return Some(BAD_OPERAND);
+    }
+    if operands
+        .iter()
+        .any(|&operand| bad_sort(table, kind, operand))
+    {
+        return Some(BAD_SORT);
     }
     // 01: "Unused words are zero".
-    row[2 + count as usize..].iter().all(|&word| word == 0)
+    if unused.iter().any(|&word| word != 0) {
+        return Some(BAD_WORD);
+    }
+    None
 }
 
 /// Whether one node of the store is good. It must lie inside the store.
@@ -215,9 +251,11 @@ pub fn bad_store_length(store: &[u32], mark: u32) -> bool {
     store.len() % WIDTH != 0 || store.len() > STORE_WORDS || mark as usize > store.len() / WIDTH
 }
 
-/// The lowest bad entry of a table whose length is good.
-pub fn lowest_bad_entry(table: &[u32]) -> Option<u32> {
-    (0..(table.len() / WIDTH) as u32).find(|&entry| !good_entry(table, entry))
+/// The fault of the lowest bad entry of a table whose length is good, and that
+/// entry.
+pub fn lowest_bad_entry(table: &[u32]) -> Option<(u32, u32)> {
+    (0..(table.len() / WIDTH) as u32)
+        .find_map(|entry| fault(table, entry).map(|answer| (answer, entry)))
 }
 
 /// The lowest bad node below the mark of a store whose length is good.
@@ -227,13 +265,13 @@ pub fn lowest_bad_node(store: &[u32], mark: u32) -> Option<u32> {
 
 /// The table check: an answer and a place.
 ///
-/// 2 and 0 for a bad length; 3 and the lowest bad entry; else 0 and 0.
+/// 2 and 0 for a bad length; 13 to 17 and the lowest bad entry; else 0 and 0.
 pub fn check_table(table: &[u32]) -> (u32, u32) {
     if bad_table_length(table) {
         return (BAD_LENGTH, 0);
     }
     match lowest_bad_entry(table) {
-        Some(entry) => (BAD_ENTRY, entry),
+        Some(fault) => fault,
         None => (DONE, 0),
     }
 }

@@ -7,8 +7,8 @@
 
 use crate::checks::{
     bad_store_length, bad_table_length, kind, kind_of, lowest_bad_entry, lowest_bad_node, sort_of,
-    Sort, BAD_ENTRY, BAD_LENGTH, BAD_NODE, BAD_START, DONE, FAILED, NO_NESTING, NO_ROOM, NO_UNITS,
-    VARIABLES, WIDTH,
+    Sort, BAD_LENGTH, BAD_NODE, BAD_START, DONE, FAILED, NO_NESTING, NO_ROOM, NO_UNITS, VARIABLES,
+    WIDTH,
 };
 
 /// The deepest nesting of a visit. 01: "if its nesting would exceed 4,096".
@@ -17,15 +17,15 @@ pub const NESTING: u32 = 4_096;
 /// 01: "A run returns five numbers: answer, place, subject, mark, units used."
 #[derive(Clone, Copy, Debug, PartialEq, Eq)]
 pub struct Outcome {
-    /// 0 to 8, by 01's table.
+    /// 0 to 8 without 3 by 01's table, and 13 to 17 by 02.
     pub answer: u32,
-    /// The lowest bad entry or node for answers 3 and 4, else 0.
+    /// The lowest bad entry for answers 13 to 17, the lowest bad node for 4, else 0.
     pub place: u32,
     /// The new subject for answer 0, else as given.
     pub subject: u32,
     /// The new mark for answer 0, else as given.
     pub mark: u32,
-    /// The visits counted; 0 for answers 2 to 5.
+    /// The visits counted; 0 for a refusal.
     pub units: u32,
 }
 
@@ -432,13 +432,14 @@ pub fn run_watched<W: Watcher>(
         mark,
         units,
     };
-    // 01: "Order: 2, 3, 4, 5, then the run."
+    // 01: "Order: 2, 3, 4, 5, then the run."; 02, wish 4: 13 to 17 "where 3
+    // stood".
     // 01: "the bindings aren't 32 words".
     if bad_table_length(table) || bad_store_length(store, mark) || bindings.len() != VARIABLES {
         return given(BAD_LENGTH, 0, 0);
     }
-    if let Some(entry) = lowest_bad_entry(table) {
-        return given(BAD_ENTRY, entry, 0);
+    if let Some((answer, entry)) = lowest_bad_entry(table) {
+        return given(answer, entry, 0);
     }
     if let Some(node) = lowest_bad_node(store, mark) {
         return given(BAD_NODE, node, 0);

@@ -23,7 +23,7 @@ fn by_the_rules(table: &[u32], sets: &[u32], entry: usize) -> u32 {
 ///
 /// 01: "The question takes a table and a strategy entry and returns answer,
 /// place and mask: 0, 0 and the mask; or 2 (table length only), 3 with its
-/// place, or 5, with mask 0."
+/// place, or 5, with mask 0." By 02's wish 4 it is 13 to 17 where 3 stood.
 pub fn free_variables(table: &[u32], entry: u32) -> (u32, u32, u32) {
     let (answer, place) = check_table(table);
     if answer != DONE {

@@ -1,8 +1,8 @@
-//! A second interpreter of System S, written from document 01 alone.
+//! A second interpreter of System S, written from documents 01 and 02 alone.
 //!
 //! It exists to be compared with another implementation. So it shares no code
 //! with it, and it takes the plainest way: recursive functions over the words.
-//! Each piece quotes the sentence of 01 that it carries out.
+//! Each piece quotes the sentence of 01 or 02 that it carries out.
 //!
 //! The files in reading order: `checks` (the table check, the store check),
 //! `free` (free variables), `engine` (the run), `job` (the job program), then

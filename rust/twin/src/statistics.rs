@@ -1,6 +1,6 @@
 //! What the generated cases cover, counted.
 
-use crate::checks::kind;
+use crate::checks::{kind, ran, BAD_TEXT, DONE, FAILED, NO_ROOM};
 use crate::engine::{run_watched, Watcher};
 use crate::free::free_variables;
 use crate::generate::{free_case, job_text, run_case};
@@ -94,10 +94,43 @@ fn say(report: &mut String, line: std::fmt::Arguments) {
     report.push('\n');
 }
 
+/// How often each answer was given.
+type Answers = BTreeMap<u32, u64>;
+
+/// Writes a line for each answer that was given, with its share.
+fn say_answers(text: &mut String, answers: &Answers, count: u64) {
+    for (answer, number) in answers {
+        let share = 100.0 * *number as f64 / count.max(1) as f64;
+        say(
+            text,
+            format_args!("answer {}: {} ({:.1} %)", answer, number, share),
+        );
+    }
+}
+
+/// Writes a line for each span of sizes, and in it the number for each answer
+/// of a run that began.
+fn say_spans(text: &mut String, spans: &BTreeMap<&str, Answers>) {
+    let all: Vec<u32> = (0..100).filter(|&answer| ran(answer)).collect();
+    say(
+        text,
+        format_args!("units used: runs with answers {:?}", all),
+    );
+    for name in SPANS {
+        if let Some(row) = spans.get(name) {
+            let numbers: Vec<String> = all
+                .iter()
+                .map(|answer| row.get(answer).unwrap_or(&0).to_string())
+                .collect();
+            say(text, format_args!("  {}: {}", name, numbers.join(" ")));
+        }
+    }
+}
+
 /// Counts over so many generated runs. Call it on a big stack.
 pub fn of_runs(seed: u64, count: u64) -> String {
-    let mut answers = [0u64; 9];
-    let mut used: BTreeMap<&str, [u64; 9]> = BTreeMap::new();
+    let mut answers = Answers::new();
+    let mut used: BTreeMap<&str, Answers> = BTreeMap::new();
     let mut built: BTreeMap<&str, u64> = BTreeMap::new();
     let mut counts = Counts::default();
     let mut small = 0u64;
@@ -107,7 +140,7 @@ pub fn of_runs(seed: u64, count: u64) -> String {
     let mut bindings_changed = 0u64;
     let mut bindings_done = 0u64;
     let mut deepest_exact = 0u64;
-    let mut exact_units = [0u64; 9];
+    let mut exact_units = Answers::new();
     let mut exact_room = 0u64;
     for index in 0..count {
         let mut case = run_case(seed, index);
@@ -132,13 +165,15 @@ pub fn of_runs(seed: u64, count: u64) -> String {
         for (kind, seen) in counts.seen.iter().enumerate() {
             counts.runs_with[kind] += u64::from(*seen);
         }
-        let answer = outcome.answer as usize;
-        answers[answer] += 1;
-        if !(2..=5).contains(&answer) {
-            used.entry(span(outcome.units)).or_default()[answer] += 1;
-            exact_units[answer] += u64::from(outcome.units == case.units);
+        let answer = outcome.answer;
+        *answers.entry(answer).or_default() += 1;
+        if ran(answer) {
+            let row = used.entry(span(outcome.units)).or_default();
+            *row.entry(answer).or_default() += 1;
+            let exact = u64::from(outcome.units == case.units);
+            *exact_units.entry(answer).or_default() += exact;
         }
-        if answer == 0 {
+        if answer == DONE {
             *built.entry(span(outcome.mark - case.mark)).or_default() += 1;
             bindings_changed += u64::from(before != case.bindings);
             bindings_done += u64::from(case.bindings.iter().any(|&word| word != 0));
@@ -154,33 +189,16 @@ pub fn of_runs(seed: u64, count: u64) -> String {
     let mut report = String::new();
     let text = &mut report;
     say(text, format_args!("runs {}, seed {}", count, seed));
-    for (answer, number) in answers.iter().enumerate() {
-        let share = 100.0 * *number as f64 / count.max(1) as f64;
-        say(
-            text,
-            format_args!("answer {}: {} ({:.1} %)", answer, number, share),
-        );
-    }
-    say(
-        text,
-        format_args!("units used: number of runs with answer 0, 1, 6, 7, 8"),
-    );
-    for name in SPANS {
-        if let Some(row) = used.get(name) {
-            say(
-                text,
-                format_args!(
-                    "  {}: {} {} {} {} {}",
-                    name, row[0], row[1], row[6], row[7], row[8]
-                ),
-            );
-        }
-    }
+    say_answers(text, &answers, count);
+    say_spans(text, &used);
+    let exact = |answer: u32| exact_units.get(&answer).unwrap_or(&0);
     say(
         text,
         format_args!(
             "all given units used: done {}, failed {}, room {}",
-            exact_units[0], exact_units[1], exact_units[7]
+            exact(DONE),
+            exact(FAILED),
+            exact(NO_ROOM)
         ),
     );
     say(text, format_args!("done runs by new nodes kept"));
@@ -242,22 +260,20 @@ pub fn of_runs(seed: u64, count: u64) -> String {
 
 /// Counts over so many questions of free variables.
 pub fn of_frees(seed: u64, count: u64) -> String {
-    let mut answers = [0u64; 9];
+    let mut answers = Answers::new();
     let mut sizes: BTreeMap<u32, u64> = BTreeMap::new();
     for index in 0..count {
         let case = free_case(seed, index);
         let (answer, _, mask) = free_variables(&case.table, case.entry);
-        answers[answer as usize] += 1;
-        if answer == 0 {
+        *answers.entry(answer).or_default() += 1;
+        if answer == DONE {
             *sizes.entry(mask.count_ones()).or_default() += 1;
         }
     }
     let mut report = String::new();
     let text = &mut report;
     say(text, format_args!("questions {}, seed {}", count, seed));
-    for &answer in &[0, 2, 3, 5] {
-        say(text, format_args!("answer {}: {}", answer, answers[answer]));
-    }
+    say_answers(text, &answers, count);
     say(text, format_args!("free variables: number of questions"));
     for (size, number) in sizes {
         say(text, format_args!("  {}: {}", size, number));
@@ -267,7 +283,7 @@ pub fn of_frees(seed: u64, count: u64) -> String {
 
 /// Counts over so many job texts. Call it on a big stack.
 pub fn of_jobs(seed: u64, count: u64) -> String {
-    let mut answers = [0u64; 10];
+    let mut answers = Answers::new();
     let mut places: BTreeMap<&str, u64> = BTreeMap::new();
     for index in 0..count {
         let text = job(&job_text(seed, index));
@@ -280,17 +296,15 @@ pub fn of_jobs(seed: u64, count: u64) -> String {
             .skip(1)
             .map(|field| field.parse().expect("an answer is a line of numbers"))
             .collect();
-        answers[numbers[0] as usize] += 1;
-        if numbers[0] == 9 {
+        *answers.entry(numbers[0]).or_default() += 1;
+        if numbers[0] == BAD_TEXT {
             *places.entry(span(numbers[1])).or_default() += 1;
         }
     }
     let mut report = String::new();
     let text = &mut report;
     say(text, format_args!("jobs {}, seed {}", count, seed));
-    for (answer, number) in answers.iter().enumerate() {
-        say(text, format_args!("answer {}: {}", answer, number));
-    }
+    say_answers(text, &answers, count);
     say(text, format_args!("answer 9 by its place"));
     for name in SPANS {
         if let Some(number) = places.get(name) {

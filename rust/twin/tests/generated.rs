@@ -1,6 +1,7 @@
 //! Laws that 01 states of every run, tried on generated cases, and the text
 //! formats there and back.
 
+use twin::checks::ran;
 use twin::generate::{free_case, job_text, run_case};
 use twin::text::{push_framed, sum, take_framed, FreeCase, RunCase};
 use twin::{run, with_big_stack, Outcome};
@@ -32,7 +33,7 @@ fn what_comes_back() {
                 assert!(given, "{}", case.label);
                 assert_eq!(bindings, case.bindings, "{}", case.label);
             }
-            if (2..=5).contains(&outcome.answer) {
+            if !ran(outcome.answer) {
                 assert_eq!(outcome.units, 0, "{}", case.label);
                 assert_eq!(store, case.store, "{}", case.label);
                 continue;
@@ -44,6 +45,28 @@ fn what_comes_back() {
             let above = 8 * outcome.mark as usize;
             assert!(store[above..].iter().all(|&word| word == 0));
             assert_eq!(twin::check_store(&store, outcome.mark), (0, 0));
+        }
+    });
+}
+
+#[test]
+fn each_fault_of_an_entry_comes_up() {
+    // 02, wish 4: "3 is no longer given".
+    with_big_stack(|| {
+        let mut runs = [0; 100];
+        let mut frees = [0; 100];
+        for index in 0..3_000 {
+            let case = run_case(16, index);
+            let (outcome, _, _) = run_it(&case, case.units.min(9));
+            runs[outcome.answer as usize] += 1;
+            let case = free_case(16, index);
+            let (answer, _, _) = twin::free_variables(&case.table, case.entry);
+            frees[answer as usize] += 1;
+        }
+        assert_eq!((runs[3], frees[3]), (0, 0));
+        for fault in 13..=17 {
+            assert!(runs[fault] > 20, "{} {}", fault, runs[fault]);
+            assert!(frees[fault] > 10, "{} {}", fault, frees[fault]);
         }
     });
 }
@@ -85,7 +108,7 @@ fn garbage_above_the_mark_changes_nothing() {
         for index in 0..800 {
             let case = run_case(13, index);
             let (outcome, store, bindings) = run_it(&case, case.units);
-            if (2..=5).contains(&outcome.answer) {
+            if !ran(outcome.answer) {
                 continue;
             }
             let mut soiled = case.clone();

@@ -26,10 +26,22 @@ fn refused_jobs_print_one_line() {
     assert_eq!(job_spaced("job 1 7 8 9\n"), "answer 2 0 8 0 0\n");
     let text = PRINTED.replace("job 10 0 2 4", "job 10 0 2 2");
     assert_eq!(job_spaced(&text), "answer 2 0 2 3 0\n");
-    // 3, 4 and 5.
+    // 13 to 16, 4 and 5. A job has no unused word to set, so 17 is not seen.
     assert_eq!(
         job_spaced("job 1 0 0 1\ne 0 0\ne 255 0\nn 1\n"),
-        "answer 3 1 0 1 0\n"
+        "answer 13 1 0 1 0\n"
+    );
+    assert_eq!(
+        job_spaced("job 1 0 0 1\ne 0 0\ne 0 1\nn 1\n"),
+        "answer 14 1 0 1 0\n"
+    );
+    assert_eq!(
+        job_spaced("job 1 0 0 1\ne 0 0\ne 2 0 1\nn 1\n"),
+        "answer 15 1 0 1 0\n"
+    );
+    assert_eq!(
+        job_spaced("job 1 0 0 1\ne 0 0\ne 8 0 0\nn 1\n"),
+        "answer 16 1 0 1 0\n"
     );
     assert_eq!(
         job_spaced("job 1 0 0 9\ne 0 0\nn 1\nn 65536\n"),
@@ -163,7 +175,7 @@ fn tabs_and_other_bytes() {
 #[test]
 fn operands_and_children() {
     // Six operands are text; a seventh is not.
-    begins("job 1 0 0 1\ne 0 0 1 2 3 4 5 6\nn 1\n", "answer 3 0 0 1 0");
+    begins("job 1 0 0 1\ne 0 0 1 2 3 4 5 6\nn 1\n", "answer 13 0 0 1 0");
     bad("job 1 0 0 1\ne 0 0 1 2 3 4 5 6 7\nn 1\n", 2);
     bad("job 1 0 0 1\ne 0 0 1 2 3 4 5 6 7 8\nn 1\n", 2);
     bad("job 1 0 0 1\ne 0\nn 1\n", 2);
@@ -178,11 +190,11 @@ fn operands_and_children() {
 
 #[test]
 fn numbers_at_and_past_their_limits() {
-    begins("job 1 0 0 1\ne 255 0\nn 1\n", "answer 3 0 0 1 0");
+    begins("job 1 0 0 1\ne 255 0\nn 1\n", "answer 13 0 0 1 0");
     bad("job 1 0 0 1\ne 256 0\nn 1\n", 2);
-    begins("job 1 0 0 1\ne 0 4294967295\nn 1\n", "answer 3 0 0 1 0");
+    begins("job 1 0 0 1\ne 0 4294967295\nn 1\n", "answer 14 0 0 1 0");
     bad("job 1 0 0 1\ne 0 4294967296\nn 1\n", 2);
-    begins("job 1 0 0 1\ne 2 0 4294967295\nn 1\n", "answer 3 0 0 1 0");
+    begins("job 1 0 0 1\ne 2 0 4294967295\nn 1\n", "answer 15 0 0 1 0");
     bad("job 1 0 0 1\ne 2 0 4294967296\nn 1\n", 2);
     begins("job 1 0 0 1\ne 0 0\nn 4294967295\n", "answer 4 0 0 1 0");
     bad("job 1 0 0 1\ne 0 0\nn 4294967296\n", 3);

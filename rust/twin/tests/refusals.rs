@@ -54,8 +54,8 @@ fn table_lengths() {
 #[test]
 fn kinds_and_counts() {
     // A kind above 19 that nobody uses; the start is such an entry.
-    assert_eq!(with(&[(0, 16 * 20)]), (3, 0));
-    assert_eq!(with(&[(0, u32::MAX)]), (3, 0));
+    assert_eq!(with(&[(0, 16 * 20)]), (13, 0));
+    assert_eq!(with(&[(0, u32::MAX)]), (13, 0));
     // Too few and too many operands for each kind.
     let words = every_kind();
     for entry in 0..20 {
@@ -67,7 +67,7 @@ fn kinds_and_counts() {
                 continue;
             }
             let changed = with(&[(8 * entry, 16 * kind + other)]);
-            assert_eq!(changed, (3, entry as u32), "{} {}", entry, other);
+            assert_eq!(changed, (13, entry as u32), "{} {}", entry, other);
         }
     }
     // Six operands are taken, seven are not.
@@ -75,7 +75,7 @@ fn kinds_and_counts() {
     assert_eq!(check_table(&six), (0, 0));
     let mut seven = six.clone();
     seven[0] += 1;
-    assert_eq!(check_table(&seven), (3, 0));
+    assert_eq!(check_table(&seven), (13, 0));
 }
 
 #[test]
@@ -92,12 +92,12 @@ fn arguments() {
             assert_eq!(with(&[(8 * entry + 1, value)]), (0, 0));
         }
         for value in bad {
-            assert_eq!(with(&[(8 * entry + 1, value)]), (3, entry as u32));
+            assert_eq!(with(&[(8 * entry + 1, value)]), (14, entry as u32));
         }
     }
     // All others take none.
     for entry in [0, 1, 2, 3, 4, 5, 6, 9, 11, 12, 13, 14, 15, 16, 17] {
-        assert_eq!(with(&[(8 * entry + 1, 1)]), (3, entry as u32));
+        assert_eq!(with(&[(8 * entry + 1, 1)]), (14, entry as u32));
     }
 }
 
@@ -107,7 +107,7 @@ fn unused_words() {
     for entry in 0..20 {
         let count = (words[8 * entry] % 16) as usize;
         for word in 2 + count..8 {
-            assert_eq!(with(&[(8 * entry + word, 1)]), (3, entry as u32));
+            assert_eq!(with(&[(8 * entry + word, 1)]), (17, entry as u32));
         }
     }
 }
@@ -115,36 +115,94 @@ fn unused_words() {
 #[test]
 fn operands() {
     // Not above its own entry, or outside the table.
-    assert_eq!(with(&[(8 * 3 + 2, 3)]), (3, 3));
-    assert_eq!(with(&[(8 * 3 + 2, 2)]), (3, 3));
-    assert_eq!(with(&[(8 * 3 + 2, 20)]), (3, 3));
-    assert_eq!(with(&[(8 * 3 + 2, u32::MAX)]), (3, 3));
-    assert_eq!(with(&[(3, 0)]), (3, 0));
+    assert_eq!(with(&[(8 * 3 + 2, 3)]), (15, 3));
+    assert_eq!(with(&[(8 * 3 + 2, 2)]), (15, 3));
+    assert_eq!(with(&[(8 * 3 + 2, 20)]), (15, 3));
+    assert_eq!(with(&[(8 * 3 + 2, u32::MAX)]), (15, 3));
+    assert_eq!(with(&[(3, 0)]), (15, 0));
     // Of the other sort.
-    assert_eq!(with(&[(8 * 14 + 2, 16)]), (3, 14));
-    assert_eq!(with(&[(8 * 18 + 3, 18)]), (3, 18));
-    assert_eq!(with(&[(8 * 3 + 2, 19)]), (3, 3));
+    assert_eq!(with(&[(8 * 14 + 2, 16)]), (16, 14));
+    assert_eq!(with(&[(8 * 18 + 3, 18)]), (15, 18));
+    assert_eq!(with(&[(8 * 3 + 2, 19)]), (16, 3));
     // Of a kind above 19: the user is the lowest bad entry.
-    assert_eq!(with(&[(8 * 19, 16 * 20)]), (3, 15));
+    assert_eq!(with(&[(8 * 19, 16 * 20)]), (16, 15));
     // Of the right kind but bad otherwise: the operand itself is bad.
-    assert_eq!(with(&[(8 * 19 + 1, 32)]), (3, 19));
+    assert_eq!(with(&[(8 * 19 + 1, 32)]), (14, 19));
 }
 
 #[test]
 fn calls() {
     // A CALL may name any REC, itself never being one.
-    assert_eq!(with(&[(8 * 9 + 2, 6)]), (3, 9));
-    assert_eq!(with(&[(8 * 9 + 2, 9)]), (3, 9));
-    assert_eq!(with(&[(8 * 9 + 2, 20)]), (3, 9));
-    assert_eq!(with(&[(8 * 9 + 2, 18)]), (3, 9));
+    assert_eq!(with(&[(8 * 9 + 2, 6)]), (16, 9));
+    assert_eq!(with(&[(8 * 9 + 2, 9)]), (16, 9));
+    assert_eq!(with(&[(8 * 9 + 2, 20)]), (15, 9));
+    assert_eq!(with(&[(8 * 9 + 2, 18)]), (16, 9));
     // A CALL of a malformed REC is good; the REC is the bad entry.
     let mut words = table(&[(CALL, 0, &[1]), (REC, 0, &[2]), (ID, 0, &[])]);
     assert_eq!(check_table(&words), (0, 0));
     words[8 + 2] = 1;
-    assert_eq!(check_table(&words), (3, 1));
+    assert_eq!(check_table(&words), (15, 1));
     words[8 + 2] = 2;
     words[8] += 1;
-    assert_eq!(check_table(&words), (3, 1));
+    assert_eq!(check_table(&words), (13, 1));
+}
+
+#[test]
+fn the_first_fault_of_the_lowest_bad_entry() {
+    // Entry 8 is CONG 65,535 with three operands. It gets all five faults, and
+    // then loses them one by one in 02's order.
+    let mut words = every_kind();
+    let first = 8 * 8;
+    words[first] += 4;
+    words[first + 1] = 65_536;
+    words[first + 2] = 19;
+    words[first + 3] = 20;
+    words[first + 7] = 1;
+    assert_eq!(check_table(&words), (13, 8));
+    words[first] -= 4;
+    assert_eq!(check_table(&words), (14, 8));
+    words[first + 1] = 65_535;
+    // A wrong sort at the first place, an operand outside at the second.
+    assert_eq!(check_table(&words), (15, 8));
+    words[first + 3] = 12;
+    assert_eq!(check_table(&words), (16, 8));
+    words[first + 2] = 11;
+    assert_eq!(check_table(&words), (17, 8));
+    words[first + 7] = 0;
+    assert_eq!(check_table(&words), (0, 0));
+    // A lower entry decides, though its fault has a higher number.
+    words[first] += 4;
+    words[8 * 3 + 7] = 1;
+    assert_eq!(check_table(&words), (17, 3));
+    // An unknown kind has no other fault, whatever its words hold.
+    let unknown = [16 * 20 + 3, 7, 9, 9, 9, 9, 9, 9];
+    assert_eq!(check_table(&unknown), (13, 0));
+}
+
+#[test]
+fn each_fault_of_a_call() {
+    // Outside the table is 15; no REC is 16, itself included.
+    let call = |operand: u32| check_table(&table(&[(REC, 0, &[1]), (CALL, 0, &[operand])]));
+    assert_eq!(call(0), (0, 0));
+    assert_eq!(call(1), (16, 1));
+    assert_eq!(call(2), (15, 1));
+    assert_eq!(call(u32::MAX), (15, 1));
+    // A CALL of a kind above 19: the CALL is lower, and the fault is its own.
+    let mut words = table(&[(CALL, 0, &[1]), (REC, 0, &[2]), (ID, 0, &[])]);
+    words[8] = 16 * 20;
+    assert_eq!(check_table(&words), (16, 0));
+}
+
+#[test]
+fn three_is_never_given() {
+    // Every word of a table of every kind, with values around its limits.
+    let words = every_kind();
+    for word in 0..words.len() {
+        for value in [0, 1, 2, 7, 18, 19, 20, 32, 65_536, 16 * 20, u32::MAX] {
+            let (answer, _) = with(&[(word, value)]);
+            assert!(answer == 0 || (13..=17).contains(&answer));
+        }
+    }
 }
 
 #[test]
@@ -272,12 +330,24 @@ fn runs_refused_by_number_and_in_order() {
     input.store[8 + 1] = 1;
     input.store[8 + 2] = 1;
     refused(&input, 4, 1);
-    // 3 before 4.
+    // 13 to 17 before 4.
     input.table[8 * 19 + 1] = 32;
-    refused(&input, 3, 19);
+    refused(&input, 14, 19);
+    input.table[8 * 18 + 2] = 18;
+    refused(&input, 15, 18);
+    input.table[8 * 15 + 2] = 17;
+    refused(&input, 16, 15);
+    input.table[8 * 15 + 2] = 15;
+    refused(&input, 15, 15);
+    input.table[8 * 14 + 2] = 17;
+    refused(&input, 16, 14);
+    input.table[8 * 4 + 7] = 1;
+    refused(&input, 17, 4);
     input.table[8 * 3 + 2] = 1;
-    refused(&input, 3, 3);
-    // 2 before 3: each length, and the mark.
+    refused(&input, 15, 3);
+    input.table[0] += 1;
+    refused(&input, 13, 0);
+    // 2 before 13 to 17: each length, and the mark.
     refused(
         &Input {
             mark: 65,
@@ -311,16 +381,31 @@ fn free_variables_of_strategies() {
     assert_eq!(free_variables(&words, 10), (0, 0, 0));
     assert_eq!(free_variables(&words, 15), (0, 0, 1 << 31));
     assert_eq!(free_variables(&words, 16), (0, 0, 0));
-    // 2, 3 and 5, with mask 0.
+    // 2, 13 to 17 and 5, with mask 0.
     assert_eq!(free_variables(&[], 0), (2, 0, 0));
     assert_eq!(free_variables(&[0; 9], 0), (2, 0, 0));
     assert_eq!(free_variables(&words, 18), (5, 0, 0));
     assert_eq!(free_variables(&words, 19), (5, 0, 0));
     assert_eq!(free_variables(&words, 20), (5, 0, 0));
     assert_eq!(free_variables(&words, u32::MAX), (5, 0, 0));
-    let mut bad = words;
-    bad[8 * 4 + 7] = 1;
-    assert_eq!(free_variables(&bad, 20), (3, 4, 0));
+    for (word, value, answer, place) in [
+        (8 * 4, 16 * 20, 13, 4),
+        (8 * 4 + 1, 1, 14, 4),
+        (8 * 4 + 2, 4, 15, 4),
+        (8 * 4 + 2, 19, 16, 4),
+        (8 * 4 + 7, 1, 17, 4),
+    ] {
+        let mut bad = words.clone();
+        bad[word] = value;
+        // An entry of a kind above 19 makes its user, entry 1, the lowest.
+        let expected = if answer == 13 {
+            (16, 1, 0)
+        } else {
+            (answer, place, 0)
+        };
+        assert_eq!(free_variables(&bad, 20), expected);
+        assert_eq!(free_variables(&bad, 16), expected);
+    }
 }
 
 #[test]

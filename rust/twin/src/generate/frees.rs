@@ -1,6 +1,7 @@
 //! Questions of free variables: tables with cycles of REC and CALL, and scopes
 //! over them.
 
+use super::damage::damage_table;
 use super::runs::run_case;
 use crate::checks::{kind, sort_of, Sort, WIDTH};
 use crate::random::Random;
@@ -28,7 +29,7 @@ pub fn free_case(seed: u64, index: u64) -> FreeCase {
         }
     };
     case.label = format!("f{}", index);
-    if random.chance(18) {
+    if random.chance(25) {
         damage(&mut random, &mut case);
     }
     case
@@ -164,16 +165,6 @@ fn damage(random: &mut Random, case: &mut FreeCase) {
         4 if random.chance(10) => case.table.resize(32_776, 0),
         4 if random.chance(10) => case.table.resize(32_768, 0),
         4 if random.chance(30) => case.table.clear(),
-        _ if length > 0 => {
-            let word = random.below(length as u32) as usize;
-            case.table[word] = match random.below(5) {
-                0 => random.word(),
-                1 => case.table[word].wrapping_add(1),
-                2 => case.table[word].wrapping_sub(1),
-                3 => case.table[word] ^ (1 << random.below(32)),
-                _ => random.below(320),
-            };
-        }
-        _ => {}
+        _ => damage_table(random, &mut case.table),
     }
 }

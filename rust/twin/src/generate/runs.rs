@@ -1,5 +1,6 @@
 //! Inputs of a run: sound ones with tight limits, and damaged ones.
 
+use super::damage::{damage_table, entry_of, odd};
 use super::plans::{pool, Plan};
 use super::terms::Terms;
 use crate::checks::{kind, NO_UNITS, WIDTH};
@@ -382,106 +383,6 @@ fn deep_pattern(random: &mut Random) -> RunCase {
     case
 }
 
-/// Another value for a word.
-fn odd(random: &mut Random, old: u32) -> u32 {
-    match random.below(9) {
-        0 => random.word(),
-        1 => old.wrapping_add(1),
-        2 => old.wrapping_sub(1),
-        3 => old ^ (1 << random.below(32)),
-        4 => 0,
-        5 => u32::MAX,
-        6 => random.below(16),
-        7 => 65_535 + random.below(2),
-        _ => random.below(400),
-    }
-}
-
-/// The first word of a random entry; `None` where the table is empty.
-fn some_entry(random: &mut Random, case: &RunCase) -> Option<usize> {
-    let entries = (case.table.len() / WIDTH).min(60) as u32;
-    if entries == 0 {
-        return None;
-    }
-    Some(WIDTH * random.below(entries) as usize)
-}
-
-/// The first word of a random entry of some kind, if there is one.
-fn entry_of(random: &mut Random, case: &RunCase, wanted: &[u32]) -> Option<usize> {
-    let all: Vec<usize> = (0..(case.table.len() / WIDTH).min(60))
-        .map(|entry| WIDTH * entry)
-        .filter(|&first| wanted.contains(&(case.table[first] / 16)))
-        .collect();
-    if all.is_empty() {
-        return None;
-    }
-    Some(random.pick(&all))
-}
-
-/// Damages the table at one place.
-fn damage_table(random: &mut Random, case: &mut RunCase) {
-    let entries = (case.table.len() / WIDTH) as u32;
-    let way = random.below(12);
-    // A wanted kind first, so that kinds with few entries get their share.
-    let wanted = if way == 6 || way == 7 {
-        random.pick(&[kind::PATH, kind::PVAR, kind::CONG, kind::PCON, kind::ID])
-    } else {
-        random.below(20)
-    };
-    let chosen = if random.chance(60) {
-        let unary = [wanted, kind::ALL, kind::ONE, kind::SOME];
-        let kinds = if wanted == kind::PATH { 4 } else { 1 };
-        entry_of(random, case, &unary[..kinds])
-    } else {
-        None
-    };
-    let first = match chosen.or_else(|| some_entry(random, case)) {
-        None => return,
-        Some(first) => first,
-    };
-    let entry = (first / WIDTH) as u32;
-    let count = case.table[first] % 16;
-    let row = &mut case.table[first..first + WIDTH];
-    match way {
-        // A kind without a sort, or another kind.
-        0 => row[0] = 16 * random.within(20, 300) + count,
-        1 => row[0] = 16 * random.below(20) + count,
-        // A count that the kind does not take.
-        2 => row[0] = row[0] - count + random.below(16),
-        // An operand that is too low, too high or of some other sort.
-        3..=5 if count > 0 && count < 7 => {
-            let word = 2 + random.below(count) as usize;
-            row[word] = match random.below(6) {
-                0 => entry,
-                1 => entry.saturating_sub(1),
-                2 => entries,
-                3 => random.word(),
-                _ => random.below(entries),
-            };
-        }
-        // An argument at its limit or past it.
-        6 | 7 => {
-            if wanted == kind::PATH && (kind::ALL..=kind::SOME).contains(&(row[0] / 16)) {
-                row[0] = 16 * kind::PATH + count;
-            }
-            row[1] = match row[0] / 16 {
-                kind::PATH => random.pick(&[0, 0, 6, 7, 7]),
-                kind::PVAR => random.pick(&[31, 32, 33, u32::MAX]),
-                kind::CONG | kind::PCON => random.pick(&[65_535, 65_536, u32::MAX]),
-                kind::SCOPE => random.pick(&[0, u32::MAX, 1 << 31]),
-                _ => random.pick(&[1, 2, u32::MAX]),
-            }
-        }
-        // An unused word.
-        8 if count < 6 => row[2 + count as usize] = random.within(1, 3),
-        9 => row[7] = 1,
-        _ => {
-            let word = random.below(8) as usize;
-            row[word] = odd(random, row[word]);
-        }
-    }
-}
-
 /// Damages the store at one place.
 fn damage_store(random: &mut Random, case: &mut RunCase) {
     let nodes = (case.store.len() / WIDTH) as u32;
@@ -537,7 +438,7 @@ fn damage(random: &mut Random, case: &mut RunCase) {
     let nodes = (case.store.len() / WIDTH) as u32;
     let entries = (case.table.len() / WIDTH) as u32;
     match random.weighed(&[40, 28, 4, 4, 4, 6, 12, 10, 10, 5, 1]) {
-        0 => damage_table(random, case),
+        0 => damage_table(random, &mut case.table),
         1 => damage_store(random, case),
         2 => {
             let mut table = std::mem::take(&mut case.table);
@@ -567,7 +468,7 @@ fn damage(random: &mut Random, case: &mut RunCase) {
                 0 => entries,
                 1 => entries + random.below(10),
                 2 => random.word(),
-                _ => match entry_of(random, case, &[kind::PVAR, kind::PCON]) {
+                _ => match entry_of(random, &case.table, &[kind::PVAR, kind::PCON]) {
                     Some(first) => (first / WIDTH) as u32,
                     None => u32::MAX,
                 },

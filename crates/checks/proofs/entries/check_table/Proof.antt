@@ -1,4 +1,4 @@
--- `checks::entries::check_table` meets its contract: the length first, then the lowest bad entry. Assumes nothing.
+-- `checks::entries::check_table` meets its contract: the length first, then the fault of the lowest bad entry. Assumes nothing.
 use mathlib.Core.Path.{sym, _∙_}
 use lib.ListN.{length}
 use borrow.Author.Needs.{needs}
@@ -13,8 +13,8 @@ unfolding tableChecked
 returns c =
     rw (← c .before .table-length-fits .ensures, not-true (c .before .table-length-fits .result) (c .if1 .taken))
 
-lowest-bad-entry-requires : tie.Need-lowest-bad-entry-requires
-lowest-bad-entry-requires c κs =
+lowest-fault-requires : tie.Need-lowest-fault-requires
+lowest-fault-requires c κs =
     tableLengthFits-plain
     (length (c .before .before .before .args .table .now)) .0
     (sym (c .before .table-length-fits .ensures) ∙ not-false _ (c .if1 .left)) .most
@@ -23,14 +23,13 @@ returns-2 : tie.Need-returns-2
 unfolding tableChecked
 returns-2 c =
     rw (
-      ← c .before .before .before .table-length-fits .ensures,
-      not-false (c .before .before .before .table-length-fits .result) (c .before .before .if1 .left),
-      ← c .before .lowest-bad-entry .ensures,
+      ← c .before .before .table-length-fits .ensures,
+      not-false (c .before .before .table-length-fits .result) (c .before .if1 .left),
     )
-    (c .answered .ensures)
+    (c .lowest-fault .ensures)
 
 pub check-table-spec : {M : Type 1} → statement M
 check-table-spec =
     tie.close
     (tie.spec
-    (λ c κs. search needs) returns lowest-bad-entry-requires (λ c κs. search needs) returns-2)
+    (λ c κs. search needs) returns lowest-fault-requires returns-2)
