@@ -72,7 +72,8 @@ def write(folder, twin):
             theirs(twin)
     for name, part in (("stdin", 0), ("stdout", 1)):
         (folder / name).write_bytes(b"".join(case[part] for case in lend.cases))
-    print("%d cases" % len(lend.cases))
+    tags = [case[0][:1].decode() for case in lend.cases]
+    print("%d cases: %s" % (len(tags), ", ".join("%d %s" % (tags.count(t), t) for t in sorted(set(tags)))))
 
 
 def deeply(work):
