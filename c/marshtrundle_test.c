@@ -149,6 +149,60 @@ static void refusals(void)
     refused(MT_BAD_START, 0, 3, 3, "a subject at the mark");
 }
 
+/* The nodes 1 and 2 and the pair swapped: the node 5(0, 1), which nothing names, is gone. */
+static const uint32_t collected[32] = {1, 0, 0, 0, 0, 0, 0, 0, 2, 0, 0, 0, 0, 0, 0, 0, 5, 2, 1, 0, 0, 0, 0, 0};
+
+static void soiled(uint32_t *work)
+{
+    size_t i;
+    for (i = 0; i < 32; i++)
+        store[i] = after[i];
+    for (i = 0; i < 5; i++)
+        work[i] = 77;
+    bindings[0] = 0;
+    bindings[7] = 2;
+}
+
+static void collection(void)
+{
+    static const uint32_t zeros[32];
+    static const uint32_t dirty[5] = {77, 77, 77, 77, 77};
+    uint32_t work[5];
+    fresh();
+    soiled(work);
+    mt_collect(store, 32, bindings, 32, work, 5, 4, 3, numbers);
+    hold(numbers[0] == MT_DONE && numbers[1] == 0 && numbers[MT_SUBJECT] == 2 && numbers[MT_MARK] == 3, "collected");
+    hold(same(store, collected, 32), "collected: the store");
+    hold(bindings[7] == 2 && same(bindings, zeros, 7) && same(bindings + 8, zeros, 24), "collected: the bindings");
+    hold(same(work, zeros, 5), "collected: the work list");
+    soiled(work);
+    bindings[7] = 4;
+    mt_collect(store, 32, bindings, 32, work, 4, 4, 0, numbers);
+    hold(numbers[0] == MT_DONE && numbers[MT_SUBJECT] == 0 && numbers[MT_MARK] == 3 && bindings[7] == 3,
+         "collected from a binding");
+    hold(same(store, collected, 32) && same(work, zeros, 4) && work[4] == 77, "collected from a binding: the words");
+    soiled(work);
+    mt_collect(store, 32, bindings, 32, work, 3, 4, 3, numbers);
+    hold(numbers[0] == MT_BAD_SIZES && numbers[MT_SUBJECT] == 3 && numbers[MT_MARK] == 4, "a short work list");
+    mt_collect(store, 32, bindings, 31, work, 5, 4, 3, numbers);
+    hold(numbers[0] == MT_BAD_SIZES, "collected: bindings of 31 words");
+    mt_collect(store, 32, bindings, 32, work, 5, 5, 3, numbers);
+    hold(numbers[0] == MT_BAD_SIZES && numbers[MT_MARK] == 5, "collected: a mark above the store's nodes");
+    mt_collect(NULL, 0, NULL, 0, NULL, 0, 0, 0, numbers);
+    hold(numbers[0] == MT_BAD_SIZES, "collected: null everywhere");
+    mt_collect(NULL, 0, bindings, 32, NULL, 0, 0, 0, numbers);
+    hold(numbers[0] == MT_BAD_START, "collected: no nodes");
+    mt_collect(store, 32, bindings, 32, work, 5, 4, 4, numbers);
+    hold(numbers[0] == MT_BAD_START && numbers[MT_SUBJECT] == 4, "collected: a subject at the mark");
+    mt_collect(store, 32, bindings, 32, work, 5, 1, 0, numbers);
+    hold(numbers[0] == MT_BAD_START, "collected: a binding above the mark");
+    store[9] = 7;
+    mt_collect(store, 32, bindings, 32, work, 5, 4, 3, numbers);
+    hold(numbers[0] == MT_BAD_NODE && numbers[1] == 1, "collected: a bad node");
+    store[9] = 0;
+    hold(same(store, after, 32) && same(work, dirty, 5) && bindings[7] == 2, "a refused collection wrote something");
+}
+
 static void empty_slices(void)
 {
     static const uint32_t zeros[8];
@@ -184,6 +238,7 @@ int main(void)
 {
     the_job();
     refusals();
+    collection();
     empty_slices();
     if (wrong > 0 || held == 0)
         return 1;

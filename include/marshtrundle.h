@@ -7,7 +7,7 @@
  * Call the mt_ functions below. They take any words, any lengths and any numbers, and always give an answer.
  *
  * SLICES. A slice is a pointer and a number of 32-bit words, not of bytes. The pointer is aligned to 4 bytes and valid for
- * that many words. A null pointer is an empty slice. What is written (store, bindings, numbers) overlaps nothing else that
+ * that many words. A null pointer is an empty slice. What is written (store, bindings, work, numbers) overlaps nothing else that
  * is passed in the same call. The table is only read, and the checks only read.
  *
  * NUMBERS. `numbers` is where the answer goes. It is never null: it is aligned to 4 bytes and valid for writing as many words
@@ -17,6 +17,8 @@
  *
  * THREADS. There is no global state. Calls in several threads may run at the same time if none writes what another uses.
  * Several runs may share one table.
+ *
+ * THE WORK LIST of mt_collect. A word for each node of the store, or more. It may hold anything, and is zero afterwards.
  *
  * THE STACK. Give a thread that calls mt_run MT_STACK bytes (2 MiB). A run nests at most 4,096 visits, and each form of
  * visit takes its own number of bytes. The deepest, CONG, takes 1.9 MiB in all; in this is a copy of the table,
@@ -138,8 +140,8 @@ enum mt_answer {
 enum mt_number {
     MT_ANSWER = 0,  /* one of enum mt_answer */
     MT_PLACE = 1,   /* the bad entry in answers 13 to 17, the bad node in answer 4, and 0 otherwise */
-    MT_SUBJECT = 2, /* mt_run: the new subject in answer 0, and the given one otherwise */
-    MT_MARK = 3,    /* mt_run: the new mark in answer 0, and the given one otherwise */
+    MT_SUBJECT = 2, /* mt_run, mt_collect: the new subject in answer 0, and the given one otherwise */
+    MT_MARK = 3,    /* mt_run, mt_collect: the new mark in answer 0, and the given one otherwise */
     MT_UNITS = 4,   /* mt_run: the visits counted; 0 where nothing was run */
     MT_MASK = 2     /* mt_free_variables: the mask in answer 0, and 0 otherwise */
 };
@@ -148,6 +150,8 @@ enum mt_number {
 void marshtrundle_run(const uint32_t *table, size_t table_words, uint32_t *store, size_t store_words,
                       uint32_t *bindings, size_t bindings_words, uint32_t mark, uint32_t start, uint32_t subject,
                       uint32_t units, uint32_t numbers[5]);
+void marshtrundle_collect(uint32_t *store, size_t store_words, uint32_t *bindings, size_t bindings_words,
+                          uint32_t *work, size_t work_words, uint32_t mark, uint32_t subject, uint32_t numbers[4]);
 void marshtrundle_free_variables(const uint32_t *table, size_t table_words, uint32_t entry, uint32_t numbers[3]);
 void marshtrundle_check_table(const uint32_t *table, size_t words, uint32_t numbers[2]);
 void marshtrundle_check_store(const uint32_t *store, size_t words, uint32_t mark, uint32_t numbers[2]);
@@ -165,6 +169,22 @@ static inline void mt_run(const uint32_t *table, size_t table_words, uint32_t *s
     marshtrundle_run(table ? table : &none[0], table ? table_words : 0, store ? store : &none[1],
                      store ? store_words : 0, bindings ? bindings : &none[2], bindings ? bindings_words : 0, mark,
                      start, subject, units, numbers);
+}
+
+/*
+ * Gives room back between runs: keeps just the nodes reachable from the subject and the bound variables. They stand in their
+ * old order and are numbered from 0 without gaps; every store word from the new mark to the end is zero. The bindings get the
+ * new numbers. Any other node number from before names nothing any more. `work` has a word for each node of the store, or
+ * more, and is zero afterwards. `numbers` gets answer, place, subject and mark. The answers are 0, 2 (a length, the mark, or
+ * a work list that is too short), 4 and 5 (the subject or a binding); in 2, 4 and 5 nothing is written but the numbers.
+ */
+static inline void mt_collect(uint32_t *store, size_t store_words, uint32_t *bindings, size_t bindings_words,
+                              uint32_t *work, size_t work_words, uint32_t mark, uint32_t subject, uint32_t numbers[4])
+{
+    uint32_t none[3] = {0, 0, 0};
+    marshtrundle_collect(store ? store : &none[0], store ? store_words : 0, bindings ? bindings : &none[1],
+                         bindings ? bindings_words : 0, work ? work : &none[2], work ? work_words : 0, mark, subject,
+                         numbers);
 }
 
 /*

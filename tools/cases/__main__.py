@@ -1,6 +1,6 @@
 """cases DIR TWIN: writes DIR/stdin, the cases that the program vectors executes, and DIR/stdout, what it must write.
 
-The cases of checks.py, free.py, runs.py and jobs.py come with the answers of model.py. After those of a call stands a sample of
+The cases of checks.py, free.py, runs.py, collects.py and jobs.py come with the answers of model.py. After those of a call stands a sample of
 what the program TWIN of rust/twin generates, with its own answers; last the jobs of examples/, with the answers stored there.
 A further call has a module here with a function write, and a line in CALLS.
 """
@@ -12,6 +12,7 @@ import threading
 sys.dont_write_bytecode = True
 
 import checks
+import collects
 import free
 import jobs
 import lend
@@ -62,7 +63,7 @@ def job_sample(twin):
         lend.add("j", path.read_bytes(), jobs.framed(path.with_suffix(".answer").read_bytes()))
 
 
-CALLS = ((checks.write, None), (free.write, free_sample), (runs.write, run_sample), (jobs.write, job_sample))
+CALLS = ((checks.write, None), (free.write, free_sample), (runs.write, run_sample), (collects.write, None), (jobs.write, job_sample))
 
 
 def write(folder, twin):

@@ -1,5 +1,5 @@
 """A model of document 01, written from its text and sharing nothing with the crates: the two checks, the question of free
-variables, the run, and the job text. What the executed cases must answer comes from it.
+variables, the run, the collection (02), and the job text. What the executed cases must answer comes from it.
 """
 import re
 
@@ -298,6 +298,39 @@ def run(t, s, b, mark, start, subject, units):
         con, kids = r.nodes[k]
         clean[8 * k:8 * k + 2 + len(kids)] = [con, len(kids), *kids]
     return [0, 0, got[0], len(r.nodes), r.used], clean, [got[1].get(v, -1) + 1 for v in range(32)]
+
+
+# The collection.
+
+def reached(s, roots):
+    """The nodes that the roots reach."""
+    seen, rest = set(), list(roots)
+    while rest:
+        k = rest.pop()
+        if k not in seen:
+            seen.add(k)
+            rest += s[8 * k + 2:8 * k + 2 + s[8 * k + 1]]
+    return seen
+
+
+def collect(s, b, w, mark, subject):
+    """Answer, place, subject and mark, and the words of store, bindings and work list."""
+    given = [subject, mark, s, b, w]
+    if not store_fits(s, mark) or len(b) != 32 or len(w) < len(s) // 8:
+        return [2, 0, *given]
+    bad = bad_node(s, mark)
+    if bad != (0, 0):
+        return [*bad, *given]
+    if subject >= mark or any(x > mark for x in b):
+        return [5, 0, *given]
+    kept = sorted(reached(s, [subject] + [x - 1 for x in b if x]))
+    number = {k: n for n, k in enumerate(kept)}
+    words = []
+    for k in kept:
+        con, count, *rest = s[8 * k:8 * k + 8]
+        words += [con, count, *[number[c] for c in rest[:count]], *[0] * (6 - count)]
+    words += [0] * (len(s) - len(words))
+    return [0, 0, number[subject], len(kept), words, [number[x - 1] + 1 if x else 0 for x in b], [0] * len(w)]
 
 
 # The job: the job of a text, and the text of an answer.

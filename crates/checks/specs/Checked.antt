@@ -4,8 +4,8 @@ use mathlib.Core.Option.{Option, none, some}
 use mathlib.Core.List.{List}
 use Prim.Native.Nat.{ℕ, _%_}
 use lib.Dec.{leb, ltb, eqb}
-use lib.ListN.{length}
-use Rattle.words.specs.Tests.{if_then_else_, rejected}
+use lib.ListN.{length, getD}
+use Rattle.words.specs.Tests.{if_then_else_, every, rejected}
 use Rattle.words.specs.Words.{rows}
 use Rattle.checks.specs.Good.{fault, goodEntry, goodNode}
 use Rattle.checks.specs.declared.Checked.{Checked}
@@ -46,3 +46,7 @@ tableChecked t = if tableLengthFits (length t) then faulted t (rejected (goodEnt
 -- the store check: 2 for a bad length or a mark above the store's nodes, 4 with the lowest bad node below the mark
 unfoldable pub storeChecked : List ℕ → ℕ → Checked
 storeChecked s mark = if storeLengthFits (length s) && leb mark (rows s) then found 4 (rejected (goodNode s) 0 mark) else checked 2 0
+
+-- no binding's word exceeds the mark
+unfoldable pub boundBelow : List ℕ → ℕ → Bool
+boundBelow b mark = every (λ v. leb (getD b v 0) mark) 0 (length b)

@@ -3,6 +3,7 @@
 ghost use mathlib.Core.Path.{_≡_};
 ghost use Rattle.checks.specs.Checked.{found, placeOf};
 
+pub mod bindings;
 pub mod entries;
 pub mod kinds;
 pub mod nodes;

@@ -36,6 +36,9 @@ use Rattle.meaning.proofs.Checked.{Filled, node-of-good}
 use Rattle.meaning.proofs.Words.{kept-refl, kept-trans, kept-term}
 use Rattle.meaning.proofs.Demands as meant-demands
 use Rattle.meaning.proofs.Bits.{has-nothing}
+use Rattle.meaning.specs.Lower.{Again}
+use Rattle.collect.specs.Promises.{after}
+use Rattle.collect.proofs.Promises as collect-promises
 use Rattle.free.specs.declared.FreeVariables.{FreeVariables}
 use Rattle.free.specs.Answered.{Answered}
 use Rattle.free.proofs.Smallest.{below-32}
@@ -446,3 +449,23 @@ demand-3 i x y e f start given π ρ q q′ o o′ s s′ b b′ h z m h′ z′
     (meant-demands.demand-3-runs (Unit {0}) quiet tt i start given a a′
     (meant-demands.demand-3 T x y e f (i .start) start π ρ t c _ _ (closed-by (i .table) x q h z m) (closed-by (i .table) y q′ h′ z′ m′)
     at at′ n n′ first second (first-of T (i .start) e f t c first d r .1) (first-of T start f e t c second d′ r′ .1)))))
+
+-- ---- a run after a collection
+
+-- what comes back of two runs with the same units, where the second says what the first says
+again : (i j : Input) (x y : Returned) (r r′ : Ended) → j .units ≡ i .units → Told i x r → Told j y r′ → Again r r′ → x .answer ≤ 1
+    → (y .answer ≡ x .answer) × (y .units ≡ x .units)
+    × (x .answer ≡ 0 → (term (y .store) (y .subject) ≡ term (x .store) (x .subject)) × (meant (y .store) (bindings (y .bindings)) ≡ meant (x .store) (bindings (x .bindings))))
+again i j x y (ended t c m u) r′ e h k (m′, g) l =
+    let z : Told j y (ended t c (counted-at m′ tt) u) = subst (Told j y) g k in
+    (z .0 ∙ sym (h .0), omega (arith, z .4, h .4, e), λ n. (z .1 ∙ sym (h .1), z .2 ∙ sym (h .2)))
+again i j x y (lost w u) r′ e h k g l =
+    let z : Told j y (lost w u) = subst (Told j y) g k in
+    (z .0 ∙ sym (h .0), omega (arith, z .1, h .1, e), λ n. absurd (omega (arith, h .0, n)))
+again i j x y (cut c w u) r′ e h k g l = absurd (omega (arith, h .0, number-above c))
+
+pub runs-again : promises.Runs-again
+runs-again i w r o o′ s s′ b b′ a l e p p′ h =
+    let x = collect-promises.runs-again (Unit {0}) quiet tt i w r a l e in
+    again i (after i r) (atReturn o s b) (atReturn o′ s′ b′) (value (ran quiet tt i)) (value (ran quiet tt (after i r))) refl
+    (came-told i a o s b p) (came-told (after i r) (x .0) o′ s′ b′ p′) (x .1) h

@@ -3,6 +3,7 @@ use mathlib.Core.List.{List}
 use Prim.Native.Nat.{ℕ}
 use lib.ListN.{getD}
 use Rattle.checks.specs.declared.Checked.{Checked}
+use Rattle.collect.specs.declared.Collected.{Collected}
 use Rattle.free.specs.declared.FreeVariables.{FreeVariables}
 use Rattle.marshtrundle.specs.declared.running.Outcome.{Outcome}
 
@@ -13,6 +14,10 @@ two w = record { answer = getD w 0 0; place = getD w 1 0 }
 -- answer, place and mask
 abbrev pub three : List ℕ → FreeVariables
 three w = record { answer = getD w 0 0; place = getD w 1 0; mask = getD w 2 0 }
+
+-- answer, place, subject and mark
+abbrev pub four : List ℕ → Collected
+four w = record { answer = getD w 0 0; place = getD w 1 0; subject = getD w 2 0; mark = getD w 3 0 }
 
 -- answer, place, subject, mark and units used
 abbrev pub five : List ℕ → Outcome

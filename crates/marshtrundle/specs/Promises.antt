@@ -22,6 +22,8 @@ use Rattle.meaning.specs.Store.{Input, Accepted, term, meant, bindings, Kept}
 use Rattle.meaning.specs.Answer.{Returned, number}
 use Rattle.meaning.specs.Small.{Case, cases}
 use Rattle.meaning.specs.Demands.{Says, limits, startVisit, At, Encloses, Agreed, started}
+use Rattle.collect.specs.Collected.{Afterwards}
+use Rattle.collect.specs.Promises.{Collects, lentBy, after}
 use Rattle.free.specs.declared.FreeVariables.{FreeVariables}
 use Rattle.free.specs.Answered.{Answered}
 use Rattle.marshtrundle.specs.Refused.{refused}
@@ -174,6 +176,15 @@ Demand-3 =
     → table (i .table) ∶ i .start is SEQ e f → table (i .table) ∶ start is SEQ f e
     → Accepted i → Accepted (started i start units) → Runs i o s b → Runs (started i start units) o′ s′ b′
     → (r r′ : Ended) → Told i (atReturn o s b) r → Told (started i start units) (atReturn o′ s′ b′) r′ → Agreed r r′
+
+-- Wish 7: a run done before a collection gives an equal term and equal bindings after it, one that failed fails, and both use the
+-- same units.
+abbrev pub Runs-again : Type 0
+Runs-again =
+    (i : Input) (w : List ℕ) (r : Afterwards) (o o′ : Outcome) (s s′ b b′ : List ℕ)
+    → Accepted i → rows (i .store) ≤ length w → Collects (lentBy i w) r → Runs i o s b → Runs (after i r) o′ s′ b′ → o .answer ≤ 1
+    → (o′ .answer ≡ o .answer) × (o′ .units ≡ o .units)
+    × (o .answer ≡ 0 → (term s′ (o′ .subject) ≡ term s (o .subject)) × (meant s′ (bindings b′) ≡ meant s (bindings b)))
 
 -- The small runs: each gives, of what `run` is handed, what its line says, every number and every word.
 abbrev pub Small-runs-of-run : Type 0

@@ -4,22 +4,19 @@ use mathlib.Core.Bool.{Bool, _&&_}
 use mathlib.Core.List.{List}
 use Prim.Native.Nat.{ℕ}
 use lib.Dec.{leb, ltb, eqb}
-use lib.ListN.{length, getD}
+use lib.ListN.{length}
 use Rattle.words.specs.Words.{rows}
-use Rattle.words.specs.Tests.{if_then_else_, every}
+use Rattle.words.specs.Tests.{if_then_else_}
 use Rattle.checks.specs.Kinds.{sortOf, same, variables}
 use Rattle.checks.specs.Good.{kindOf}
-use Rattle.checks.specs.Checked.{checked, tableLengthFits, storeLengthFits, tableChecked, storeChecked}
+use Rattle.checks.specs.Checked.{checked, tableLengthFits, storeLengthFits, tableChecked, storeChecked, boundBelow}
+unfoldable pub use Rattle.checks.specs.Checked.{boundBelow}
 use Rattle.checks.specs.declared.Checked.{Checked}
 use Rattle.checks.specs.declared.kinds.Sort.the-variants.{Strategy}
 
 -- the table, the store and the bindings have lengths of theirs, and the mark is at most the store's nodes
 unfoldable pub sizesFit : List ℕ → List ℕ → List ℕ → ℕ → Bool
 sizesFit t s b mark = tableLengthFits (length t) && (storeLengthFits (length s) && (eqb (length b) variables && leb mark (rows s)))
-
--- no binding's word exceeds the mark
-unfoldable pub boundBelow : List ℕ → ℕ → Bool
-boundBelow b mark = every (λ v. leb (getD b v 0) mark) 0 (length b)
 
 -- the start is in the table and a strategy, the subject is below the mark, and no binding exceeds it
 unfoldable pub startFits : List ℕ → List ℕ → ℕ → ℕ → ℕ → Bool

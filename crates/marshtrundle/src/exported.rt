@@ -3,12 +3,14 @@
 use crate::running::run;
 use checks::entries::check_table;
 use checks::nodes::check_store;
+use collect::collect;
 use free::free_variables;
 ghost use mathlib.Core.Path.{_≡_};
 ghost use Rattle.checks.specs.Checked.{tableChecked, storeChecked};
+ghost use Rattle.collect.specs.Collected.{lent, atEnd, collectedOf};
 ghost use Rattle.free.specs.Answered.{Answered};
 ghost use Rattle.marshtrundle.specs.Run.{input, atReturn, runOf};
-ghost use Rattle.marshtrundle.specs.Exported.{two, three, five};
+ghost use Rattle.marshtrundle.specs.Exported.{two, three, four, five};
 
 // The run: answer, place, subject, mark and units used.
 #[no_mangle]
@@ -26,6 +28,23 @@ pub extern "C" fn marshtrundle_run(
 {
     let r = run(table, store, bindings, mark, start, subject, units);
     *numbers = [r.answer, r.place, r.subject, r.mark, r.units];
+}
+
+// The collection: answer, place, subject and mark.
+#[no_mangle]
+pub extern "C" fn marshtrundle_collect(
+    store: &mut [u32],
+    bindings: &mut [u32],
+    work: &mut [u32],
+    mark: u32,
+    subject: u32,
+    numbers: &mut [u32; 4],
+)
+    ensures { λ _. ⌜ atEnd (four (now (numbers .exit))) (now (store .exit)) (now (bindings .exit)) (now (work .exit))
+        ≡ collectedOf (lent (now (store .entry)) (now (bindings .entry)) (now (work .entry)) mark subject) ⌝ }
+{
+    let r = collect(store, bindings, work, mark, subject);
+    *numbers = [r.answer, r.place, r.subject, r.mark];
 }
 
 // The question of free variables: answer, place and mask.

@@ -1,5 +1,6 @@
 // What a run refuses, in document 01's order: 2, 13 to 17, 4, 5. Nothing is written here.
 use checks::Checked;
+use checks::bindings::bindings_below;
 use checks::entries::check_table;
 use checks::entries::kind_of;
 use checks::entries::table_length_fits;
@@ -8,7 +9,7 @@ use checks::kinds::sort_of;
 use checks::nodes::check_store;
 use checks::nodes::store_length_fits;
 ghost use mathlib.Core.Path.{_≡_};
-ghost use Rattle.marshtrundle.specs.Refused.{sizesFit, boundBelow, startFits, refused};
+ghost use Rattle.marshtrundle.specs.Refused.{sizesFit, startFits, refused};
 
 // The lengths, and the mark within the store.
 fn sizes_fit(table: &[u32], store: &[u32], bindings: &[u32], mark: u32) -> bool
@@ -24,20 +25,6 @@ fn sizes_fit(table: &[u32], store: &[u32], bindings: &[u32], mark: u32) -> bool
         return false;
     }
     mark as usize <= store.len() / 8
-}
-
-// No binding's word exceeds the mark.
-fn bindings_below(bindings: &[u32], mark: u32) -> bool
-    ensures { λ r. ⌜ r ≡ boundBelow (now (bindings .entry)) mark ⌝ }
-{
-    let mut v: usize = 0;
-    while v < bindings.len() {
-        if mark < bindings[v] {
-            return false;
-        }
-        v += 1;
-    }
-    true
 }
 
 // The start is a strategy of the table, the subject lies below the mark, and so do the bindings.

@@ -18,6 +18,7 @@ pub mod Free
 pub mod Places
 pub mod Orders
 pub mod Demands
+pub mod Lower
 pub mod Twenty
 pub mod Small
 pub mod Ours

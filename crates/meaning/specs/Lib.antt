@@ -15,5 +15,6 @@ pub mod Store
 pub mod Answer
 pub mod Free
 pub mod Demands
+pub mod Lower
 pub mod Small
 pub mod Ours

@@ -3,10 +3,12 @@ use crate::memory::Given;
 use crate::memory::heads;
 use crate::memory::make;
 use crate::show::show_checked;
+use crate::show::show_collected;
 use crate::show::show_free;
 use crate::show::show_run;
 use checks::entries::check_table;
 use checks::nodes::check_store;
+use collect::collect;
 use free::free_variables;
 use libc::STDOUT_FILENO;
 use marshtrundle::running::run;
@@ -14,7 +16,7 @@ use whole_job::answer_job;
 use words::clear_from;
 
 // Makes the call of a tag on the words lent, and prints what it gives back: whether the tag has a call.
-fn call(tag: u8, given: Given, table: &[u32], store: &mut [u32], bindings: &mut [u32]) -> bool {
+fn call(tag: u8, given: Given, table: &mut [u32], store: &mut [u32], bindings: &mut [u32]) -> bool {
     let n = given.words;
     if tag == b't' {
         show_checked(check_table(table));
@@ -31,6 +33,11 @@ fn call(tag: u8, given: Given, table: &[u32], store: &mut [u32], bindings: &mut 
     if tag == b'r' {
         let r = run(table, store, bindings, n[3], n[4], n[5], n[6]);
         show_run(r, store, bindings);
+        return true;
+    }
+    if tag == b'c' {
+        let r = collect(store, bindings, table, n[3], n[5]);
+        show_collected(r, store, bindings, table);
         return true;
     }
     false

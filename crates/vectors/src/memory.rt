@@ -10,7 +10,7 @@
 //     8  entries 2 and 3, 4 and 5 and so on are each a REC and its body, a CALL of the REC before
 //
 // Where HEAD is not 0, each entry but the last is HEAD, ARGUMENT, the next entry, SECOND. Then each WORD of SLICE (0 table,
-// 1 store, 2 bindings) is set to its VALUE.
+// 1 store, 2 bindings) is set to its VALUE. A collection takes no table: its work list is lent in the table's place.
 ghost use Prim.Native.Nat.{_+_, _*_, _≤_};
 ghost use lib.ListN.{length};
 use crate::text::number;

@@ -1,6 +1,7 @@
 // What a call gave back, as text.
 ghost use Prim.Native.Nat.{_<_};
 use checks::Checked;
+use collect::Collected;
 use free::FreeVariables;
 use libc::STDOUT_FILENO;
 use marshtrundle::running::Outcome;
@@ -71,6 +72,17 @@ pub fn show_free(r: FreeVariables) {
     show_number(r.answer as u64);
     show_number(r.place as u64);
     show_number(r.mask as u64);
+}
+
+// Prints what a collection returns, and the memory that it leaves, the work list last.
+pub fn show_collected(r: Collected, store: &[u32], bindings: &[u32], work: &[u32]) {
+    show_number(r.answer as u64);
+    show_number(r.place as u64);
+    show_number(r.subject as u64);
+    show_number(r.mark as u64);
+    show_memory(store, bindings);
+    io::write_all(STDOUT_FILENO, b" :");
+    show_words(work);
 }
 
 // Prints what a run returns, and the memory that it leaves.

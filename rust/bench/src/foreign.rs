@@ -20,6 +20,17 @@ extern "C" {
         units: u32,
         numbers: *mut u32,
     );
+    fn marshtrundle_collect(
+        store: *mut u32,
+        store_words: usize,
+        bindings: *mut u32,
+        bindings_words: usize,
+        work: *mut u32,
+        work_words: usize,
+        mark: u32,
+        subject: u32,
+        numbers: *mut u32,
+    );
     fn marshtrundle_free_variables(
         table: *const u32,
         table_words: usize,
@@ -60,6 +71,33 @@ pub fn run(
             start,
             subject,
             units,
+            numbers.as_mut_ptr(),
+        );
+    }
+    numbers
+}
+
+/// The collection: answer, place, subject and mark.
+pub fn collect(
+    store: &mut [u32],
+    bindings: &mut [u32],
+    work: &mut [u32],
+    mark: u32,
+    subject: u32,
+) -> [u32; 4] {
+    let mut numbers = [0; 4];
+    // The three slices are borrowed alone for the call; `numbers` is a local of
+    // four words.
+    unsafe {
+        marshtrundle_collect(
+            store.as_mut_ptr(),
+            store.len(),
+            bindings.as_mut_ptr(),
+            bindings.len(),
+            work.as_mut_ptr(),
+            work.len(),
+            mark,
+            subject,
             numbers.as_mut_ptr(),
         );
     }

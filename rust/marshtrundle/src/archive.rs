@@ -1,4 +1,4 @@
-//! The four functions of the archive, as safe functions over slices of words. This is the only module with `unsafe` in it.
+//! The five functions of the archive, as safe functions over slices of words. This is the only module with `unsafe` in it.
 //!
 //! The archive asks one thing of its caller: each pointer is aligned and valid for its words, and what is lent for writing
 //! overlaps nothing else. Rust's references give this, empty slices too. So every word and every number is allowed here.
@@ -15,6 +15,17 @@ extern "C" {
         start: u32,
         subject: u32,
         units: u32,
+        numbers: *mut u32,
+    );
+    fn marshtrundle_collect(
+        store: *mut u32,
+        store_words: usize,
+        bindings: *mut u32,
+        bindings_words: usize,
+        work: *mut u32,
+        work_words: usize,
+        mark: u32,
+        subject: u32,
         numbers: *mut u32,
     );
     fn marshtrundle_free_variables(
@@ -54,6 +65,33 @@ pub fn run(
             start,
             subject,
             units,
+            numbers.as_mut_ptr(),
+        );
+    }
+    numbers
+}
+
+/// The collection: answer, place, subject and mark. The work list has a word for each node of the store, or more. Where the
+/// answer is 0 it is zero afterwards.
+pub fn collect(
+    store: &mut [u32],
+    bindings: &mut [u32],
+    work: &mut [u32],
+    mark: u32,
+    subject: u32,
+) -> [u32; 4] {
+    let mut numbers = [0; 4];
+    // SAFETY: as in `run`. The three slices are mutable references, and `numbers` has the four words that are written.
+    unsafe {
+        marshtrundle_collect(
+            store.as_mut_ptr(),
+            store.len(),
+            bindings.as_mut_ptr(),
+            bindings.len(),
+            work.as_mut_ptr(),
+            work.len(),
+            mark,
+            subject,
             numbers.as_mut_ptr(),
         );
     }

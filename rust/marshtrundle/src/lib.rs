@@ -103,10 +103,10 @@
 //! - [`strategy`] has a function for each operator. Strategies and patterns are values.
 //! - [`Table`] is laid out from one strategy, and [`TableBuilder`] makes one of several with names.
 //! - [`Store`] holds terms, eight words to a node. [`Store::node`] makes a node, [`Store::room`] makes room for a run,
-//!   [`Store::term`] reads a term back.
+//!   [`Store::term`] reads a term back, [`Store::collect`] gives room back between runs.
 //! - [`Bindings`] says what each of the 32 variables is bound to.
 //! - [`run`] runs, [`free_variables`] answers which variables a strategy leaves free.
-//! - [`words`] has the library's four functions over plain slices of words.
+//! - [`words`] has the library's five functions over plain slices of words.
 //!
 //! # What is promised
 //!
@@ -147,7 +147,7 @@ pub use table::{Entry, Table, TableBuilder};
 #[doc = include_str!("../README.md")]
 mod readme {}
 
-/// The library's four functions over plain slices of words, for callers that keep their own tables and stores.
+/// The library's five functions over plain slices of words, for callers that keep their own tables and stores.
 ///
 /// They take any words of any length, and give the numbers of document 01 back.
 ///
@@ -157,7 +157,7 @@ mod readme {}
 /// assert_eq!(words::run(&[0; 8], &mut [0; 8], &mut [0; 32], 1, 0, 0, 1), [0, 0, 0, 1, 1]);
 /// ```
 pub mod words {
-    pub use crate::archive::{check_store, check_table, free_variables, run};
+    pub use crate::archive::{check_store, check_table, collect, free_variables, run};
 }
 
 /// The stack in bytes that is enough for every run: 2 MiB.

@@ -1,6 +1,7 @@
 //! The store of terms: making nodes, making room, and reading terms back.
 use crate::answer::{Answer, BuildError};
 use crate::archive;
+use crate::bindings::Bindings;
 use crate::NODES;
 use std::collections::{BTreeSet, HashMap};
 use std::fmt;
@@ -121,6 +122,40 @@ impl Store {
     /// The store check: every node below the mark has its form. This is what a run asks first.
     pub fn check(&self) -> Result<(), Answer> {
         Answer::checked(archive::check_store(&self.words, self.mark))
+    }
+
+    /// Gives room back between runs. Just the nodes reachable from `subject` and from the bindings stay, in their old order
+    /// and numbered from 0. The bindings get the new numbers, and the subject's new node comes back. Both name terms equal
+    /// to those before. Any other [`Node`] from before names nothing any more.
+    ///
+    /// Where something is wrong nothing changes. The answer is then [`Answer::RefusedSizes`], [`Answer::BadNode`] or
+    /// [`Answer::BadStart`].
+    ///
+    /// ```
+    /// # fn main() -> Result<(), Box<dyn std::error::Error>> {
+    /// use marshtrundle::{Bindings, Store};
+    /// let mut store = Store::new();
+    /// let one = store.node(1, &[])?;
+    /// let old = store.node(4, &[one])?;
+    /// let new = store.node(5, &[one, one])?;
+    /// let new = store.collect(&mut Bindings::new(), new)?;
+    /// assert_eq!((old.number(), new.number(), store.mark()), (1, 1, 2));
+    /// assert_eq!(store.term(new).unwrap().to_string(), "5(1, 1)");
+    /// # Ok(())
+    /// # }
+    /// ```
+    pub fn collect(&mut self, bindings: &mut Bindings, subject: Node) -> Result<Node, Answer> {
+        let mut work = vec![0; self.capacity()];
+        let [answer, place, subject, mark] = archive::collect(
+            &mut self.words,
+            bindings.words_mut(),
+            &mut work,
+            self.mark,
+            subject.0,
+        );
+        Answer::checked([answer, place])?;
+        self.mark = mark;
+        Ok(Node(subject))
     }
 
     /// The term at a node below the mark.

@@ -5,8 +5,9 @@
 //! Each piece quotes the sentence of 01 or 02 that it carries out.
 //!
 //! The files in reading order: `checks` (the table check, the store check),
-//! `free` (free variables), `engine` (the run), `job` (the job program), then
-//! `text` (cases as lines), `random`, `generate` and `statistics`.
+//! `free` (free variables), `engine` (the run), `collect` (the collection), `job`
+//! (the job program), then `text` (cases as lines), `random`, `generate` and
+//! `statistics`.
 //!
 //! A run may go 4,096 visits deep, and each visit is a call. So runs belong on
 //! a thread with a big stack: see [`with_big_stack`].
@@ -15,6 +16,7 @@
 #![warn(missing_docs)]
 
 pub mod checks;
+pub mod collect;
 pub mod engine;
 pub mod free;
 pub mod generate;
@@ -24,6 +26,7 @@ pub mod statistics;
 pub mod text;
 
 pub use checks::{check_store, check_table};
+pub use collect::{collect, Collected};
 pub use engine::{run, Outcome};
 pub use free::free_variables;
 pub use job::job;

@@ -2,8 +2,10 @@
 //! COUNT questions of free variables for each seed from FIRST to LAST. Each run
 //! goes through the proved engine, the plain one and the optimised one, and the
 //! five numbers, every word of the store and every word of the bindings are
-//! compared; so are the two checks of its words. The questions go through the
-//! proved function and the plain one. It ends with 1 where two of them differ,
+//! compared; so are the two checks of its words. What is handed to a run and what
+//! it leaves is collected by the proved function and by the plain one, and the
+//! four numbers and every word of store, bindings and work list are compared. The
+//! questions go through the proved function and the plain one. It ends with 1 where two of them differ,
 //! and with 2 where the words leave nothing to compare.
 
 #![forbid(unsafe_code)]
@@ -38,20 +40,72 @@ fn run_agrees(case: &RunCase) -> bool {
     answers.all(|other| other == proved)
 }
 
+/// A work list for a store: as long as its nodes, a word shorter or some longer,
+/// and full of rubbish or not.
+fn work_list(store: &[u32], index: u64) -> Vec<u32> {
+    let nodes = store.len() / 8;
+    let words = match index % 8 {
+        0 => nodes.saturating_sub(1),
+        1 => nodes + 5,
+        _ => nodes,
+    };
+    vec![[0, 1, u32::MAX][index as usize % 3]; words]
+}
+
+/// Whether the proved function and the plain one agree on a collection.
+fn collection_agrees(case: &RunCase, index: u64) -> bool {
+    let lent = (
+        case.store.clone(),
+        case.bindings.clone(),
+        work_list(&case.store, index),
+    );
+    let mut proved = lent.clone();
+    let (store, bindings, work) = (&mut proved.0, &mut proved.1, &mut proved.2);
+    let numbers = foreign::collect(store, bindings, work, case.mark, case.subject);
+    let mut plain = lent;
+    let (store, bindings, work) = (&mut plain.0, &mut plain.1, &mut plain.2);
+    let end = twin::collect(store, bindings, case.mark, case.subject, work);
+    numbers == [end.answer, end.place, end.subject, end.mark] && proved == plain
+}
+
+/// The case as the plain engine leaves it, with the new subject and mark.
+fn after_run(case: &RunCase) -> RunCase {
+    let mut after = case.clone();
+    let end = twin::run(
+        &case.table,
+        &mut after.store,
+        &mut after.bindings,
+        case.mark,
+        case.start,
+        case.subject,
+        case.units,
+    );
+    after.subject = end.subject;
+    after.mark = end.mark;
+    after
+}
+
 /// Whether the proved function and the plain one agree on a question.
 fn question_agrees(case: &FreeCase) -> bool {
     let (answer, place, mask) = twin::free_variables(&case.table, case.entry);
     foreign::free_variables(&case.table, case.entry) == [answer, place, mask]
 }
 
-/// Compares all; gives the number of runs and questions that differ.
+/// Compares all; gives the number of runs, collections and questions that differ.
 fn compare(first: u64, last: u64, count: u64) -> u64 {
     let mut differ = 0;
     for seed in first..=last {
         for index in 0..count {
-            if !run_agrees(&run_case(seed, index)) {
+            let case = run_case(seed, index);
+            if !run_agrees(&case) {
                 println!("run {} of seed {} differs", index, seed);
                 differ += 1;
+            }
+            for given in [&case, &after_run(&case)] {
+                if !collection_agrees(given, index) {
+                    println!("a collection of run {} of seed {} differs", index, seed);
+                    differ += 1;
+                }
             }
             if !question_agrees(&free_case(seed, index)) {
                 println!("question {} of seed {} differs", index, seed);
@@ -74,8 +128,11 @@ fn main() -> ExitCode {
     let differ = twin::with_big_stack(move || compare(first, last, count));
     let each = (last - first + 1) * count;
     println!(
-        "{} runs and {} questions compared, {} differ",
-        each, each, differ
+        "{} runs, {} collections and {} questions compared, {} differ",
+        each,
+        2 * each,
+        each,
+        differ
     );
     ExitCode::from(u8::from(differ > 0))
 }

@@ -17,7 +17,7 @@ use Rattle.marshtrundle.proofs.refusals.start_fits.Reads as reads
 use Rattle.marshtrundle.proofs.refusals.start_fits.Lts as lts
 use Rattle.checks.proofs.entries.kind_of.Reads as kind-of-reads
 use Rattle.checks.proofs.kinds.sort_of.Reads as sort-of-reads
-use Rattle.marshtrundle.proofs.refusals.bindings_below.Reads as bindings-below-reads
+use Rattle.checks.proofs.bindings.bindings_below.Reads as bindings-below-reads
 
 -- A sort that is not the first is not Strategy.
 unlike : (s : Sort) → (tagOf the-type s ≡ 1) ⊎ (tagOf the-type s ≡ 2) → same s Strategy ≡ false

@@ -1,4 +1,4 @@
--- `marshtrundle::refusals::bindings_below` meets its contract. The loop's invariant: the words from v on decide.
+-- `checks::bindings::bindings_below` meets its contract. The loop's invariant: the words from v on decide.
 -- Assumes nothing.
 use mathlib.Core.Path.{_≡_}
 use Prim.Native.Nat.{_-_, _≤_}
@@ -9,9 +9,9 @@ use lib.ListN.{length, getD}
 use borrow.Author.Tests.{le-leb, lt-leb}
 use Rattle.words.specs.Tests.{every}
 use Rattle.words.proofs.Tests.{every-turn, every-stop, every-end}
-use Rattle.marshtrundle.specs.Refused.{boundBelow}
-use Rattle.marshtrundle.proofs.refusals.bindings_below.Statement.{statement}
-use Rattle.marshtrundle.proofs.refusals.bindings_below.Tie as tie
+use Rattle.checks.specs.Checked.{boundBelow}
+use Rattle.checks.proofs.bindings.bindings_below.Statement.{statement}
+use Rattle.checks.proofs.bindings.bindings_below.Tie as tie
 
 abbrev Inv-loop : tie.InvT-loop
 Inv-loop bindings mark v₀ v =
