@@ -1,4 +1,5 @@
 """The cases of the run. S1 to S12 are held to the answers that 01 prints."""
+import itertools
 import random
 
 from lend import add, lend, memory, rows_of, say
@@ -405,6 +406,25 @@ def random_jobs():
     assert not any(wanted.values()), wanted
 
 
+def value(words, k):
+    """The term of node k: its constructor and its children."""
+    return (words[8 * k], tuple(value(words, c) for c in words[8 * k + 2:8 * k + 2 + words[8 * k + 1]]))
+
+
+def orderings():
+    """Three closed strategies at three places, none inside another, in all six orders: one outcome (wish 11)."""
+    store = [[1], [2], [5, 2, 0, 1], [5, 2, 1, 0], [6, 1, 2], [7, 3, 2, 3, 4]]
+    flip = [[row[0], row[1], *(6 + x for x in row[2:])] for row in FLIP]
+    for name, second, ends in (("all succeed", 6, (7, ((5, ((2, ()), (1, ()))), (5, ((1, ()), (2, ()))), (6, ((9, ()),))))),
+                               ("the second fails", 16, None)):
+        for order in itertools.permutations((2, 3, 4)):
+            table = [entry(SEQ, 0, order[0], 1), entry(SEQ, 0, order[1], order[2]), entry(PATH, 1, 6), entry(PATH, 2, second),
+                     entry(PATH, 3, 5), entry(PATH, 1, 14), *flip, entry(BUILD, 0, 15), entry(PCON, 9), entry(FAIL)]
+            five, words, b = case("three places in the order %d %d %d, %s" % (*(e - 1 for e in order), name), table, store, room=30)
+            assert not any(b) and five[0] == (1 if ends is None else 0), five
+            assert ends is None or value(words, five[2]) == ends, value(words, five[2])
+
+
 def write():
-    for part in (small_runs, refusals, needed, children, bindings, limits, deep, full, random_jobs):
+    for part in (small_runs, refusals, needed, children, bindings, limits, deep, full, orderings, random_jobs):
         part()

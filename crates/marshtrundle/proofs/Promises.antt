@@ -3,7 +3,7 @@ use mathlib.Core.Path.{_≡_, refl, ap, sym, _∙_, subst, fun-ext}
 use mathlib.Core.Bool.{Bool, true, false, _&&_, true≢false}
 use mathlib.Core.Option.{Option, none, some}
 use mathlib.Core.Logic.{_≢_, _⊎_, inl, inr, ⊎-elim, _↔_}
-use mathlib.Core.List.{List}
+use mathlib.Core.List.{List, [], _∷_}
 use Prim.Native.Nat.{ℕ, zero, suc, _+_, _-_, _*_, _≤_, _<_}
 use native.Mathlib.Omega.{arith}
 use lib.Dec.{eqb, leb}
@@ -22,15 +22,13 @@ use Rattle.meaning.specs.Beginning.{Given}
 use Rattle.meaning.specs.Free.{Closed}
 use Rattle.meaning.specs.Term.{Term}
 use Rattle.meaning.specs.Table.{SEQ, Table, table}
-use Rattle.meaning.specs.Plan.{keep, ret, fail, ask}
-use Rattle.meaning.specs.Rules.{apply, does, strategy}
-use Rattle.meaning.specs.Derivation.{Out, done, failed, Trace, quiet, terms, Der}
+use Rattle.meaning.specs.Rules.{apply}
+use Rattle.meaning.specs.Derivation.{Out, quiet}
 use Rattle.meaning.specs.System.{Env, _∶_is_, _⊢_⇒_}
 use Rattle.meaning.specs.Limits.{Limit, units, room, nesting, ended, lost, cut, at as counted-at}
 use Rattle.meaning.specs.Store.{Input, Accepted, Kept, Sound, Leaves, named, bindings, term, termOf, meant, value, ran}
 use Rattle.meaning.specs.Answer.{Returned, number, bindingWord, bindingWords, returned}
 use Rattle.meaning.specs.Demands.{Says, limits, startVisit, Agreed, started}
-use Rattle.meaning.proofs.Inversion.{Asked, on-success, on-failure, ask-inv}
 use Rattle.meaning.proofs.Tests.{impossible}
 use Rattle.meaning.proofs.Checked.{Filled, node-of-good}
 use Rattle.meaning.proofs.Words.{kept-refl, kept-trans, kept-term}
@@ -39,6 +37,7 @@ use Rattle.meaning.proofs.Bits.{has-nothing}
 use Rattle.meaning.specs.Lower.{Again}
 use Rattle.collect.specs.Promises.{after}
 use Rattle.collect.proofs.Promises as collect-promises
+use Rattle.meaning.specs.Orderings.{Site, Every, every-none, every-more, separate-none, separate-more, Stands, none-left as none-to-order, first-stays, first-two, order-last, order-more}
 use Rattle.free.specs.declared.FreeVariables.{FreeVariables}
 use Rattle.free.specs.Answered.{Answered}
 use Rattle.free.proofs.Smallest.{below-32}
@@ -409,16 +408,6 @@ demand-2 i o s b a p r =
 
 -- ---- demand 3
 
-module _ (T : Table) (s e f : ℕ) (t : Term) (b : Env) (entry : T ∶ s is SEQ e f) where
-  -- where a SEQ has an outcome, its first operand has one
-  first-of : (o : Out Term Env) → T ⊢ apply s t b ⇒ o → (o′ : Out Term Env) × (T ⊢ apply e t b ⇒ o′)
-  unfolding does strategy
-  first-of o r = go (ask-inv (subst (λ x. Der terms (does T) (strategy x t b) o) entry (meant-demands.rules-agree T (apply s t b) o _ .0 (r, refl) .0)))
-    where
-      go : {n : Trace} → Asked terms (does T) keep (apply e t b) (λ h′ b′. ask keep (apply f h′ b′) ret fail) fail o n → (o′ : Out Term Env) × (T ⊢ apply e t b ⇒ o′)
-      go (on-success {h} {b = c} d x q) = (done h c, meant-demands.rules-agree T (apply e t b) (done h c) _ .1 (d, refl) .0)
-      go (on-failure d x q) = (failed, meant-demands.rules-agree T (apply e t b) failed _ .1 (d, refl) .0)
-
 -- a strategy of which the question of free variables finds none is closed
 closed-by : (t : List ℕ) (x : ℕ) (q : FreeVariables) → Answered t x q → q .answer ≡ 0 → q .mask ≡ 0 → Closed (table t) x
 closed-by t x q h z m v f = true≢false (sym (subst (λ (n : ℕ). has n v ≡ true) m (h .mask z .free v .1 f)) ∙ has-nothing v)
@@ -434,8 +423,13 @@ either-way T g g′ s s′ t b (lost l u) (lost l′ u′) x y k = tt
 either-way T g g′ s s′ t b (lost l u) (cut e l′ u′) x y k = tt
 either-way T g g′ s s′ t b (cut e l u) r′ x y k = tt
 
-pub demand-3 : promises.Demand-3
-demand-3 i x y e f start given π ρ q q′ o o′ s s′ b b′ h z m h′ z′ m′ at at′ n n′ first second a a′ p p′ u u′ w w′ =
+-- sites whose strategies the question finds closed stand
+stand : (t : List ℕ) {xs : List Site} → Every (promises.Movable t) xs → Every (Stands (table t)) xs
+stand t every-none = every-none
+stand t (every-more {x = x} m ms) = every-more (record { closed = closed-by t (x .strategy) (m .question) (m .answered) (m .good) (m .none); at = m .at }) (stand t ms)
+
+pub demand-3-all : promises.Demand-3-all
+demand-3-all i xs ys zs start given o o′ s s′ b b′ ms apart re re′ first second a a′ p p′ u u′ w w′ =
     let j : Input = started i start given in
     let T : Table = table (i .table) in
     let t : Term = term (i .store) (i .subject) in
@@ -447,8 +441,21 @@ demand-3 i x y e f start given π ρ q q′ o o′ s s′ b b′ h z m h′ z′
     subst (λ (x : Ended). Agreed x u′) v
     (subst (λ (x : Ended). Agreed (value (ran quiet tt i)) x) v′
     (meant-demands.demand-3-runs (Unit {0}) quiet tt i start given a a′
-    (meant-demands.demand-3 T x y e f (i .start) start π ρ t c _ _ (closed-by (i .table) x q h z m) (closed-by (i .table) y q′ h′ z′ m′)
-    at at′ n n′ first second (first-of T (i .start) e f t c first d r .1) (first-of T start f e t c second d′ r′ .1)))))
+    (meant-demands.orders-agree T xs ys zs t c (i .start) start d d′ (stand (i .table) ms) apart re re′ first second r r′))))
+
+-- Two places are the case of a list of two.
+pub demand-3 : promises.Demand-3
+demand-3 i x y e f start given π ρ q q′ o o′ s s′ b b′ h z m h′ z′ m′ at at′ n n′ first second a a′ p p′ u u′ w w′ =
+    demand-3-all i (X ∷ Y ∷ []) (X ∷ Y ∷ []) (Y ∷ X ∷ []) start given o o′ s s′ b b′
+    (every-more (record { question = q; answered = h; good = z; none = m; at = at }) (every-more (record { question = q′; answered = h′; good = z′; none = m′; at = at′ }) every-none))
+    (separate-more (every-more (record { above = n; below = n′ }) every-none) (separate-more every-none separate-none))
+    (first-stays (first-stays none-to-order)) first-two (order-more first order-last) (order-more second order-last) a a′ p p′ u u′ w w′
+  where
+    X : Site
+    X = record { strategy = x; entry = e; place = π }
+
+    Y : Site
+    Y = record { strategy = y; entry = f; place = ρ }
 
 -- ---- a run after a collection
 

@@ -24,6 +24,7 @@ use Rattle.meaning.specs.Small.{Case, cases}
 use Rattle.meaning.specs.Demands.{Says, limits, startVisit, At, Encloses, Agreed, started}
 use Rattle.collect.specs.Collected.{Afterwards}
 use Rattle.collect.specs.Promises.{Collects, lentBy, after}
+use Rattle.meaning.specs.Orderings.{Site, Every, Separate, Reordered, InOrder}
 use Rattle.free.specs.declared.FreeVariables.{FreeVariables}
 use Rattle.free.specs.Answered.{Answered}
 use Rattle.marshtrundle.specs.Refused.{refused}
@@ -185,6 +186,24 @@ Runs-again =
     → Accepted i → rows (i .store) ≤ length w → Collects (lentBy i w) r → Runs i o s b → Runs (after i r) o′ s′ b′ → o .answer ≤ 1
     → (o′ .answer ≡ o .answer) × (o′ .units ≡ o .units)
     × (o .answer ≡ 0 → (term s′ (o′ .subject) ≡ term s (o .subject)) × (meant s′ (bindings b′) ≡ meant s (bindings b)))
+
+-- a site whose strategy the question of free variables finds closed, and whose entry runs it at its place
+pub record Movable (t : List ℕ) (x : Site) : Type 0 where
+  pub question : FreeVariables
+  pub answered : Answered t (x .strategy) question
+  pub good : question .answer ≡ 0
+  pub none : question .mask ≡ 0
+  pub at : At (table t) (x .strategy) (x .entry) (x .place)
+
+-- Demand 3 for any number of places, none inside another: two runs, each in some order of them, that both end in done or failed
+-- agree, whatever units each is given.
+abbrev pub Demand-3-all : Type 0
+Demand-3-all =
+    (i : Input) (xs ys zs : List Site) (start units : ℕ) (o o′ : Outcome) (s s′ b b′ : List ℕ)
+    → Every (Movable (i .table)) xs → Separate xs → Reordered xs ys → Reordered xs zs
+    → InOrder (table (i .table)) (i .start) ys → InOrder (table (i .table)) start zs
+    → Accepted i → Accepted (started i start units) → Runs i o s b → Runs (started i start units) o′ s′ b′
+    → (r r′ : Ended) → Told i (atReturn o s b) r → Told (started i start units) (atReturn o′ s′ b′) r′ → Agreed r r′
 
 -- The small runs: each gives, of what `run` is handed, what its line says, every number and every word.
 abbrev pub Small-runs-of-run : Type 0

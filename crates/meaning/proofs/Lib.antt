@@ -16,6 +16,7 @@ pub mod Together
 pub mod Demand2
 pub mod Free
 pub mod Places
+pub mod Orderings
 pub mod Orders
 pub mod Demands
 pub mod Lower

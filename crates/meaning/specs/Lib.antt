@@ -16,5 +16,6 @@ pub mod Answer
 pub mod Free
 pub mod Demands
 pub mod Lower
+pub mod Orderings
 pub mod Small
 pub mod Ours
