@@ -16,7 +16,7 @@ use borrow.Author.Tests.{not-true, not-false}
 use Rattle.leaves.proofs.Patterns.{agreed-count}
 use Rattle.leaves.specs.Visits.{plan, ruled, countOf, agreeing, Entries, Gives}
 use Rattle.cycle.specs.Cycle.{Counted, walked, Ready}
-use Rattle.leaves.proofs.Telling.{gave-failed}
+use Rattle.leaves.proofs.AnswerWords.{gave-failed}
 use Rattle.leaves.proofs.Children.{part-length}
 use Rattle.leaves.proofs.Holding.{framed-refl}
 use Rattle.leaves.proofs.Walking.{failing}

@@ -18,13 +18,13 @@ use Rattle.meaning.specs.Store.{children}
 use Rattle.meaning.specs.Demands.{Kept, Leaves}
 use Rattle.leaves.specs.declared.answers.Answer.{Answer}
 use Rattle.leaves.specs.declared.answers.Answer.the-variants.{Done, Failed}
-use Rattle.leaves.specs.declared.answers.Heard.{Heard}
-use Rattle.leaves.specs.declared.answers.Heard.the-variants.{Ended, Cut as Off}
-use Rattle.leaves.specs.Answers.{packed, nodeIn, unitsIn, failedWord, toldOf, heardOf}
+use Rattle.leaves.specs.declared.answers.Attempt.{Attempt}
+use Rattle.leaves.specs.declared.answers.Attempt.the-variants.{Ended, Cut as Off}
+use Rattle.leaves.specs.Answers.{packed, nodeIn, unitsIn, failedWord, answerOf, attemptOf}
 use Rattle.leaves.specs.Record.{recordLong, markOf, held, back, Framed}
 use Rattle.leaves.specs.Visits.{visit, plan, ruled, out, countOf, rowAt, noded, Entries, Steady, Roomy, Gives}
 use Rattle.cycle.specs.Cycle.{Ready}
-use Rattle.leaves.proofs.Telling.{node-packed, units-packed, gave-failed, failed-few, heard-yes, heard-no, heard-off}
+use Rattle.leaves.proofs.AnswerWords.{node-packed, units-packed, gave-failed, failed-few, attempt-done, attempt-failed, attempt-cut}
 use Rattle.leaves.proofs.Asking.{Tagged, goes-on, caught, cut-off, not-done}
 use Rattle.leaves.proofs.Keeping.{apply-leaves, steady-kept, steady-after, roomy, leaves-done, leaves-failed}
 use Rattle.leaves.proofs.Holding.{held-back, mark-back, framed-back, length-back, framed-refl, framed-trans}
@@ -67,18 +67,18 @@ module _ (w : List ℕ) (k j : ℕ) (l : j < countOf w k) where
 
 -- entry x was visited on node y with the bindings b, and the word of its answer tells a
 module _ {w : List ℕ} {m : ℕ} {b : Bindings ℕ} (steady : Steady w m b) {t : List ℕ} (entries : Entries t) (n x y u : ℕ) (below : y < m)
-    (got : ℕ) (st′ w′ : List ℕ) (is : out got st′ w′ ≡ visit t n (apply x y b) w m u) {a : Answer} (told : a ≡ toldOf got) where
+    (got : ℕ) (st′ w′ : List ℕ) (is : out got st′ w′ ≡ visit t n (apply x y b) w m u) {a : Answer} (read : a ≡ answerOf got) where
   leaves : Leaves w m (visit t n (apply x y b) w m u)
   leaves = apply-leaves steady t entries n x y u below
 
   kept-done : {z v : ℕ} → a ≡ Done z v → Kept w m w′
-  kept-done {z} {v} q = leaves-done w m _ leaves got st′ w′ is a told z v q .1
+  kept-done {z} {v} q = leaves-done w m _ leaves got st′ w′ is a read z v q .1
 
   roomy-done : {z v : ℕ} → a ≡ Done z v → Roomy w′ (markOf st′)
-  roomy-done {z} {v} q = roomy (steady-after steady w′ (markOf st′) z v (held st′) (leaves-done w m _ leaves got st′ w′ is a told z v q))
+  roomy-done {z} {v} q = roomy (steady-after steady w′ (markOf st′) z v (held st′) (leaves-done w m _ leaves got st′ w′ is a read z v q))
 
   kept-failed : {v : ℕ} → a ≡ Failed v → Kept w m w′
-  kept-failed {v} q = leaves-failed w m _ leaves got st′ w′ is a told v q
+  kept-failed {v} q = leaves-failed w m _ leaves got st′ w′ is a read v q
 
 -- PATH i
 module _ {t w st : List ℕ} {e s i : ℕ} (n : ℕ) (ready : Ready t w st e s) (h : kindOf t e ≡ 9) (ie : i ≡ argumentOf t e) where
@@ -138,22 +138,22 @@ module _ {t w st : List ℕ} {e s i : ℕ} (n : ℕ) (ready : Ready t w st e s) 
       unfolding given
       asks = picks x xe (ap (nth (children w (nodeIn s))) from-one ∙ nth-at (children w (nodeIn s)) (i - 1) (among w (nodeIn s) (i - 1) has-child) ∙ ap some (child-at w (nodeIn s) (i - 1) has-child ∙ sym is-child))
 
-      module _ {got : ℕ} {st′ w′ : List ℕ} (gives : Gives (visit t n (apply x (nodeIn g) (held st)) w (markOf st) (unitsIn g)) st got st′ w′) {a : Answer} (told : a ≡ toldOf got) where
+      module _ {got : ℕ} {st′ w′ : List ℕ} (gives : Gives (visit t n (apply x (nodeIn g) (held st)) w (markOf st) (unitsIn g)) st got st′ w′) {a : Answer} (read : a ≡ answerOf got) where
         is : out got st′ w′ ≡ visit t n (apply x y (held st)) w (markOf st) (unitsIn s)
         is = gives .is ∙ (λ z. visit t n (apply x (node-as z) (held st)) w (markOf st) (units-as z))
 
         pub gives-path-stops : Tagged a 1 2 → Returns got st′ w′
-        gives-path-stops q = record { is = not-done t n w (markOf st) (unitsIn s) _ got st′ w′ is a told keep _ q ∙ sym asks; frame = gives .frame }
+        gives-path-stops q = record { is = not-done t n w (markOf st) (unitsIn s) _ got st′ w′ is a read keep _ q ∙ sym asks; frame = gives .frame }
 
         pub roomy-path : {z v : ℕ} → a ≡ Done z v → Roomy w′ (markOf st′)
-        roomy-path q = roomy-done (ready .steady) (ready .entries) n x y (unitsIn s) below got st′ w′ is told q
+        roomy-path q = roomy-done (ready .steady) (ready .entries) n x y (unitsIn s) below got st′ w′ is read q
 
         pub gives-path : {z v r : ℕ} {was st″ w″ : List ℕ} → a ≡ Done z v → was ≡ rowAt w′ (nodeIn s) → Gives (noded (set was (1 + i) z) st′ w′ v) st′ r st″ w″ → Returns r st″ w″
         gives-path {z} {v} {r} {was} {st″} q we made = record {
           is = made .is ∙ sym (
-              asks ∙ goes-on t n w (markOf st) (unitsIn s) _ got st′ w′ is a told _ fail z v q
+              asks ∙ goes-on t n w (markOf st) (unitsIn s) _ got st′ w′ is a read _ fail z v q
               ∙ ap (λ gs. plan t n (again (nodeIn s) (constructorOf w (nodeIn s)) gs (held st′)) w′ (markOf st′) v) (ap (λ j. put (children w (nodeIn s)) j z) from-one ∙ put-set (children w (nodeIn s)) (i - 1) z)
-              ∙ remade (ready .steady) (ready .subject) has-child t n z v st′ (kept-done (ready .steady) (ready .entries) n x y (unitsIn s) below got st′ w′ is told q) we
+              ∙ remade (ready .steady) (ready .subject) has-child t n z v st′ (kept-done (ready .steady) (ready .entries) n x y (unitsIn s) below got st′ w′ is read q) we
               ∙ ap (λ j. noded (set was j z) st′ w′ v) (sym place)
               );
           frame = framed-trans st st′ st″ (gives .frame) (made .frame);
@@ -244,7 +244,7 @@ module _ {t w₀ st₀ : List ℕ} {e s : ℕ} (n : ℕ) (ready : Ready t w₀ s
       asks-next : plan t n (ask keep (apply x y (held st₀)) follows others) w (markOf st₀) u ≡ ruled t n e (nodeIn s) (held st₀) w₀ (markOf st₀) (unitsIn s)
       asks-next = ap (λ y. plan t n (ask keep (apply x y (held st₀)) follows others) w (markOf st₀) u) ye ∙ sym (one-next t n x w (nodeIn s) i (held st₀) (again (nodeIn s) (constructorOf w (nodeIn s))) (markOf st₀) u has-next) ∙ turn .rest
 
-      module _ {got : ℕ} {st′ w′ : List ℕ} (gives : Gives (visit t n (apply x (nodeIn g) (held st)) w (markOf st) (unitsIn g)) st got st′ w′) {a : Heard} (heard : a ≡ heardOf (toldOf got)) where
+      module _ {got : ℕ} {st′ w′ : List ℕ} (gives : Gives (visit t n (apply x (nodeIn g) (held st)) w (markOf st) (unitsIn g)) st got st′ w′) {a : Attempt} (attempted : a ≡ attemptOf (answerOf got)) where
         was : out got st′ w′ ≡ visit t n (apply x y (held st₀)) w (markOf st₀) u
         was = gives .is ∙ (λ z. visit t n (apply x (node-is z) (turn .holds z)) w (turn .mark z) (units-is z))
 
@@ -259,16 +259,16 @@ module _ {t w₀ st₀ : List ℕ} {e s : ℕ} (n : ℕ) (ready : Ready t w₀ s
 
         pub gives-one-off : {d : ℕ} → a ≡ Off d → Gave got st′ w′
         gives-one-off {d} q = record {
-          is = cut-off t n w (markOf st₀) u _ got st′ w′ was (toldOf got) refl keep follows others d (heard-off (toldOf got) d (sym heard ∙ q)) ∙ asks-next;
+          is = cut-off t n w (markOf st₀) u _ got st′ w′ was (answerOf got) refl keep follows others d (attempt-cut (answerOf got) d (sym attempted ∙ q)) ∙ asks-next;
           frame = framed;
         }
 
         module _ {yes : Bool} {z v : ℕ} (q : a ≡ Ended yes z v) where
-          did : yes ≡ true → toldOf got ≡ Done z v
-          did p = heard-yes (toldOf got) z v (sym heard ∙ q ∙ ap (λ b. Ended b z v) p)
+          did : yes ≡ true → answerOf got ≡ Done z v
+          did p = attempt-done (answerOf got) z v (sym attempted ∙ q ∙ ap (λ b. Ended b z v) p)
 
-          did-not : yes ≡ false → toldOf got ≡ Failed v
-          did-not p = heard-no (toldOf got) z v (sym heard ∙ q ∙ ap (λ b. Ended b z v) p)
+          did-not : yes ≡ false → answerOf got ≡ Failed v
+          did-not p = attempt-failed (answerOf got) z v (sym attempted ∙ q ∙ ap (λ b. Ended b z v) p)
 
           pub roomy-one : yes ≡ true → Roomy w′ (markOf st′)
           roomy-one p = roomy-done (turn .steady) (ready .entries) n x y u below-mark got st′ w′ was refl (did p)
@@ -276,7 +276,7 @@ module _ {t w₀ st₀ : List ℕ} {e s : ℕ} (n : ℕ) (ready : Ready t w₀ s
           pub gives-one : {r : ℕ} {words st″ w″ : List ℕ} → yes ≡ true → words ≡ rowAt w′ (nodeIn s) → Gives (noded (set words (2 + i) z) st′ w′ v) st′ r st″ w″ → Gave r st″ w″
           gives-one {r} {words} {st″} p we made = record {
             is = made .is ∙ sym (
-                goes-on t n w (markOf st₀) u _ got st′ w′ was (toldOf got) refl follows others z v (did p)
+                goes-on t n w (markOf st₀) u _ got st′ w′ was (answerOf got) refl follows others z v (did p)
                 ∙ ap (λ gs. plan t n (again (nodeIn s) (constructorOf w (nodeIn s)) gs (held st′)) w′ (markOf st′) v) (set-next w (nodeIn s) i has-next z)
                 ∙ remade (turn .steady) (ready .subject) has-next t n z v st′ (kept-done (turn .steady) (ready .entries) n x y u below-mark got st′ w′ was refl (did p)) we
                 ) ∙ asks-next;
@@ -297,7 +297,7 @@ module _ {t w₀ st₀ : List ℕ} {e s : ℕ} (n : ℕ) (ready : Ready t w₀ s
                 wide = length-back st₀ st′ long′ ∙ sym (ready .long);
                 long = kept .long ∙ turn .long;
                 count = turn .count ∙ sym (kept-count kept (nodeIn s) (ready .subject));
-                few = failed-few got v (toldOf got) refl (did-not p);
+                few = failed-few got v (answerOf got) refl (did-not p);
                 rest = (λ j. plan t n (oneOf x (take (i + 1) (kids j)) (drop (i + 1) (kids j)) (held st₀) (again (nodeIn s) (con j))) w′ (markOf st₀) v)
-                    ∙ sym (caught t n w (markOf st₀) u _ got st′ w′ was (toldOf got) refl keep follows others v (did-not p)) ∙ asks-next;
+                    ∙ sym (caught t n w (markOf st₀) u _ got st′ w′ was (answerOf got) refl keep follows others v (did-not p)) ∙ asks-next;
               }

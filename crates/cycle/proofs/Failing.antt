@@ -15,7 +15,7 @@ use Rattle.meaning.specs.Rules.{apply, Do}
 use Rattle.meaning.specs.Limits.{lost}
 use Rattle.leaves.specs.Noted.{leftWords}
 use Rattle.leaves.specs.Visits.{plan, ruled, agreeing, Entries}
-use Rattle.cycle.specs.Cycle.{Hinted, Skips}
+use Rattle.cycle.specs.Cycle.{Hinted, VisitsToFailure}
 use Rattle.leaves.proofs.Asking.{ask-failed}
 use Rattle.leaves.proofs.Walking.{failing}
 use Rattle.leaves.proofs.Kind.{applied}
@@ -28,15 +28,15 @@ operand-inside {q = q} en inside e = rw e (en .operand q 0 inside (omega arith))
 
 module _ {t w : List ℕ} {q k : ℕ} where
   -- nothing is known
-  pub skips-none : (most : ℕ) → Skips t w q k most 0
+  pub skips-none : (most : ℕ) → VisitsToFailure t w q k most 0
   skips-none most = record { few = omega arith; fails = λ z. absurd (z refl) }
 
   -- the bound may grow
-  pub skips-more : {i j n : ℕ} → Skips t w q k i n → i ≤ j → Skips t w q k j n
+  pub skips-more : {i j n : ℕ} → VisitsToFailure t w q k i n → i ≤ j → VisitsToFailure t w q k j n
   skips-more s l = record { few = omega (arith, s .few, l); fails = s .fails }
 
   -- MATCH
-  pub match-fails : {p : ℕ} → Entries t → q < 4096 → kindOf t q ≡ 14 → p ≡ wordAt t q 2 → kindOf t p ≡ 19 → agreeing t w p k ≡ false → Skips t w q k 2 2
+  pub match-fails : {p : ℕ} → Entries t → q < 4096 → kindOf t q ≡ 14 → p ≡ wordAt t q 2 → kindOf t p ≡ 19 → agreeing t w p k ≡ false → VisitsToFailure t w q k 2 2
   match-fails {p} en inside h e g a = record {
     few = omega arith;
     fails = λ z. record {
@@ -50,9 +50,9 @@ module _ {t w : List ℕ} {q k : ℕ} where
   }
 
   -- the operand x fails after n visits, and nothing catches that
-  module _ {x n most : ℕ} (xe : x ≡ wordAt t q 2) (skips : Skips t w x k most n) (some : n ≡ 0 → ⊥) where
+  module _ {x n most : ℕ} (xe : x ≡ wordAt t q 2) (skips : VisitsToFailure t w x k most n) (some : n ≡ 0 → ⊥) where
     asked : (c : Bindings ℕ → Bindings ℕ) (f : Bindings ℕ → ℕ → Bindings ℕ → Do ℕ)
-        → ((b : Bindings ℕ) (m d u : ℕ) → ruled t d q k b w m u ≡ plan t d (ask keep (apply x k (c b)) (f b) fail) w m u) → Skips t w q k (most + 1) (n + 1)
+        → ((b : Bindings ℕ) (m d u : ℕ) → ruled t d q k b w m u ≡ plan t d (ask keep (apply x k (c b)) (f b) fail) w m u) → VisitsToFailure t w q k (most + 1) (n + 1)
     asked c f rule = record {
       few = omega (arith, skips .few);
       fails = λ z. record {
@@ -66,18 +66,18 @@ module _ {t w : List ℕ} {q k : ℕ} where
       };
     }
 
-    pub seq-fails : kindOf t q ≡ 4 → Skips t w q k (most + 1) (n + 1)
+    pub seq-fails : kindOf t q ≡ 4 → VisitsToFailure t w q k (most + 1) (n + 1)
     seq-fails h = asked (λ b. b) (λ b g c. ask keep (apply (wordAt t q 3) g c) ret fail) (λ b m d u. ruled-seq t d q k b w m u x xe (wordAt t q 3) refl h)
 
-    pub scope-fails : kindOf t q ≡ 16 → Skips t w q k (most + 1) (n + 1)
+    pub scope-fails : kindOf t q ≡ 16 → VisitsToFailure t w q k (most + 1) (n + 1)
     scope-fails h = asked (λ b. masked (argumentOf t q) unbound b) (λ b g c. ret g (masked (argumentOf t q) b c)) (λ b m d u. ruled-scope t d q k b w m u x xe (argumentOf t q) refl h)
 
 -- what is known of a first operand, at a node of another constructor or count
 pub skips-hint : {t w : List ℕ} {e k p d u n : ℕ} → Hinted t → e < 4096 → (kindOf t e ≡ 5) ⊎ (kindOf t e ≡ 6) → n ≡ wordAt t e 5 → p ≡ wordAt t e 4 → agreeing t w p k ≡ false
-    → 4 ≤ d → 4 ≤ u → Skips t w (wordAt t e 2) k (min d u) n
+    → 4 ≤ d → 4 ≤ u → VisitsToFailure t w (wordAt t e 2) k (min d u) n
 skips-hint {t} {w} {e} {k} {p} {d} {u} {n} h l κ q pe a i j = go (eqb n 0) refl
   where
-    go : (z : Bool) → eqb n 0 ≡ z → Skips t w (wordAt t e 2) k (min d u) n
+    go : (z : Bool) → eqb n 0 ≡ z → VisitsToFailure t w (wordAt t e 2) k (min d u) n
     go true z = rw (eqb-true n 0 z) (skips-none (min d u))
     go false z =
         let some : wordAt t e 5 ≡ 0 → ⊥ = λ f. eqb-false n 0 z (q ∙ f) in

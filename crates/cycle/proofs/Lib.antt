@@ -8,5 +8,5 @@ pub mod Scoping
 pub mod Descending
 pub mod Looping
 pub mod Failing
-pub mod Leaping
+pub mod Ahead
 pub mod Walker

@@ -16,11 +16,11 @@ use denote.Enum.Declared.{tagOf}
 use Rattle.leaves.proofs.answers.Answer.{the-type}
 use Rattle.leaves.specs.declared.answers.Answer.{Answer}
 use Rattle.leaves.specs.declared.answers.Answer.the-variants.{Done, Failed, Cut}
-use Rattle.leaves.specs.Answers.{packed, nodeIn, unitsIn, unitsWord, nestingWord, failedWord, toldOf}
+use Rattle.leaves.specs.Answers.{packed, nodeIn, unitsIn, unitsWord, nestingWord, failedWord, answerOf}
 use Rattle.leaves.specs.Record.{recordLong, markOf, held, back, Framed}
 use Rattle.leaves.specs.Visits.{visit, ruled, out, countOf, Entries, Steady, Gives}
-use Rattle.cycle.specs.Cycle.{Ready, Last, Skips}
-use Rattle.leaves.proofs.Telling.{told-failed, out-failed, node-packed, units-packed, done-node, done-units, failed-few}
+use Rattle.cycle.specs.Cycle.{Ready, Last, VisitsToFailure}
+use Rattle.leaves.proofs.AnswerWords.{answer-failed, out-failed, node-packed, units-packed, done-node, done-units, failed-few}
 use Rattle.leaves.proofs.Asking.{Tagged}
 use Rattle.leaves.proofs.Kind.{applied}
 use Rattle.leaves.proofs.Keeping.{apply-leaves, steady-kept, steady-after, leaves-done, leaves-failed, node-small}
@@ -72,8 +72,8 @@ under : (n i j : ℕ) → n ≤ min i j → (n ≤ i) × (n ≤ j)
 under n i j h = (omega arith, omega arith)
 
 -- a word of a node in a store fits
-pub fitting-word : (x u : ℕ) → x < 131072 → u < 4294967296 → packed x u < 18446744073709551616
-fitting-word x u h l = omega arith
+pub packed-small : (x u : ℕ) → x < 131072 → u < 4294967296 → packed x u < 18446744073709551616
+packed-small x u h l = omega arith
 
 module _ {t w₀ st₀ : List ℕ} {start given deep : ℕ} {w st : List ℕ} {e s d : ℕ} (turn : Turn t w₀ st₀ start given deep w st e s d)
     (units : unitsIn s ≡ 0 → ⊥) (nested : d ≡ 0 → ⊥) where
@@ -111,7 +111,7 @@ module _ {t w₀ st₀ : List ℕ} {start given deep : ℕ} {w st : List ℕ} {e
 
   -- the first operand of SEQ, CHOICE or LEFT ran
   module _ {x got : ℕ} {st′ w′ : List ℕ} (xe : x ≡ wordAt t e 2)
-      (gives : Gives (visit t (d - 1) (apply x (nodeIn (s - 1)) (held st)) w (markOf st) (unitsIn (s - 1))) st got st′ w′) {a : Answer} (told : a ≡ toldOf got) where
+      (gives : Gives (visit t (d - 1) (apply x (nodeIn (s - 1)) (held st)) w (markOf st) (unitsIn (s - 1))) st got st′ w′) {a : Answer} (read : a ≡ answerOf got) where
     abbrev Whole : Type 0
     Whole = Gives (visit t deep (apply start (nodeIn given) (held st₀)) w₀ (markOf st₀) (unitsIn given)) st₀ got st′ w′
 
@@ -125,12 +125,12 @@ module _ {t w₀ st₀ : List ℕ} {start given deep : ℕ} {w st : List ℕ} {e
     long′ = gives .frame .long ∙ turn .ready .long
 
     pub seq-returns : {y : ℕ} → y ≡ wordAt t e 3 → kindOf t e ≡ 4 → Tagged a 1 2 → Whole
-    seq-returns {y} ye h g = whole (record { is = seq-stops t (d - 1) e (s - 1) st w x got st′ w′ xe (gives .is) a told y ye h g; frame = gives .frame })
+    seq-returns {y} ye h g = whole (record { is = seq-stops t (d - 1) e (s - 1) st w x got st′ w′ xe (gives .is) a read y ye h g; frame = gives .frame })
 
     pub seq-turn : {y z v : ℕ} → y ≡ wordAt t e 3 → kindOf t e ≡ 4 → a ≡ Done z v → length w′ ≡ length w → Turn t w₀ st₀ start given deep w′ st′ y got (d - 1)
     seq-turn {y} {z} {v} ye h q l =
-        let n = done-node got z v (sym told ∙ q) in
-        let lv = leaves-done w (markOf st) _ leaves got st′ w′ (gives .is) a told z v q in
+        let n = done-node got z v (sym read ∙ q) in
+        let lv = leaves-done w (markOf st) _ leaves got st′ w′ (gives .is) a read z v q in
         record {
           deeper = omega (arith, turn .deeper);
           long = l ∙ turn .long;
@@ -145,19 +145,19 @@ module _ {t w₀ st₀ : List ℕ} {start given deep : ℕ} {w st : List ℕ} {e
           frame = framed-trans st₀ st st′ (turn .frame) (gives .frame);
           wide = gives .frame .long ∙ turn .wide;
           word = omega (arith, n .0, node-small (steady-after (turn .ready .steady) w′ (markOf st′) z v (held st′) lv) z (lv .2 .subject));
-          rest = sym (λ i. visit t (d - 1) (apply y (n .0 i) (held st′)) w′ (markOf st′) (n .1 i)) ∙ seq-goes-on t (d - 1) e (s - 1) st w x got st′ w′ xe (gives .is) a told y ye h z v q ∙ counts;
+          rest = sym (λ i. visit t (d - 1) (apply y (n .0 i) (held st′)) w′ (markOf st′) (n .1 i)) ∙ seq-goes-on t (d - 1) e (s - 1) st w x got st′ w′ xe (gives .is) a read y ye h z v q ∙ counts;
         }
 
     module _ (h : (kindOf t e ≡ 5) ⊎ (kindOf t e ≡ 6)) where
       pub left-returns : {y : ℕ} → y ≡ wordAt t e 3 → Tagged a 0 2 → Whole
-      left-returns {y} ye g = whole (record { is = left-stops t (d - 1) e (s - 1) st w x got st′ w′ xe (gives .is) a told y ye h g; frame = gives .frame })
+      left-returns {y} ye g = whole (record { is = left-stops t (d - 1) e (s - 1) st w x got st′ w′ xe (gives .is) a read y ye h g; frame = gives .frame })
 
       pub left-turn : {y v r : ℕ} → y ≡ wordAt t e 3 → a ≡ Failed v → r ≡ packed (nodeIn (s - 1)) v → length w′ ≡ length w → Turn t w₀ st₀ start given deep w′ (back st st′) y r (d - 1)
       left-turn {y} {v} {r} ye q p l =
-          let few = failed-few got v a told q in
+          let few = failed-few got v a read q in
           let held-as = held-back st st′ long′ (gives .frame) in
           let mark-as = mark-back st st′ long′ in
-          let kept = leaves-failed w (markOf st) _ leaves got st′ w′ (gives .is) a told v q in
+          let kept = leaves-failed w (markOf st) _ leaves got st′ w′ (gives .is) a read v q in
           let tiny = node-small (turn .ready .steady) (nodeIn (s - 1)) inside in
           let node-as : nodeIn r ≡ nodeIn (s - 1) = ap nodeIn p ∙ node-packed (nodeIn (s - 1)) v few in
           let units-as : unitsIn r ≡ v = ap unitsIn p ∙ units-packed (nodeIn (s - 1)) v few in
@@ -174,12 +174,12 @@ module _ {t w₀ st₀ : List ℕ} {start given deep : ℕ} {w st : List ℕ} {e
             };
             frame = framed-trans st₀ st (back st st′) (turn .frame) (framed-back st st′ long′ (gives .frame));
             wide = length-back st st′ long′ ∙ sym (turn .ready .long) ∙ turn .wide;
-            word = rw p (fitting-word (nodeIn (s - 1)) v tiny few);
-            rest = rw (node-as, units-as, held-as, mark-as) (left-goes-on t (d - 1) e (s - 1) st w x got st′ w′ xe (gives .is) a told y ye h v q ∙ counts);
+            word = rw p (packed-small (nodeIn (s - 1)) v tiny few);
+            rest = rw (node-as, units-as, held-as, mark-as) (left-goes-on t (d - 1) e (s - 1) st w x got st′ w′ xe (gives .is) a read y ye h v q ∙ counts);
           }
 
   -- the first operand of CHOICE or LEFT fails after n visits, which are counted and not made
-  pub skip-turn : {x y n : ℕ} → x ≡ wordAt t e 2 → Skips t w x (nodeIn (s - 1)) (min (d - 1) (unitsIn (s - 1))) n → (n ≡ 0 → ⊥) → (kindOf t e ≡ 5) ⊎ (kindOf t e ≡ 6) → y ≡ wordAt t e 3
+  pub skip-turn : {x y n : ℕ} → x ≡ wordAt t e 2 → VisitsToFailure t w x (nodeIn (s - 1)) (min (d - 1) (unitsIn (s - 1))) n → (n ≡ 0 → ⊥) → (kindOf t e ≡ 5) ⊎ (kindOf t e ≡ 6) → y ≡ wordAt t e 3
       → Turn t w₀ st₀ start given deep w st y (s - 1 - n) (d - 1)
   skip-turn {x} {y} {n} xe skips some h ye =
       let enough = under n (d - 1) (unitsIn (s - 1)) (skips .few) in
@@ -195,7 +195,7 @@ module _ {t w₀ st₀ : List ℕ} {start given deep : ℕ} {w st : List ℕ} {e
         frame = turn .frame;
         wide = turn .wide;
         word = fewer s n (turn .word);
-        rest = rw (node-as, units-as) (left-goes-on t (d - 1) e (s - 1) st w x (failedWord v) st w xe (out-failed st w v few ∙ sym fails) (Failed v) (sym (told-failed v few)) y ye h v refl ∙ counts);
+        rest = rw (node-as, units-as) (left-goes-on t (d - 1) e (s - 1) st w x (failedWord v) st w xe (out-failed st w v few ∙ sym fails) (Failed v) (sym (answer-failed v few)) y ye h v refl ∙ counts);
       }
 
 -- the loop begins

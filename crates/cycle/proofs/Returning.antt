@@ -10,9 +10,9 @@ use Rattle.checks.specs.Good.{kindOf}
 use Rattle.meaning.specs.Rules.{apply}
 use Rattle.leaves.specs.declared.answers.Answer.{Answer}
 use Rattle.leaves.specs.declared.answers.Answer.the-variants.{Done, Failed, Cut}
-use Rattle.leaves.specs.declared.answers.Heard.{Heard}
-use Rattle.leaves.specs.declared.answers.Heard.the-variants.{Ended, Cut as Off}
-use Rattle.leaves.specs.Answers.{packed, nodeIn, unitsIn, failedWord, toldOf, heardOf}
+use Rattle.leaves.specs.declared.answers.Attempt.{Attempt}
+use Rattle.leaves.specs.declared.answers.Attempt.the-variants.{Ended, Cut as Off}
+use Rattle.leaves.specs.Answers.{packed, nodeIn, unitsIn, failedWord, answerOf, attemptOf}
 use Rattle.leaves.specs.Record.{recordLong, markOf, held, back, Framed}
 use Rattle.meaning.specs.Limits.{lost}
 use Rattle.leaves.specs.Noted.{Ran, leftWords}
@@ -20,7 +20,7 @@ use native.Mathlib.Omega.{arith}
 use Rattle.leaves.specs.Visits.{visit, ruled, countOf, noded, Pattern, Gives}
 use Rattle.cycle.specs.Cycle.{finished, Ready, Last}
 use borrow.Author.Tests.{ne-eqb}
-use Rattle.leaves.proofs.Telling.{packed-again, gave, gave-failed}
+use Rattle.leaves.proofs.AnswerWords.{packed-again, gave, gave-failed}
 use Rattle.cycle.proofs.Ruling.{ruled-id, ruled-fail, ruled-above, ruled-all}
 use Rattle.leaves.proofs.Asking.{Tagged}
 use Rattle.cycle.proofs.Walker.{childless}
@@ -40,39 +40,39 @@ module _ {t w st : List ℕ} {e s x got : ℕ} {st′ w′ : List ℕ} (n : ℕ)
   long : length st′ ≡ recordLong
   long = gives .frame .long ∙ ready .long
 
-  module _ {a : Answer} (told : a ≡ toldOf got) (h : kindOf t e ≡ 17) where
+  module _ {a : Answer} (read : a ≡ answerOf got) (h : kindOf t e ≡ 17) where
     pub gives-where-stops : Tagged a 1 2 → Returns got st′
-    gives-where-stops g = record { is = where-stops t n e s st w x got st′ w′ xe (gives .is) a told h g; frame = gives .frame }
+    gives-where-stops g = record { is = where-stops t n e s st w x got st′ w′ xe (gives .is) a read h g; frame = gives .frame }
 
     pub gives-where : {y v r : ℕ} → a ≡ Done y v → r ≡ packed (nodeIn s) v → Returns r st′
-    gives-where {y} {v} {r} q p = record { is = where-done t n e s st w x got st′ w′ xe (gives .is) a told h y v r q p small; frame = gives .frame }
+    gives-where {y} {v} {r} q p = record { is = where-done t n e s st w x got st′ w′ xe (gives .is) a read h y v r q p small; frame = gives .frame }
 
-  module _ {g : Heard} (heard : g ≡ heardOf (toldOf got)) (h : (kindOf t e ≡ 2) ⊎ (kindOf t e ≡ 3)) where
+  module _ {g : Attempt} (attempted : g ≡ attemptOf (answerOf got)) (h : (kindOf t e ≡ 2) ⊎ (kindOf t e ≡ 3)) where
     pub gives-guard-off : {c : ℕ} → g ≡ Off c → Returns got st′
-    gives-guard-off {c} q = record { is = guard-off t n e s st w x got st′ w′ xe (gives .is) g heard h c q; frame = gives .frame }
+    gives-guard-off {c} q = record { is = guard-off t n e s st w x got st′ w′ xe (gives .is) g attempted h c q; frame = gives .frame }
 
     module _ {b : Bool} {y v : ℕ} (q : g ≡ Ended b y v) where
-      heard-as : {c : Bool} → b ≡ c → g ≡ Ended c y v
-      heard-as z = q ∙ ap (λ b. Ended b y v) z
+      attempted-as : {c : Bool} → b ≡ c → g ≡ Ended c y v
+      attempted-as z = q ∙ ap (λ b. Ended b y v) z
 
       framed : Framed st (back st st′)
       framed = framed-back st st′ long (gives .frame)
 
       pub gives-test : {k r : ℕ} → k ≡ kindOf t e → k ≡ 2 → b ≡ true → r ≡ packed (nodeIn s) v → Returns r (back st st′)
       gives-test {r = r} k i z p = record {
-        is = test-done t n e s st w x got st′ w′ xe (gives .is) g heard (back st st′) (held-back st st′ long (gives .frame)) (mark-back st st′ long) small r v p (sym k ∙ i) y (heard-as z);
+        is = test-done t n e s st w x got st′ w′ xe (gives .is) g attempted (back st st′) (held-back st st′ long (gives .frame)) (mark-back st st′ long) small r v p (sym k ∙ i) y (attempted-as z);
         frame = framed;
       }
 
       pub gives-test-failed : {k r : ℕ} → k ≡ kindOf t e → k ≡ 2 → b ≡ false → r ≡ failedWord v → Returns r (back st st′)
-      gives-test-failed {r = r} k i z p = record { is = test-failed t n e s st w x got st′ w′ xe (gives .is) g heard (back st st′) r v p (sym k ∙ i) y (heard-as z); frame = framed }
+      gives-test-failed {r = r} k i z p = record { is = test-failed t n e s st w x got st′ w′ xe (gives .is) g attempted (back st st′) r v p (sym k ∙ i) y (attempted-as z); frame = framed }
 
       pub gives-not-failed : {k r : ℕ} → k ≡ kindOf t e → (k ≡ 2 → ⊥) → b ≡ true → r ≡ failedWord v → Returns r (back st st′)
-      gives-not-failed {r = r} k i z p = record { is = not-failed-then t n e s st w x got st′ w′ xe (gives .is) g heard (back st st′) r v p (other h (λ e. i (k ∙ e))) y (heard-as z); frame = framed }
+      gives-not-failed {r = r} k i z p = record { is = not-failed-then t n e s st w x got st′ w′ xe (gives .is) g attempted (back st st′) r v p (other h (λ e. i (k ∙ e))) y (attempted-as z); frame = framed }
 
       pub gives-not : {k r : ℕ} → k ≡ kindOf t e → (k ≡ 2 → ⊥) → b ≡ false → r ≡ packed (nodeIn s) v → Returns r (back st st′)
       gives-not {r = r} k i z p = record {
-        is = not-did t n e s st w x got st′ w′ xe (gives .is) g heard (back st st′) (held-back st st′ long (gives .frame)) (mark-back st st′ long) small r v p (other h (λ e. i (k ∙ e))) y (heard-as z);
+        is = not-did t n e s st w x got st′ w′ xe (gives .is) g attempted (back st st′) (held-back st st′ long (gives .frame)) (mark-back st st′ long) small r v p (other h (λ e. i (k ∙ e))) y (attempted-as z);
         frame = framed;
       }
 

@@ -17,11 +17,11 @@ use Rattle.meaning.specs.Plan.{keep, ret, fail, ask}
 use Rattle.meaning.specs.Rules.{Visit, apply}
 use Rattle.leaves.specs.declared.answers.Answer.{Answer}
 use Rattle.leaves.specs.declared.answers.Answer.the-variants.{Done, Failed, Cut}
-use Rattle.leaves.specs.Answers.{nodeIn, unitsIn, toldOf}
+use Rattle.leaves.specs.Answers.{nodeIn, unitsIn, answerOf}
 use Rattle.leaves.specs.Record.{masking, recordLong, markOf, maskOf, held, without}
 use Rattle.leaves.specs.Visits.{visit, plan, ruled, meaning, out, Steady, Gives}
 use Rattle.cycle.specs.Cycle.{Ready}
-use Rattle.leaves.proofs.Telling.{out-told}
+use Rattle.leaves.proofs.AnswerWords.{out-answer}
 use Rattle.leaves.proofs.Asking.{goes-on, not-done}
 use Rattle.leaves.proofs.Walking.{returned}
 use Rattle.cycle.proofs.Ruling.{ruled-scope}
@@ -31,13 +31,13 @@ use Rattle.leaves.proofs.Holding.{hidden, length-hidden, mark-hidden, held-hidd
 rebound : (t : List ℕ) (n : ℕ) (q : Visit ℕ) (w : List ℕ) (m u r : ℕ) (st w′ : List ℕ) → out r st w′ ≡ visit t n q w m u
     → (st″ : List ℕ) (f : Bindings ℕ → Bindings ℕ) → held st″ ≡ f (held st) → markOf st″ ≡ markOf st → out r st″ w′ ≡ plan t n (ask keep q (λ h c. ret h (f c)) fail) w m u
 unfolding meaning
-rebound t n q w m u r st w′ is st″ f holds mark = go (toldOf r) refl
+rebound t n q w m u r st w′ is st″ f holds mark = go (answerOf r) refl
   where
-    go : (a : Answer) → a ≡ toldOf r → out r st″ w′ ≡ plan t n (ask keep q (λ h c. ret h (f c)) fail) w m u
+    go : (a : Answer) → a ≡ answerOf r → out r st″ w′ ≡ plan t n (ask keep q (λ h c. ret h (f c)) fail) w m u
     go (Done x v) e =
-        out-told st″ w′ r (Done x v) e ∙ rw (holds, mark) (sym (goes-on t n w m u q r st w′ is (Done x v) e (λ h c. ret h (f c)) fail x v refl ∙ returned t n w′ (markOf st) v x (f (held st))))
-    go (Failed v) e = out-told st″ w′ r (Failed v) e ∙ sym (out-told st w′ r (Failed v) e) ∙ not-done t n w m u q r st w′ is (Failed v) e keep (λ h c. ret h (f c)) (inl refl)
-    go (Cut c) e = out-told st″ w′ r (Cut c) e ∙ sym (out-told st w′ r (Cut c) e) ∙ not-done t n w m u q r st w′ is (Cut c) e keep (λ h c. ret h (f c)) (inr refl)
+        out-answer st″ w′ r (Done x v) e ∙ rw (holds, mark) (sym (goes-on t n w m u q r st w′ is (Done x v) e (λ h c. ret h (f c)) fail x v refl ∙ returned t n w′ (markOf st) v x (f (held st))))
+    go (Failed v) e = out-answer st″ w′ r (Failed v) e ∙ sym (out-answer st w′ r (Failed v) e) ∙ not-done t n w m u q r st w′ is (Failed v) e keep (λ h c. ret h (f c)) (inl refl)
+    go (Cut c) e = out-answer st″ w′ r (Cut c) e ∙ sym (out-answer st w′ r (Cut c) e) ∙ not-done t n w m u q r st w′ is (Cut c) e keep (λ h c. ret h (f c)) (inr refl)
 
 -- what is bound with some variables hidden is bound without
 masked-some : (m v j : ℕ) (b : Bindings ℕ) → masked m unbound b v ≡ some j → b v ≡ some j

@@ -23,18 +23,18 @@ use Rattle.meaning.proofs.Checked.{node-of-good}
 use Rattle.meaning.proofs.Words.{kept-refl, kept-trans, kept-word}
 use Rattle.leaves.specs.declared.answers.Answer.{Answer}
 use Rattle.leaves.specs.declared.answers.Answer.the-variants.{Done, Failed, Cut}
-use Rattle.leaves.specs.declared.answers.Heard.{Heard}
-use Rattle.leaves.specs.declared.answers.Heard.the-variants.{Ended, Cut as Off}
-use Rattle.leaves.specs.Answers.{packed, nodeIn, unitsIn, unitsWord, toldOf, heardOf}
+use Rattle.leaves.specs.declared.answers.Attempt.{Attempt}
+use Rattle.leaves.specs.declared.answers.Attempt.the-variants.{Ended, Cut as Off}
+use Rattle.leaves.specs.Answers.{packed, nodeIn, unitsIn, unitsWord, answerOf, attemptOf}
 use Rattle.leaves.specs.Record.{marking, maskOf, masking, recordLong, markOf, held, back, Framed}
 use Rattle.leaves.specs.Visits.{out, visit, plan, countOf, noded, Steady, Roomy, Gives}
-use Rattle.cycle.specs.Cycle.{Counted, operandFor, visits, walked, finished, landed, Leads, Leaps, Ready}
-use Rattle.leaves.proofs.Telling.{node-packed, units-packed, done-units, failed-few, heard-yes, heard-no, heard-off, out-units}
+use Rattle.cycle.specs.Cycle.{Counted, operandFor, visits, walked, finished, entryAhead, Leads, VisitsAhead, Ready}
+use Rattle.leaves.proofs.AnswerWords.{node-packed, units-packed, done-units, failed-few, attempt-done, attempt-failed, attempt-cut, out-units}
 use Rattle.leaves.proofs.Asking.{goes-on, caught, cut-off}
 use Rattle.leaves.proofs.Keeping.{apply-leaves, steady-kept, steady-after, roomy, leaves-done, leaves-failed, node-small}
 use Rattle.leaves.proofs.Holding.{held-back, mark-back, framed-back, length-back, framed-refl, framed-trans}
 use Rattle.leaves.proofs.Children.{part-length, part-next, part-end, filled, filled-next, one-more, filled-row}
-use Rattle.cycle.proofs.Leaping.{leads-on, leads-inside}
+use Rattle.cycle.proofs.Ahead.{leads-on, leads-inside}
 use Rattle.cycle.proofs.Operators.{ends, fails, not-caught}
 
 -- a term made anew, and a term without children
@@ -228,7 +228,7 @@ module _ {t w₀ st₀ : List ℕ} {e s deep : ℕ} {w st : List ℕ} {u won : �
 
   -- the visit of child i gave `got`
   module _ {x κ c p got : ℕ} {st′ w′ : List ℕ} (oe : x ≡ operandFor t e κ i) (κe : κ ≡ kindOf t e) (ce : c ≡ wordAt w (nodeIn s) (2 + i)) (pe : p ≡ packed c u)
-      (gives : Gives (visit t deep (apply x (nodeIn p) (held st)) w (markOf st) (unitsIn p)) st got st′ w′) {a : Heard} (heard : a ≡ heardOf (toldOf got)) where
+      (gives : Gives (visit t deep (apply x (nodeIn p) (held st)) w (markOf st) (unitsIn p)) st got st′ w′) {a : Attempt} (attempted : a ≡ attemptOf (answerOf got)) where
     xe : x ≡ operandFor t e (kindOf t e) i
     xe = oe ∙ ap (λ (k : ℕ). operandFor t e k i) κe
 
@@ -255,16 +255,16 @@ module _ {t w₀ st₀ : List ℕ} {e s deep : ℕ} {w st : List ℕ} {u won : �
     -- a cut-off, and a failure that nothing catches
     pub going-off : {d : ℕ} → a ≡ Off d → Whole
     going-off {d} q = record {
-      is = cut-off t deep w (markOf st) u _ got st′ w′ is (toldOf got) refl keep _ _ d (heard-off (toldOf got) d (sym heard ∙ q)) ∙ sym next ∙ g .left;
+      is = cut-off t deep w (markOf st) u _ got st′ w′ is (answerOf got) refl keep _ _ d (attempt-cut (answerOf got) d (sym attempted ∙ q)) ∙ sym next ∙ g .left;
       frame = framed′;
     }
 
     module _ {b : Bool} {y v : ℕ} (q : a ≡ Ended b y v) where
-      failed-as : b ≡ false → toldOf got ≡ Failed v
-      failed-as z = heard-no (toldOf got) y v (sym heard ∙ q ∙ ap (λ b. Ended b y v) z)
+      failed-as : b ≡ false → answerOf got ≡ Failed v
+      failed-as z = attempt-failed (answerOf got) y v (sym attempted ∙ q ∙ ap (λ b. Ended b y v) z)
 
-      done-as : b ≡ true → toldOf got ≡ Done y v
-      done-as z = heard-yes (toldOf got) y v (sym heard ∙ q ∙ ap (λ b. Ended b y v) z)
+      done-as : b ≡ true → answerOf got ≡ Done y v
+      done-as z = attempt-done (answerOf got) y v (sym attempted ∙ q ∙ ap (λ b. Ended b y v) z)
 
       leaves : Leaves w (markOf st) (visit t deep (apply x (nodeIn p) (held st)) w (markOf st) (unitsIn p))
       leaves = apply-leaves (g .steady) t (ready .entries) deep x (nodeIn p) (unitsIn p) (rw (pe, node-packed c u (g .few), cw) child-below)
@@ -281,7 +281,7 @@ module _ {t w₀ st₀ : List ℕ} {e s deep : ℕ} {w st : List ℕ} {u won : �
       pub going-yes : {r : ℕ} {st″ made″ : List ℕ} → b ≡ true → st″ ≡ st′ → r ≡ 1 → made″ ≡ set made (2 + i) y → Going t w₀ st₀ e s deep w′ st″ v r made″ (i + 1)
       going-yes {r} {st″} {made″} z se re me =
           let f = done-as z in
-          let lv = leaves-done w (markOf st) _ leaves got st′ w′ (gives .is) (toldOf got) refl y v f in
+          let lv = leaves-done w (markOf st) _ leaves got st′ w′ (gives .is) (answerOf got) refl y v f in
           rw (se, re, me) (record {
             done = g .done ++ (y ∷ []);
             made-is = filled-next _ _ i y (g .done) made (g .made-is) (g .so-far) (omega arith);
@@ -292,10 +292,10 @@ module _ {t w₀ st₀ : List ℕ} {e s deep : ℕ} {w st : List ℕ} {u won : �
             steady = steady-after (g .steady) w′ (markOf st′) y v (held st′) lv;
             frame = framed′;
             wide = gives .frame .long ∙ g .wide;
-            few = done-units got y v (toldOf got) refl f;
+            few = done-units got y v (answerOf got) refl f;
             begun = λ j. absurd (omega arith);
             won-later = λ j. omega arith;
-            left = sym (next ∙ goes-on t deep w (markOf st) u _ got st′ w′ is (toldOf got) refl (λ h c. rest t w₀ e (nodeIn s) (i + 1) 1 (g .done ++ (h ∷ [])) c) _ y v f) ∙ g .left;
+            left = sym (next ∙ goes-on t deep w (markOf st) u _ got st′ w′ is (answerOf got) refl (λ h c. rest t w₀ e (nodeIn s) (i + 1) 1 (g .done ++ (h ∷ [])) c) _ y v f) ∙ g .left;
           })
 
       -- SOME keeps child i, which failed
@@ -304,7 +304,7 @@ module _ {t w₀ st₀ : List ℕ} {e s deep : ℕ} {w st : List ℕ} {u won : �
       going-no {k} {r} {mark} {mask} {st″} {made″} z ke k13 p q saved re me =
           let se : st″ ≡ back st st′ = saved ∙ saving k mark mask st st′ p q k13 in
           let f = failed-as z in
-          let kp = leaves-failed w (markOf st) _ leaves got st′ w′ (gives .is) (toldOf got) refl v f in
+          let kp = leaves-failed w (markOf st) _ leaves got st′ w′ (gives .is) (answerOf got) refl v f in
           let hd = held-back st st′ long′ (gives .frame) in
           let mk = mark-back st st′ long′ in
           rw (se, re, me) (record {
@@ -317,30 +317,30 @@ module _ {t w₀ st₀ : List ℕ} {e s deep : ℕ} {w st : List ℕ} {u won : �
             steady = rw (mk, hd) (steady-kept (g .steady) kp);
             frame = framed-trans st₀ st (back st st′) (g .frame) (framed-back st st′ long′ (gives .frame));
             wide = length-back st st′ long′ ∙ sym (ready .long);
-            few = failed-few got v (toldOf got) refl f;
+            few = failed-few got v (answerOf got) refl f;
             begun = λ j. absurd (omega arith);
             won-later = λ j. omega arith;
-            left = rw (mk, hd) (sym (next ∙ caught t deep w (markOf st) u _ got st′ w′ is (toldOf got) refl keep _ _ v f ∙ rw (eq-eqb (kindOf t e) 13 (sym ke ∙ k13))) ∙ g .left);
+            left = rw (mk, hd) (sym (next ∙ caught t deep w (markOf st) u _ got st′ w′ is (answerOf got) refl keep _ _ v f ∙ rw (eq-eqb (kindOf t e) 13 (sym ke ∙ k13))) ∙ g .left);
           })
 
 -- running out of units is a cut-off
-units-off : heardOf (toldOf unitsWord) ≡ Off unitsWord
-unfolding heardOf toldOf
+units-off : attemptOf (answerOf unitsWord) ≡ Off unitsWord
+unfolding attemptOf answerOf
 units-off = refl
 
 -- a visit of child i of which the first n only lead on
 module _ {t w₀ st₀ : List ℕ} {e s deep : ℕ} {w st : List ℕ} {u won : ℕ} {made : List ℕ} {i : ℕ} (ready : Ready t w₀ st₀ e s) (same : Counted t w₀ e (nodeIn s))
-    (g : Going t w₀ st₀ e s deep w st u won made i) (h : i < countOf w₀ (nodeIn s)) (n κ : ℕ) (leaps : Leaps t e deep n) (κe : κ ≡ kindOf t e) {first x : ℕ} (fe : first ≡ landed t e n)
+    (g : Going t w₀ st₀ e s deep w st u won made i) (h : i < countOf w₀ (nodeIn s)) (n κ : ℕ) (ahead : VisitsAhead t e deep n) (κe : κ ≡ kindOf t e) {first x : ℕ} (fe : first ≡ entryAhead t e n)
     (xe : x ≡ (if eqb κ 10 then wordAt t e (2 + i) else first)) where
   leads : Leads t (operandFor t e κ i) x n
-  leads = leads-on n κ i leaps κe fe xe
+  leads = leads-on n κ i ahead κe fe xe
 
   module _ {c p : ℕ} (ce : c ≡ wordAt w (nodeIn s) (2 + i)) (pe : p ≡ packed c (u - n)) where
     less : u - n < 4294967296
     less = omega (arith, g .few)
 
-    pub leap-ready : Ready t w st x p
-    leap-ready =
+    pub ahead-ready : Ready t w st x p
+    ahead-ready =
         let r = going-ready ready same g h {x = operandFor t e κ i} {κ = κ} {c = c} {p = packed c u} refl κe ce refl in
         record {
           entries = r .entries;
@@ -351,20 +351,20 @@ module _ {t w₀ st₀ : List ℕ} {e s deep : ℕ} {w st : List ℕ} {u won : �
           subject = rw (pe, node-packed c (u - n) less) (subst (λ k. k < markOf st) (node-packed c u (g .few)) (r .subject));
         }
 
-    pub leap-gives : {got : ℕ} {st′ w′ : List ℕ} → n ≤ u → Gives (visit t (deep - n) (apply x (nodeIn p) (held st)) w (markOf st) (unitsIn p)) st got st′ w′
+    pub ahead-gives : {got : ℕ} {st′ w′ : List ℕ} → n ≤ u → Gives (visit t (deep - n) (apply x (nodeIn p) (held st)) w (markOf st) (unitsIn p)) st got st′ w′
         → Gives (visit t deep (apply (operandFor t e κ i) (nodeIn (packed c u)) (held st)) w (markOf st) (unitsIn (packed c u))) st got st′ w′
-    leap-gives l o = record {
-      is = o .is ∙ rw (pe, node-packed c (u - n) less, units-packed c (u - n) less, node-packed c u (g .few), units-packed c u (g .few)) (sym (leads .is c (held st) w (markOf st) deep u (leaps .few) l));
+    ahead-gives l o = record {
+      is = o .is ∙ rw (pe, node-packed c (u - n) less, units-packed c (u - n) less, node-packed c u (g .few), units-packed c u (g .few)) (sym (leads .is c (held st) w (markOf st) deep u (ahead .few) l));
       frame = o .frame;
     }
 
   -- the units are fewer than these visits
-  pub leap-short : {r : ℕ} → u < n → r ≡ unitsWord → Gives (plan t deep (walked t w₀ e (nodeIn s) (held st₀)) w₀ (markOf st₀) (unitsIn s)) st₀ r st w
-  leap-short {r} l re =
+  pub ahead-short : {r : ℕ} → u < n → r ≡ unitsWord → Gives (plan t deep (walked t w₀ e (nodeIn s) (held st₀)) w₀ (markOf st₀) (unitsIn s)) st₀ r st w
+  ahead-short {r} l re =
       let c = wordAt w (nodeIn s) (2 + i) in
       let o : out r st w ≡ visit t deep (apply (operandFor t e κ i) (nodeIn (packed c u)) (held st)) w (markOf st) (unitsIn (packed c u))
-      = ap (λ r. out r st w) re ∙ out-units st w ∙ rw (node-packed c u (g .few), units-packed c u (g .few)) (sym (leads .short c (held st) w (markOf st) deep u (leaps .few) l)) in
-      going-off ready same g h {x = operandFor t e κ i} {κ = κ} {c = c} {p = packed c u} refl κe refl refl (record { is = o; frame = framed-refl st }) {a = heardOf (toldOf r)} refl (ap (λ r. heardOf (toldOf r)) re ∙ units-off)
+      = ap (λ r. out r st w) re ∙ out-units st w ∙ rw (node-packed c u (g .few), units-packed c u (g .few)) (sym (leads .short c (held st) w (markOf st) deep u (ahead .few) l)) in
+      going-off ready same g h {x = operandFor t e κ i} {κ = κ} {c = c} {p = packed c u} refl κe refl refl (record { is = o; frame = framed-refl st }) {a = attemptOf (answerOf r)} refl (ap (λ r. attemptOf (answerOf r)) re ∙ units-off)
 
 -- the walk's end
 module _ {t w₀ st₀ : List ℕ} {e s deep : ℕ} {w st : List ℕ} {u won : ℕ} {made : List ℕ} {i : ℕ} (ready : Ready t w₀ st₀ e s) (same : Counted t w₀ e (nodeIn s))

@@ -17,7 +17,7 @@ use Rattle.meaning.specs.Store.{children}
 use Rattle.leaves.specs.Noted.{on, Ran, leftWords}
 use Rattle.leaves.specs.Answers.{nodeIn, unitsIn}
 use Rattle.leaves.specs.Record.{recordLong, markOf, held}
-use Rattle.leaves.specs.Visits.{countOf, agreeing, visit, ruled, Entries, Steady, Gives, noded}
+use Rattle.leaves.specs.Visits.{countOf, agreeing, visit, plan, ruled, Entries, Steady, Gives, noded}
 
 -- a kind with no operand in a last position: neither SEQ, CHOICE, LEFT, REC nor CALL
 pub record Last (k : ℕ) : Type 0 where
@@ -62,20 +62,20 @@ abbrev pub Follows : (t w st : List ℕ) (e g d r : ℕ) → (st′ w′ : List 
 Follows t w st e g d r st′ w′ = Gives (ruled t d e (nodeIn g) (held st) w (markOf st) (unitsIn g)) st r st′ w′
 
 -- a number of visits after which entry q fails on node k, or 0 where none is known
-pub record Skips (t w : List ℕ) (q k most n : ℕ) : Type 0 where
+pub record VisitsToFailure (t w : List ℕ) (q k most n : ℕ) : Type 0 where
   pub few : n ≤ most
   pub fails : (n ≡ 0 → ⊥) → Fails t w q k n
 
 -- n visits, no more than the nesting d, that lead from the one operand of entry e to its word 4; 0 where none are known, and
 -- in CONG
-pub record Leaps (t : List ℕ) (e d n : ℕ) : Type 0 where
+pub record VisitsAhead (t : List ℕ) (e d n : ℕ) : Type 0 where
   pub few : n ≤ d
   pub one : kindOf t e ≡ 10 → n ≡ 0
   pub leads : (n ≡ 0 → ⊥) → Leads t (wordAt t e 2) (wordAt t e 4) n
 
 -- the entry after so many visits
-abbrev pub landed : List ℕ → ℕ → ℕ → ℕ
-landed t e n = if eqb n 0 then wordAt t e 2 else wordAt t e 4
+abbrev pub entryAhead : List ℕ → ℕ → ℕ → ℕ
+entryAhead t e n = if eqb n 0 then wordAt t e 2 else wordAt t e 4
 
 -- the operand for child i: its own in CONG, else the one
 abbrev pub operandFor : List ℕ → ℕ → ℕ → ℕ → ℕ
@@ -93,6 +93,10 @@ unfoldable pub walked : List ℕ → List ℕ → ℕ → ℕ → Bindings ℕ �
 walked t w e k b =
     if eqb (kindOf t e) 13 then someOf (wordAt t e 2) false [] (children w k) b (again k (constructorOf w k))
     else walk (visits t e (children w k)) [] b (again k (constructorOf w k))
+
+-- what the child walker gives on the node of g
+abbrev pub Walks : (t w st : List ℕ) (e g d r : ℕ) → (st′ w′ : List ℕ) → Type 0
+Walks t w st e g d r st′ w′ = Gives (plan t d (walked t w e (nodeIn g) (held st)) w (markOf st) (unitsIn g)) st r st′ w′
 
 -- the walk's end: SOME needs a success, and a term without children is returned itself
 unfoldable pub finished : (k won n g : ℕ) → List ℕ → List ℕ → List ℕ → ℕ → Ran

@@ -1,6 +1,6 @@
 // The cycle of visits. Applying an entry selects the rule by its kind; operands in a last position go round a loop; one
 // child walker serves ALL, SOME and CONG. The nesting left falls at each call.
-use crate::skipping::skipped;
+use crate::skipping::visits_to_failure;
 use checks::kinds::ALL;
 use checks::kinds::BUILD;
 use checks::kinds::CALL;
@@ -19,17 +19,17 @@ use checks::kinds::SOME;
 use checks::kinds::TEST;
 use checks::kinds::WHERE;
 use leaves::answers::Answer;
+use leaves::answers::Attempt;
 use leaves::answers::HALF;
-use leaves::answers::Heard;
+use leaves::answers::answer_of;
+use leaves::answers::attempt_of;
 use leaves::answers::done;
 use leaves::answers::failure;
-use leaves::answers::hear;
 use leaves::answers::no_nesting;
 use leaves::answers::no_units;
-use leaves::answers::told;
 use leaves::builder::build;
 use leaves::builder::node;
-use leaves::matcher::matching;
+use leaves::matcher::match_node;
 use leaves::reading::HINT_ENTRY;
 use leaves::reading::HINT_VISITS;
 use leaves::reading::agree;
@@ -52,10 +52,10 @@ ghost use Rattle.words.specs.Tests.{if_then_else_};
 ghost use lib.Dec.{eqb, ltb};
 ghost use lib.ListN.{length, getD, set};
 ghost use Rattle.checks.specs.Good.{kindOf};
-ghost use Rattle.leaves.specs.Answers.{nodeIn, unitsIn};
-ghost use Rattle.leaves.specs.Record.{markOf, held, recordLong};
-ghost use Rattle.leaves.specs.Visits.{plan, Roomy, Gives};
-ghost use Rattle.cycle.specs.Cycle.{walked, Applied, Follows, landed, finished, Counted, Hinted, Leaps, Ready, Last};
+ghost use Rattle.leaves.specs.Answers.{nodeIn};
+ghost use Rattle.leaves.specs.Record.{markOf, recordLong};
+ghost use Rattle.leaves.specs.Visits.{Roomy, Gives};
+ghost use Rattle.cycle.specs.Cycle.{Walks, Applied, Follows, entryAhead, finished, Counted, Hinted, VisitsAhead, Ready, Last};
 
 // One visit: an entry applied as a strategy. Units first, then nesting; then it is counted. ALL, of which traversals are made,
 // is looked at here: a term without children is given back at once.
@@ -71,7 +71,7 @@ pub fn apply(
     ensures { λ r. ⌜ Applied (now (table .entry)) (now (store .entry)) (now (st .entry)) start given deep r (now (st .exit)) (now (store .exit)) ⌝ }
 {
     if kind(table, start) != ALL {
-        return turns(table, store, st, start, given, deep);
+        return apply_loop(table, store, st, start, given, deep);
     }
     let left = (given % HALF) as u32;
     if left == 0 {
@@ -86,8 +86,8 @@ pub fn apply(
     walk(table, store, st, start, given - 1, deep - 1)
 }
 
-// The same for every kind. An operand in a last position goes round the loop.
-fn turns(
+// One visit of any kind. An operand in a last position goes round the loop, one deeper.
+fn apply_loop(
     table: &[u32; 32768],
     store: &mut [u32],
     st: &mut [u32; RECORD],
@@ -118,7 +118,7 @@ fn turns(
             }
             SEQ => {
                 let got = apply(table, store, st, entry(table, e, 2), s, d);
-                let Answer::Done(_, _) = told(got) else {
+                let Answer::Done(_, _) = answer_of(got) else {
                     return got;
                 };
                 s = got;
@@ -127,7 +127,7 @@ fn turns(
             CHOICE..=LEFT => {
                 // Where the first operand fails at its head, its visits are counted and not made.
                 let first = entry(table, e, 2);
-                let fails = skipped(table, store, e, s, d);
+                let fails = visits_to_failure(table, store, e, s, d);
                 if fails != 0 {
                     s -= fails as u64;
                     e = entry(table, e, 3);
@@ -135,12 +135,12 @@ fn turns(
                 }
                 let mark = st[MARK];
                 let mask = st[MASK];
-                let got = turns(table, store, st, first, s, d);
-                let Answer::Failed(u) = told(got) else {
+                let got = apply_loop(table, store, st, first, s, d);
+                let Answer::Failed(rest) = answer_of(got) else {
                     return got;
                 };
                 restore(st, mark, mask);
-                s = done((s / HALF) as u32, u);
+                s = done((s / HALF) as u32, rest);
                 e = entry(table, e, 3);
             }
             _ => {
@@ -171,10 +171,10 @@ fn rule(
         ALL => walk(table, store, st, e, s, d),
         ONE => one(table, store, st, e, s, d),
         SOME => walk(table, store, st, e, s, d),
-        MATCH => matching(table, store, st, entry(table, e, 2), s, d),
+        MATCH => match_node(table, store, st, entry(table, e, 2), s, d),
         BUILD => build(table, store, st, entry(table, e, 2), (s % HALF) as u32, d),
         SCOPE => scope(table, store, st, e, s, d),
-        WHERE => aside(table, store, st, e, s, d),
+        WHERE => keep_subject(table, store, st, e, s, d),
         _ => failure((s % HALF) as u32),
     }
 }
@@ -194,24 +194,24 @@ fn guard(
     let mark = st[MARK];
     let mask = st[MASK];
     let got = apply(table, store, st, entry(table, e, 2), s, deep);
-    let Heard::Ended(yes, _, u) = hear(got) else {
+    let Attempt::Ended(yes, _, left) = attempt_of(got) else {
         return got;
     };
     restore(st, mark, mask);
     if kind(table, e) == TEST {
         if yes {
-            return done((s / HALF) as u32, u);
+            return done((s / HALF) as u32, left);
         }
-        return failure(u);
+        return failure(left);
     }
     if yes {
-        return failure(u);
+        return failure(left);
     }
-    done((s / HALF) as u32, u)
+    done((s / HALF) as u32, left)
 }
 
 // WHERE: the term as it was, the new bindings kept.
-fn aside(
+fn keep_subject(
     table: &[u32; 32768],
     store: &mut [u32],
     st: &mut [u32; RECORD],
@@ -223,10 +223,10 @@ fn aside(
     ensures { λ r. ⌜ Follows (now (table .entry)) (now (store .entry)) (now (st .entry)) e s deep r (now (st .exit)) (now (store .exit)) ⌝ }
 {
     let got = apply(table, store, st, entry(table, e, 2), s, deep);
-    let Answer::Done(_, u) = told(got) else {
+    let Answer::Done(_, left) = answer_of(got) else {
         return got;
     };
-    done((s / HALF) as u32, u)
+    done((s / HALF) as u32, left)
 }
 
 // PATH i: child i, counted from 1.
@@ -258,12 +258,12 @@ fn path(
         done(word(store, t, 1 + i), left),
         deep,
     );
-    let Answer::Done(x, u) = told(got) else {
+    let Answer::Done(x, rest) = answer_of(got) else {
         return got;
     };
     let mut made = row(store, t);
     made[1 + (i as usize)] = x;
-    node(store, st, made, u)
+    node(store, st, made, rest)
 }
 
 // CONG: constructor and count must agree.
@@ -295,22 +295,22 @@ fn walk(
     deep: u32,
 ) -> u64
     requires { ⌜ Ready (now table) (now store) (now st) e s × Counted (now table) (now store) e (nodeIn s) ⌝ }
-    ensures { λ r. ⌜ Gives (plan (now (table .entry)) deep (walked (now (table .entry)) (now (store .entry)) e (nodeIn s) (held (now (st .entry)))) (now (store .entry)) (markOf (now (st .entry))) (unitsIn s)) (now (st .entry)) r (now (st .exit)) (now (store .exit)) ⌝ }
+    ensures { λ r. ⌜ Walks (now (table .entry)) (now (store .entry)) (now (st .entry)) e s deep r (now (st .exit)) (now (store .exit)) ⌝ }
 {
     let t = (s / HALF) as u32;
-    let mut u = (s % HALF) as u32;
+    let mut left = (s % HALF) as u32;
     let kind = kind(table, e);
     let n = count(store, t);
     let name = word(store, t, 0);
-    let ahead = leap(table, e, deep);
-    let first = landing(table, e, ahead);
+    let ahead = visits_ahead(table, e, deep);
+    let first = entry_ahead(table, e, ahead);
     let mut won: u32 = 0;
     let mut a: u32 = 0;
     let mut b: u32 = 0;
-    let mut more = [0u32; 4];
+    let mut others = [0u32; 4];
     let mut i: u32 = 0;
     while i < n {
-        if u < ahead {
+        if left < ahead {
             return no_units();
         }
         let c = word(store, t, 2 + i);
@@ -321,10 +321,10 @@ fn walk(
             store,
             st,
             operand(table, e, kind, first, i),
-            done(c, u - ahead),
+            done(c, left - ahead),
             deep - ahead,
         );
-        let Heard::Ended(yes, x, left) = hear(got) else {
+        let Attempt::Ended(yes, x, rest) = attempt_of(got) else {
             return got;
         };
         let mut y = c;
@@ -337,10 +337,10 @@ fn walk(
             }
             restore(st, mark, mask);
         }
-        a = at(i, 0, y, a);
-        b = at(i, 1, y, b);
-        more = beyond(more, i, y);
-        u = left;
+        a = child_at(i, 0, y, a);
+        b = child_at(i, 1, y, b);
+        others = others_at(others, i, y);
+        left = rest;
         i += 1;
     }
     finish(
@@ -350,16 +350,16 @@ fn walk(
         won,
         n,
         s,
-        [name, n, a, b, more[0], more[1], more[2], more[3]],
-        u,
+        [name, n, a, b, others[0], others[1], others[2], others[3]],
+        left,
     )
 }
 
 // How many visits lead to the first work of ALL's or SOME's operand: those of a CALL and its REC, where it is known that
 // there is nothing else in them and the nesting is enough; else 0.
-fn leap(table: &[u32; 32768], e: u32, deep: u32) -> u32
+fn visits_ahead(table: &[u32; 32768], e: u32, deep: u32) -> u32
     requires { ⌜ Hinted (now table) × (e < 4096) ⌝ }
-    ensures { λ r. ⌜ Leaps (now (table .entry)) e deep r ⌝ }
+    ensures { λ r. ⌜ VisitsAhead (now (table .entry)) e deep r ⌝ }
 {
     if deep < 2 {
         return 0;
@@ -373,9 +373,9 @@ fn leap(table: &[u32; 32768], e: u32, deep: u32) -> u32
 }
 
 // The entry after so many visits.
-fn landing(table: &[u32; 32768], e: u32, ahead: u32) -> u32
+fn entry_ahead(table: &[u32; 32768], e: u32, ahead: u32) -> u32
     requires { ⌜ e < 4096 ⌝ }
-    ensures { λ r. ⌜ r ≡ landed (now (table .entry)) e ahead ⌝ }
+    ensures { λ r. ⌜ r ≡ entryAhead (now (table .entry)) e ahead ⌝ }
 {
     if ahead == 0 {
         return entry(table, e, 2);
@@ -407,7 +407,7 @@ fn saved(st: &[u32; RECORD], kind: u32, j: usize) -> u32
 
 // The children that are made: the first and the second by themselves, so that a walk over two writes no array, the others
 // in four words.
-fn at(i: u32, place: u32, x: u32, old: u32) -> u32
+fn child_at(i: u32, place: u32, x: u32, old: u32) -> u32
     ensures { λ r. ⌜ r ≡ (if eqb i place then x else old) ⌝ }
 {
     if i == place {
@@ -416,14 +416,14 @@ fn at(i: u32, place: u32, x: u32, old: u32) -> u32
     old
 }
 
-fn beyond(more: [u32; 4], i: u32, x: u32) -> [u32; 4]
+fn others_at(others: [u32; 4], i: u32, x: u32) -> [u32; 4]
     requires { ⌜ i < 6 ⌝ }
-    ensures { λ r. ⌜ r ≡ (if ltb i 2 then more else set more (i - 2) x) ⌝ }
+    ensures { λ r. ⌜ r ≡ (if ltb i 2 then others else set others (i - 2) x) ⌝ }
 {
     if i < 2 {
-        return more;
+        return others;
     }
-    let mut set = more;
+    let mut set = others;
     set[(i - 2) as usize] = x;
     set
 }
@@ -467,27 +467,34 @@ fn one(
     ensures { λ r. ⌜ Follows (now (table .entry)) (now (store .entry)) (now (st .entry)) e s deep r (now (st .exit)) (now (store .exit)) ⌝ }
 {
     let t = (s / HALF) as u32;
-    let mut u = (s % HALF) as u32;
+    let mut left = (s % HALF) as u32;
     let n = count(store, t);
     let mark = st[MARK];
     let mask = st[MASK];
     let op = entry(table, e, 2);
     let mut i: u32 = 0;
     while i < n {
-        let got = apply(table, store, st, op, done(word(store, t, 2 + i), u), deep);
-        let Heard::Ended(yes, x, left) = hear(got) else {
+        let got = apply(
+            table,
+            store,
+            st,
+            op,
+            done(word(store, t, 2 + i), left),
+            deep,
+        );
+        let Attempt::Ended(yes, x, rest) = attempt_of(got) else {
             return got;
         };
         if yes {
             let mut made = row(store, t);
             made[2 + (i as usize)] = x;
-            return node(store, st, made, left);
+            return node(store, st, made, rest);
         }
         restore(st, mark, mask);
-        u = left;
+        left = rest;
         i += 1;
     }
-    failure(u)
+    failure(left)
 }
 
 // SCOPE: nothing is saved where no masked variable is bound.

@@ -15,10 +15,10 @@ use Rattle.leaves.specs.Noted.{State, on, stored, Ran, leftWords}
 use Rattle.leaves.proofs.answers.Answer.{the-type}
 use Rattle.leaves.specs.declared.answers.Answer.{Answer}
 use Rattle.leaves.specs.declared.answers.Answer.the-variants.{Done, Failed, Cut}
-use Rattle.leaves.specs.Answers.{unitsIn, toldOf}
+use Rattle.leaves.specs.Answers.{unitsIn, answerOf}
 use Rattle.leaves.specs.Record.{markOf, held}
 use Rattle.leaves.specs.Visits.{visit, plan, limitOf, meaning, out}
-use Rattle.leaves.proofs.Telling.{out-told}
+use Rattle.leaves.proofs.AnswerWords.{out-answer}
 
 -- the answer is one of two
 abbrev pub Tagged : Answer → ℕ → ℕ → Type 0
@@ -62,13 +62,13 @@ module _ (t : List ℕ) (n : ℕ) (w : List ℕ) (m u : ℕ) where
     unfolding plan visit runPlan after
     ask-cut d c e = rw e
 
-  -- the same by the answer's word r, told as a, with the record st and the store w′ at its return
-  module _ (q : Visit ℕ) (r : ℕ) (st w′ : List ℕ) (is : out r st w′ ≡ visit t n q w m u) (a : Answer) (told : a ≡ toldOf r) where
+  -- the same by the answer's word r, read as a, with the record st and the store w′ at its return
+  module _ (q : Visit ℕ) (r : ℕ) (st w′ : List ℕ) (is : out r st w′ ≡ visit t n q w m u) (a : Answer) (read : a ≡ answerOf r) where
     says : visit t n q w m u ≡ meaning a st w′
-    says = sym is ∙ out-told st w′ r a told
+    says = sym is ∙ out-answer st w′ r a read
 
     said : out r st w′ ≡ meaning a st w′
-    said = out-told st w′ r a told
+    said = out-answer st w′ r a read
 
     pub goes-on : (k : ℕ → Bindings ℕ → Do ℕ) (p : Do ℕ) (x v : ℕ) → a ≡ Done x v → plan t n (ask keep q k p) w m u ≡ plan t n (k x (held st)) w′ (markOf st) v
     unfolding meaning

@@ -18,10 +18,10 @@ use Rattle.meaning.specs.Store.{row}
 use Rattle.leaves.specs.Noted.{on, Ran}
 use Rattle.leaves.specs.declared.answers.Answer.{Answer}
 use Rattle.leaves.specs.declared.answers.Answer.the-variants.{Done}
-use Rattle.leaves.specs.Answers.{toldOf, packed, failedWord, roomWord}
+use Rattle.leaves.specs.Answers.{answerOf, packed, failedWord, roomWord}
 use Rattle.leaves.specs.Record.{marking, recordLong, wordOf, markOf, maskOf, bitOf, held, Framed}
 use Rattle.leaves.specs.Visits.{visit, plan, out, noded, Entries, Steady, Roomy, Gives}
-use Rattle.leaves.proofs.Telling.{out-done, out-failed, out-room}
+use Rattle.leaves.proofs.AnswerWords.{out-done, out-failed, out-room}
 use Rattle.leaves.proofs.Asking.{Tagged}
 use Rattle.leaves.proofs.Kind.{counted, pattern-variable, pattern-con}
 use Rattle.leaves.proofs.Keeping.{build-leaves, steady-after, node-small, leaves-done}
@@ -120,14 +120,14 @@ module _ (t : List ℕ) (n p : ℕ) (st₀ : List ℕ) (o : ℕ → Ran) (w st m
     frame = framed-trans st₀ st st′ (c .frame) (g .frame);
   }
 
-  -- the next operand q: the answer's word r, told as a, with record and store at its return
-  module _ (few : operandCount t p ≤ 6) (h : i < operandCount t p) (q r : ℕ) (qe : q ≡ wordAt t p (2 + i)) (st′ w′ : List ℕ) (g : (k : ℕ) → Gives (visit t n (build q k (held st)) w (markOf st) u) st r st′ w′) (a : Answer) (told : a ≡ toldOf r) where
+  -- the next operand q: the answer's word r, read as a, with record and store at its return
+  module _ (few : operandCount t p ≤ 6) (h : i < operandCount t p) (q r : ℕ) (qe : q ≡ wordAt t p (2 + i)) (st′ w′ : List ℕ) (g : (k : ℕ) → Gives (visit t n (build q k (held st)) w (markOf st) u) st r st′ w′) (a : Answer) (read : a ≡ answerOf r) where
     next : (k : ℕ) → plan t n (walk (build q k ∷ map (λ q. build q k) (drop (i + 1) (operands t p))) (c .gs) (held st) (λ gs b′. make (argumentOf t p) gs (λ x. ret x b′))) w (markOf st) u ≡ o k
     next k = rw qe (sym (rw (part-next t p (operandCount t p) i (omega arith))) ∙ c .goes-on k)
 
     pub build-stops : Tagged a 1 2 → (k : ℕ) → Gives (o k) st₀ r st′ w′
     build-stops e k = record {
-      is = walk-stop t n w (markOf st) u (c .gs) (held st) _ (build q k) _ r st′ w′ (g k .is) a told e ∙ next k;
+      is = walk-stop t n w (markOf st) u (c .gs) (held st) _ (build q k) _ r st′ w′ (g k .is) a read e ∙ next k;
       frame = framed-trans st₀ st st′ (c .frame) (g k .frame);
     }
 
@@ -136,7 +136,7 @@ module _ (t : List ℕ) (n p : ℕ) (st₀ : List ℕ) (o : ℕ → Ran) (w st m
       gs = c .gs ++ (x ∷ []);
       so-far = one-more (c .gs) x i (c .so-far);
       filling = filled-next (argumentOf t p) (operandCount t p) i x (c .gs) made (c .filling) (c .so-far) (omega arith);
-      steady = steady-after (c .steady) w′ (markOf st′) x v (held st′) (leaves-done w (markOf st) _ (build-leaves (c .steady) t en n q 0 u (c .steady .used)) r st′ w′ (g 0 .is) a told x v e);
+      steady = steady-after (c .steady) w′ (markOf st′) x v (held st′) (leaves-done w (markOf st) _ (build-leaves (c .steady) t en n q 0 u (c .steady .used)) r st′ w′ (g 0 .is) a read x v e);
       frame = framed-trans st₀ st st′ (c .frame) (g 0 .frame);
-      goes-on = λ k. sym (walk-on t n w (markOf st) u (c .gs) (held st) _ (build q k) _ r st′ w′ (g k .is) a told x v e) ∙ next k;
+      goes-on = λ k. sym (walk-on t n w (markOf st) u (c .gs) (held st) _ (build q k) _ r st′ w′ (g k .is) a read x v e) ∙ next k;
     }

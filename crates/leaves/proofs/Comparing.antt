@@ -15,9 +15,9 @@ use Rattle.meaning.specs.Store.{children}
 use Rattle.leaves.specs.Noted.{on, Ran, leftWords}
 use Rattle.leaves.specs.declared.answers.Answer.{Answer}
 use Rattle.leaves.specs.declared.answers.Answer.the-variants.{Done, Failed, Cut}
-use Rattle.leaves.specs.Answers.{toldOf, packed, failedWord}
+use Rattle.leaves.specs.Answers.{answerOf, packed, failedWord}
 use Rattle.leaves.specs.Visits.{countOf, visit, plan, giving, kept}
-use Rattle.leaves.proofs.Telling.{kept-done, kept-failed, kept-told}
+use Rattle.leaves.proofs.AnswerWords.{kept-done, kept-failed, kept-answer}
 use Rattle.leaves.proofs.Asking.{Tagged}
 use Rattle.leaves.proofs.Kind.{counted}
 use Rattle.leaves.proofs.Children.{part-length, part-next, part-end}
@@ -71,33 +71,33 @@ module _ (w : List ℕ) (a b : ℕ) where
     unfolding zip
     compared r e l h = ap (λ r. kept r b β w m) e ∙ kept-done w w b β m 0 u (omega arith) l ∙ sym (walk-end t n w m u (g .0) β _ _ (rw (part-end w a _ i h)) ∙ returned t n w m u b β) ∙ g .1
 
-    -- the next pair: its answer's word r, told as a′
-    module _ (ha : i < countOf w a) (hb : i < countOf w b) (x y r : ℕ) (xe : x ≡ wordAt w a (2 + i)) (ye : y ≡ wordAt w b (2 + i)) (is : kept r y β w m ≡ visit t n (compare x y β) w m u) (a′ : Answer) (told : a′ ≡ toldOf r) where
+    -- the next pair: its answer's word r, read as a′
+    module _ (ha : i < countOf w a) (hb : i < countOf w b) (x y r : ℕ) (xe : x ≡ wordAt w a (2 + i)) (ye : y ≡ wordAt w b (2 + i)) (is : kept r y β w m ≡ visit t n (compare x y β) w m u) (a′ : Answer) (read : a′ ≡ answerOf r) where
       next : plan t n (walk (compare x y ∷ zip compare (drop (i + 1) (children w a)) (drop (i + 1) (children w b))) (g .0) β (λ ks b′. ret b b′)) w m u ≡ o
       unfolding zip
       next = rw (xe, ye) (sym (rw (part-next w a _ i ha, part-next w b _ i hb)) ∙ g .1)
 
       pub pair-done : (z v : ℕ) → a′ ≡ Done z v → Goes-on t n w a b (i + 1) β m v o
-      pair-done z v e = (g .0 ++ (y ∷ []), sym (kept-on t n w m u (g .0) β _ (compare x y) _ r y β is a′ told z v e) ∙ next)
+      pair-done z v e = (g .0 ++ (y ∷ []), sym (kept-on t n w m u (g .0) β _ (compare x y) _ r y β is a′ read z v e) ∙ next)
 
       pub pair-stops : Tagged a′ 1 2 → kept r b β w m ≡ o
-      pair-stops e = kept-stop t n w m u (g .0) β _ (compare x y) _ r y β is a′ told e b β ∙ next
+      pair-stops e = kept-stop t n w m u (g .0) β _ (compare x y) _ r y β is a′ read e b β ∙ next
 
     -- the last pair: its answer is the answer of all
     module _ (ha : i + 1 ≡ countOf w a) (hb : i + 1 ≡ countOf w b) (x y : ℕ) (xe : x ≡ wordAt w a (2 + i)) (ye : y ≡ wordAt w b (2 + i)) where
-      ended-last : (r : ℕ) → kept r y β w m ≡ visit t n (compare x y β) w m u → (a′ : Answer) → a′ ≡ toldOf r → (z v : ℕ) → a′ ≡ Done z v → kept r b β w m ≡ o
+      ended-last : (r : ℕ) → kept r y β w m ≡ visit t n (compare x y β) w m u → (a′ : Answer) → a′ ≡ answerOf r → (z v : ℕ) → a′ ≡ Done z v → kept r b β w m ≡ o
       unfolding zip giving
       ended-last r is a′ e z v f =
           let g′ = pair-done (omega arith) (omega arith) x y r xe ye is a′ e z v f in
           let h : countOf w a ≤ i + 1 = omega arith in
-          kept-told w w b β m r a′ e
+          kept-answer w w b β m r a′ e
           ∙ rw f
           (sym (walk-end t n w m v (g′ .0) β _ _ (rw (part-end w a _ (i + 1) h)) ∙ returned t n w m v b β) ∙ g′ .1)
 
       pub last-pair : Carried w y b β m (visit t n (compare x y β) w m u) o
-      last-pair r is = go (toldOf r) refl
+      last-pair r is = go (answerOf r) refl
         where
-          go : (a′ : Answer) → a′ ≡ toldOf r → kept r b β w m ≡ o
+          go : (a′ : Answer) → a′ ≡ answerOf r → kept r b β w m ≡ o
           go (Done z v) e = ended-last r is (Done z v) e z v refl
           go (Failed v) e = pair-stops (omega arith) (omega arith) x y r xe ye is (Failed v) e (inl refl)
           go (Cut c) e = pair-stops (omega arith) (omega arith) x y r xe ye is (Cut c) e (inr refl)

@@ -25,10 +25,10 @@ use Rattle.meaning.proofs.Together.{Stored, Names, stores, together}
 use Rattle.meaning.proofs.Demand2.{alike-value}
 use Rattle.leaves.specs.declared.answers.Answer.{Answer}
 use Rattle.leaves.specs.declared.answers.Answer.the-variants.{Done, Failed, Cut}
-use Rattle.leaves.specs.Answers.{toldOf, nodeIn, unitsIn}
+use Rattle.leaves.specs.Answers.{answerOf, nodeIn, unitsIn}
 use Rattle.leaves.specs.Record.{markOf, held}
 use Rattle.leaves.specs.Visits.{visit, meaning, out, Entries, Steady, Roomy}
-use Rattle.leaves.proofs.Telling.{out-told}
+use Rattle.leaves.proofs.AnswerWords.{out-answer}
 
 -- an entry with a first word lies inside the table
 inside : (t : List ℕ) (e : ℕ) → length t ≡ 32768 → 0 < wordAt t e 0 → e < 4096
@@ -102,15 +102,15 @@ module _ {w : List ℕ} {m : ℕ} {b : Bindings ℕ} (s : Steady w m b) where
 pub node-small : {w : List ℕ} {m : ℕ} {b : Bindings ℕ} → Steady w m b → (k : ℕ) → k < m → k < 131072
 node-small s k h = omega (arith, s .fits, s .small)
 
--- by an answer that was told
-module _ (w : List ℕ) (m : ℕ) (o : Ran) (l : Leaves w m o) (r : ℕ) (st w′ : List ℕ) (is : out r st w′ ≡ o) (a : Answer) (told : a ≡ toldOf r) where
-  leaves-told : Leaves w m (meaning a st w′)
-  leaves-told = subst (Leaves w m) (sym is ∙ out-told st w′ r a told) l
+-- by an answer that was read
+module _ (w : List ℕ) (m : ℕ) (o : Ran) (l : Leaves w m o) (r : ℕ) (st w′ : List ℕ) (is : out r st w′ ≡ o) (a : Answer) (read : a ≡ answerOf r) where
+  leaves-answer : Leaves w m (meaning a st w′)
+  leaves-answer = subst (Leaves w m) (sym is ∙ out-answer st w′ r a read) l
 
   pub leaves-done : (x v : ℕ) → a ≡ Done x v → Leaves w m (ended x (held st) (on w′ (markOf st)) v)
   unfolding meaning
-  leaves-done x v e = subst (λ a. Leaves w m (meaning a st w′)) e leaves-told
+  leaves-done x v e = subst (λ a. Leaves w m (meaning a st w′)) e leaves-answer
 
   pub leaves-failed : (v : ℕ) → a ≡ Failed v → Kept w m w′
   unfolding meaning
-  leaves-failed v e = subst (λ a. Leaves w m (meaning a st w′)) e leaves-told
+  leaves-failed v e = subst (λ a. Leaves w m (meaning a st w′)) e leaves-answer

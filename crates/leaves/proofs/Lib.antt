@@ -1,6 +1,6 @@
 -- Laws that belong to no one function.
 pub mod Element
-pub mod Telling
+pub mod AnswerWords
 pub mod Asking
 pub mod Kind
 pub mod Keeping

@@ -6,7 +6,7 @@ use Rattle.meaning.specs.Bindings.{Bindings}
 use Rattle.meaning.specs.Rules.{Visit}
 use Rattle.leaves.specs.Answers.{unitsWord, nestingWord}
 use Rattle.leaves.specs.Visits.{visit, out, kept}
-use Rattle.leaves.proofs.Telling.{out-units, out-nesting, kept-units, kept-nesting}
+use Rattle.leaves.proofs.AnswerWords.{out-units, out-nesting, kept-units, kept-nesting}
 use Rattle.leaves.proofs.Kind.{no-units, no-nesting}
 
 module _ (t : List ℕ) (n : ℕ) (q : Visit ℕ) (w : List ℕ) (m u r : ℕ) where

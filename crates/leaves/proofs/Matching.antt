@@ -21,10 +21,10 @@ use Rattle.meaning.specs.Store.{children}
 use Rattle.leaves.specs.Noted.{on, Ran, leftWords}
 use Rattle.leaves.specs.declared.answers.Answer.{Answer}
 use Rattle.leaves.specs.declared.answers.Answer.the-variants.{Done, Failed, Cut}
-use Rattle.leaves.specs.Answers.{toldOf, packed, nodeIn, unitsIn, failedWord, unitsWord, nestingWord, stoppedWord}
+use Rattle.leaves.specs.Answers.{answerOf, packed, nodeIn, unitsIn, failedWord, unitsWord, nestingWord, stoppedWord}
 use Rattle.leaves.specs.Record.{recordLong, wordOf, markOf, maskOf, bitOf, held, bound, Framed}
-use Rattle.leaves.specs.Visits.{countOf, agreeing, visit, plan, meaning, out, giving, kept, Pattern, Entries, Matchable, Gives, Fitting}
-use Rattle.leaves.proofs.Telling.{stopped-units, stopped-nesting, told-stopped, out-done, out-failed, out-told, kept-done, kept-failed, kept-units, kept-nesting, kept-told, node-packed, units-packed, packed-again, done-node}
+use Rattle.leaves.specs.Visits.{countOf, agreeing, visit, plan, meaning, out, giving, kept, Pattern, Entries, Matchable, Gives, MatchesChildren}
+use Rattle.leaves.proofs.AnswerWords.{stopped-units, stopped-nesting, answer-stopped, out-done, out-failed, out-answer, kept-done, kept-failed, kept-units, kept-nesting, kept-answer, node-packed, units-packed, packed-again, done-node}
 use Rattle.leaves.proofs.Asking.{Tagged, last-match}
 use Rattle.leaves.proofs.Kind.{counted, no-units, no-nesting, pattern-variable, pattern-con}
 use Rattle.leaves.proofs.Keeping.{node-small}
@@ -93,13 +93,13 @@ matched-none t w n p g b = record { goes-on = λ m. ([], refl); frame = framed-r
 pub matched-at : (t w : List ℕ) (n p g : ℕ) (b st st′ : List ℕ) (u u′ i : ℕ) → st′ ≡ st → u′ ≡ u → u < 4294967296 → Matched t w n p g b st u i → (u′ < 4294967296) × Matched t w n p g b st′ u′ i
 matched-at t w n p g b st st′ u u′ i e f l c = rw (e, f) (l, c)
 
--- a word told as a success
-kept-is : (w : List ℕ) (r x : ℕ) (b : Bindings ℕ) (m : ℕ) (a : Answer) → a ≡ toldOf r → (y v : ℕ) → a ≡ Done y v → kept r x b w m ≡ ended x b (on w m) v
+-- a word read as a success
+kept-is : (w : List ℕ) (r x : ℕ) (b : Bindings ℕ) (m : ℕ) (a : Answer) → a ≡ answerOf r → (y v : ℕ) → a ≡ Done y v → kept r x b w m ≡ ended x b (on w m) v
 unfolding giving
-kept-is w r x b m a e y v f = kept-told w w x b m r a e ∙ rw f
+kept-is w r x b m a e y v f = kept-answer w w x b m r a e ∙ rw f
 
 -- all children fit, and the word r says so
-matched-end : (t w : List ℕ) (n p g : ℕ) (b st : List ℕ) (u i r : ℕ) → Matched t w n p g b st u i → operandCount t p ≤ i → ((m : ℕ) → kept r (nodeIn g) (held st) w m ≡ ended (nodeIn g) (held st) (on w m) u) → Fitting t w n p g b r st
+matched-end : (t w : List ℕ) (n p g : ℕ) (b st : List ℕ) (u i r : ℕ) → Matched t w n p g b st u i → operandCount t p ≤ i → ((m : ℕ) → kept r (nodeIn g) (held st) w m ≡ ended (nodeIn g) (held st) (on w m) u) → MatchesChildren t w n p g b r st
 unfolding zip
 matched-end t w n p g b st u i r c h e = record {
   is = λ m.
@@ -110,7 +110,7 @@ matched-end t w n p g b st u i r c h e = record {
   mark = c .mark;
 }
 
-pub matched-all : (t w : List ℕ) (n p g : ℕ) (b st : List ℕ) (u i r : ℕ) → Matched t w n p g b st u i → operandCount t p ≤ i → r ≡ packed 0 u → u < 4294967296 → Fitting t w n p g b r st
+pub matched-all : (t w : List ℕ) (n p g : ℕ) (b st : List ℕ) (u i r : ℕ) → Matched t w n p g b st u i → operandCount t p ≤ i → r ≡ packed 0 u → u < 4294967296 → MatchesChildren t w n p g b r st
 matched-all t w n p g b st u i r c h e l =
     matched-end t w n p g b st u i r c h (λ m. ap (λ r. kept r (nodeIn g) (held st) w m) e ∙ kept-done w w (nodeIn g) (held st) m 0 u (omega arith) l)
 
@@ -153,29 +153,29 @@ module _ {t w : List ℕ} {n p g : ℕ} {b st : List ℕ} {u i q x : ℕ} (c : T
       ∙ c .so-far .goes-on m .1
 
   -- its visit does not succeed, and the word r says so
-  fitting : (r : ℕ) → ((m : ℕ) → kept r (nodeIn g) (held st) w m ≡ plan t n (walk (match q x ∷ rest) (before m) (held st) (λ gs b′. ret (nodeIn g) b′)) w m u) → Fitting t w n p g b r st
-  fitting r e = record { is = λ m. e m ∙ next m; frame = c .so-far .frame; mark = c .so-far .mark }
+  from-here : (r : ℕ) → ((m : ℕ) → kept r (nodeIn g) (held st) w m ≡ plan t n (walk (match q x ∷ rest) (before m) (held st) (λ gs b′. ret (nodeIn g) b′)) w m u) → MatchesChildren t w n p g b r st
+  from-here r e = record { is = λ m. e m ∙ next m; frame = c .so-far .frame; mark = c .so-far .mark }
 
-  pub fits-units : {r : ℕ} → r ≡ unitsWord → u ≡ 0 → Fitting t w n p g b r st
-  fits-units {r} e z =
-      fitting r (λ m.
+  pub child-units : {r : ℕ} → r ≡ unitsWord → u ≡ 0 → MatchesChildren t w n p g b r st
+  child-units {r} e z =
+      from-here r (λ m.
       ap (λ r. kept r (nodeIn g) (held st) w m) e
       ∙ kept-units w w (nodeIn g) (held st) m
       ∙ sym (walk-cut t n w m u (before m) (held st) _ (match q x) rest 0 w units (no-units t n _ w m u z)))
 
-  pub fits-nesting : {r : ℕ} → r ≡ nestingWord u → (u ≡ 0 → ⊥) → n ≡ 0 → Fitting t w n p g b r st
-  fits-nesting {r} e z d =
-      fitting r (λ m.
+  pub child-nesting : {r : ℕ} → r ≡ nestingWord u → (u ≡ 0 → ⊥) → n ≡ 0 → MatchesChildren t w n p g b r st
+  child-nesting {r} e z d =
+      from-here r (λ m.
       ap (λ r. kept r (nodeIn g) (held st) w m) e
       ∙ kept-nesting w w (nodeIn g) (held st) m u (c .few)
       ∙ sym (walk-cut t n w m u (before m) (held st) _ (match q x) rest u w nesting (no-nesting t n _ w m u z d)))
 
-  fits-stopped : {r : ℕ} → r ≡ stoppedWord u → n ≡ 0 → Fitting t w n p g b r st
-  fits-stopped {r} e d = go (eqb u 0) refl
+  child-stopped : {r : ℕ} → r ≡ stoppedWord u → n ≡ 0 → MatchesChildren t w n p g b r st
+  child-stopped {r} e d = go (eqb u 0) refl
     where
-      go : (a : Bool) → eqb u 0 ≡ a → Fitting t w n p g b r st
-      go true h = let z : u ≡ 0 = eqb-true u 0 h in fits-units (e ∙ stopped-units u z) z
-      go false h = let z : u ≡ 0 → ⊥ = eqb-false u 0 h in fits-nesting (e ∙ stopped-nesting u z) z d
+      go : (a : Bool) → eqb u 0 ≡ a → MatchesChildren t w n p g b r st
+      go true h = let z : u ≡ 0 = eqb-true u 0 h in child-units (e ∙ stopped-units u z) z
+      go false h = let z : u ≡ 0 → ⊥ = eqb-false u 0 h in child-nesting (e ∙ stopped-nesting u z) z d
 
   module _ (z : u ≡ 0 → ⊥) (d : n ≡ 0 → ⊥) where
     less : u - 1 < 4294967296
@@ -189,25 +189,25 @@ module _ {t w : List ℕ} {n p g : ℕ} {b st : List ℕ} {u i q x : ℕ} (c : T
       mark = k ∙ c .so-far .mark;
     }
 
-    -- its answer's word r, told as a, with the record st′
-    module _ (r : ℕ) (st′ : List ℕ) (f : Framed st st′) (k : markOf st′ ≡ markOf st) (is : (m : ℕ) → kept r x (held st′) w m ≡ visit t n (match q x (held st)) w m u) (a : Answer) (told : a ≡ toldOf r) where
+    -- its answer's word r, read as a, with the record st′
+    module _ (r : ℕ) (st′ : List ℕ) (f : Framed st st′) (k : markOf st′ ≡ markOf st) (is : (m : ℕ) → kept r x (held st′) w m ≡ visit t n (match q x (held st)) w m u) (a : Answer) (read : a ≡ answerOf r) where
       answered : (y v : ℕ) → a ≡ Done y v → Matched t w n p g b st′ v (i + 1)
       answered y v e = record {
-        goes-on = λ m. (before m ++ (x ∷ []), sym (kept-on t n w m u (before m) (held st) _ (match q x) rest r x (held st′) (is m) a told y v e) ∙ next m);
+        goes-on = λ m. (before m ++ (x ∷ []), sym (kept-on t n w m u (before m) (held st) _ (match q x) rest r x (held st′) (is m) a read y v e) ∙ next m);
         frame = framed-trans b st st′ (c .so-far .frame) f;
         mark = k ∙ c .so-far .mark;
       }
 
-      stopped : Tagged a 1 2 → Fitting t w n p g b r st′
+      stopped : Tagged a 1 2 → MatchesChildren t w n p g b r st′
       stopped e = record {
-        is = λ m. kept-stop t n w m u (before m) (held st) _ (match q x) rest r x (held st′) (is m) a told e (nodeIn g) (held st′) ∙ next m;
+        is = λ m. kept-stop t n w m u (before m) (held st) _ (match q x) rest r x (held st′) (is m) a read e (nodeIn g) (held st′) ∙ next m;
         frame = framed-trans b st st′ (c .so-far .frame) f;
         mark = k ∙ c .so-far .mark;
       }
 
       -- the same with the record as it was
-      refused : Tagged a 1 2 → Fitting t w n p g b r st
-      refused e = fitting r (λ m. kept-stop t n w m u (before m) (held st) _ (match q x) rest r x (held st′) (is m) a told e (nodeIn g) (held st))
+      refused : Tagged a 1 2 → MatchesChildren t w n p g b r st
+      refused e = from-here r (λ m. kept-stop t n w m u (before m) (held st) _ (match q x) rest r x (held st′) (is m) a read e (nodeIn g) (held st))
 
     -- a variable
     module _ {v : ℕ} (kind : kindOf t q ≡ 18) (ve : v ≡ argumentOf t q) where
@@ -218,21 +218,21 @@ module _ {t w : List ℕ} {n p g : ℕ} {b st : List ℕ} {u i q x : ℕ} (c : T
           (λ m. variable-free t n q x (held st) w m u z d v kind ve (held-none st v e) ∙ rw (held-bound st v x l long)))
 
       -- a bound one: the comparison's word r
-      module _ (e : bitOf (maskOf st) v ≡ 1) {y : ℕ} (ye : y ≡ wordOf st v) (r : ℕ) (is : (m : ℕ) → kept r x (held st) w m ≡ visit t (n - 1) (compare y x (held st)) w m (u - 1)) (a : Answer) (told : a ≡ toldOf r) where
+      module _ (e : bitOf (maskOf st) v ≡ 1) {y : ℕ} (ye : y ≡ wordOf st v) (r : ℕ) (is : (m : ℕ) → kept r x (held st) w m ≡ visit t (n - 1) (compare y x (held st)) w m (u - 1)) (a : Answer) (read : a ≡ answerOf r) where
         compared : (m : ℕ) → kept r x (held st) w m ≡ visit t n (match q x (held st)) w m u
         compared m = is m ∙ ap (λ y. visit t (n - 1) (compare y x (held st)) w m (u - 1)) ye ∙ sym (variable-bound t n q x (held st) w m u z d v kind ve (wordOf st v) (held-some st v (variable-small kind ve) e))
 
         pub bound-matched : (j k : ℕ) → a ≡ Done j k → Matched t w n p g b st k (i + 1)
-        bound-matched j k f = answered r st (framed-refl st) refl compared a told j k f
+        bound-matched j k f = answered r st (framed-refl st) refl compared a read j k f
 
-        pub bound-stops : Tagged a 1 2 → Fitting t w n p g b r st
-        bound-stops f = stopped r st (framed-refl st) refl compared a told f
+        pub bound-stops : Tagged a 1 2 → MatchesChildren t w n p g b r st
+        bound-stops f = stopped r st (framed-refl st) refl compared a read f
 
     -- a constructor
     module _ (kind : kindOf t q ≡ 19) where
-      pub other : {r : ℕ} → r ≡ failedWord (u - 1) → agreeing t w q x ≡ false → Fitting t w n p g b r st
+      pub other : {r : ℕ} → r ≡ failedWord (u - 1) → agreeing t w q x ≡ false → MatchesChildren t w n p g b r st
       other {r} e f =
-          fitting r (λ m.
+          from-here r (λ m.
           ap (λ r. kept r (nodeIn g) (held st) w m) e
           ∙ kept-failed w w (nodeIn g) (held st) m (u - 1) less
           ∙ sym (walk-failed t n w m u (before m) (held st) _ (match q x) rest (u - 1) w (differs t n q x (held st) w m u z d (c .entries) (operand-is .0) kind f)))
@@ -253,24 +253,24 @@ module _ {t w : List ℕ} {n p g : ℕ} {b st : List ℕ} {u i q x : ℕ} (c : T
           handed = ap (λ x. agreeing t w q x) node-handed ∙ e
 
           -- and the word r comes back
-          module _ (r : ℕ) (st′ : List ℕ) (f : Fitting t w (n - 1) q s st r st′) (a : Answer) (told : a ≡ toldOf r) where
-            fitted : (m : ℕ) → kept r x (held st′) w m ≡ visit t n (match q x (held st)) w m u
-            fitted m = (rw (node-handed, units-handed) at (f .is m)) ∙ sym (agrees t n q x (held st) w m u z d (c .entries) (operand-is .0) kind e)
+          module _ (r : ℕ) (st′ : List ℕ) (f : MatchesChildren t w (n - 1) q s st r st′) (a : Answer) (read : a ≡ answerOf r) where
+            child-matched : (m : ℕ) → kept r x (held st′) w m ≡ visit t n (match q x (held st)) w m u
+            child-matched m = (rw (node-handed, units-handed) at (f .is m)) ∙ sym (agrees t n q x (held st) w m u z d (c .entries) (operand-is .0) kind e)
 
             pub inner-matched : (y k : ℕ) → a ≡ Done y k → Matched t w n p g b st′ k (i + 1)
-            inner-matched y k j = answered r st′ (f .frame) (f .mark) fitted a told y k j
+            inner-matched y k j = answered r st′ (f .frame) (f .mark) child-matched a read y k j
 
-            pub inner-stops : Tagged a 1 2 → Fitting t w n p g b r st′
-            inner-stops j = stopped r st′ (f .frame) (f .mark) fitted a told j
+            pub inner-stops : Tagged a 1 2 → MatchesChildren t w n p g b r st′
+            inner-stops j = stopped r st′ (f .frame) (f .mark) child-matched a read j
 
-            pub inner-refused : Tagged a 1 2 → Fitting t w n p g b r st
-            inner-refused j = refused r st′ (f .frame) (f .mark) fitted a told j
+            pub inner-refused : Tagged a 1 2 → MatchesChildren t w n p g b r st
+            inner-refused j = refused r st′ (f .frame) (f .mark) child-matched a read j
 
           -- the last child's: what answers them answers all
-          pub last-fits : i + 1 ≡ operandCount t p → (r : ℕ) (st′ : List ℕ) → Fitting t w (n - 1) q s st r st′ → Fitting t w n p g b r st′
-          last-fits h r st′ f = go (toldOf r) refl
+          pub last-fits : i + 1 ≡ operandCount t p → (r : ℕ) (st′ : List ℕ) → MatchesChildren t w (n - 1) q s st r st′ → MatchesChildren t w n p g b r st′
+          last-fits h r st′ f = go (answerOf r) refl
             where
-              go : (a : Answer) → a ≡ toldOf r → Fitting t w n p g b r st′
+              go : (a : Answer) → a ≡ answerOf r → MatchesChildren t w n p g b r st′
               go (Done y v) e =
                   matched-end t w n p g b st′ v (i + 1) r (inner-matched r st′ f (Done y v) e y v refl) (omega arith)
                   (λ m. kept-is w r (nodeIn g) (held st′) m (Done y v) e y v refl)
@@ -278,9 +278,9 @@ module _ {t w : List ℕ} {n p g : ℕ} {b st : List ℕ} {u i q x : ℕ} (c : T
               go (Cut k) e = inner-stops r st′ f (Cut k) e (inr refl)
 
 -- with no nesting left no child is visited
-nothing-fits : (t w : List ℕ) (n p g : ℕ) (b : List ℕ) → Entries t → p < 4096 → kindOf t p ≡ 19 → agreeing t w p (nodeIn g) ≡ true → (operandCount t p ≡ 0 → ⊥) → n ≡ 0 → {r : ℕ} → r ≡ stoppedWord (unitsIn g) → Fitting t w n p g b r b
+nothing-fits : (t w : List ℕ) (n p g : ℕ) (b : List ℕ) → Entries t → p < 4096 → kindOf t p ≡ 19 → agreeing t w p (nodeIn g) ≡ true → (operandCount t p ≡ 0 → ⊥) → n ≡ 0 → {r : ℕ} → r ≡ stoppedWord (unitsIn g) → MatchesChildren t w n p g b r b
 nothing-fits t w n p g b en inside kind agreed o d e =
-    fits-stopped
+    child-stopped
     {q = wordAt t p 2}
     {x = wordAt w (nodeIn g) 2}
     (record {
@@ -298,7 +298,7 @@ nothing-fits t w n p g b en inside kind agreed o d e =
     d
 
 -- so that an operand with children of its own stops the walk
-pub inner-stopped : {t w : List ℕ} {n p g : ℕ} {b st : List ℕ} {u i q x : ℕ} (c : Turn t w n p g b st u i q x) → (u ≡ 0 → ⊥) → kindOf t q ≡ 19 → agreeing t w q x ≡ true → (operandCount t q ≡ 0 → ⊥) → n ≡ 1 → {r : ℕ} → r ≡ stoppedWord (u - 1) → Fitting t w n p g b r st
+pub inner-stopped : {t w : List ℕ} {n p g : ℕ} {b st : List ℕ} {u i q x : ℕ} (c : Turn t w n p g b st u i q x) → (u ≡ 0 → ⊥) → kindOf t q ≡ 19 → agreeing t w q x ≡ true → (operandCount t q ≡ 0 → ⊥) → n ≡ 1 → {r : ℕ} → r ≡ stoppedWord (u - 1) → MatchesChildren t w n p g b r st
 inner-stopped {t} {w} {n} {p} {g} {b} {st} {u} {i} {q} {x} c z kind e o d {r} f =
     let l : u - 1 < 4294967296 = omega (arith, c .few) in
     let x-is : nodeIn (packed x (u - 1)) ≡ x = node-packed x (u - 1) l in
@@ -306,7 +306,7 @@ inner-stopped {t} {w} {n} {p} {g} {b} {st} {u} {i} {q} {x} c z kind e o d {r} f 
     inner-stops c z (λ a. omega arith) kind e refl r st
     (nothing-fits t w (n - 1) q (packed x (u - 1)) st (c .entries) (operand-is c .0) kind (ap (λ x. agreeing t w q x) x-is ∙ e) o (omega arith) (f ∙ ap (λ u. stoppedWord u) (sym u-is)))
     (Cut r)
-    (sym (ap (λ r. toldOf r) f ∙ told-stopped (u - 1) l ∙ ap (λ r. Cut r) (sym f)))
+    (sym (ap (λ r. answerOf r) f ∙ answer-stopped (u - 1) l ∙ ap (λ r. Cut r) (sym f)))
     (inr refl)
 
 -- a walk that goes on in place with the children of the last child: it is before child i of entry p on node k, with the
@@ -319,7 +319,7 @@ pub record Going (t w : List ℕ) (n₀ p₀ g₀ : ℕ) (b₀ : List ℕ) (n p 
   pub kind : kindOf t p ≡ 19
   pub agreed : agreeing t w p (nodeIn given) ≡ true
   pub so-far : Matched t w n p given held-then st u i
-  pub whole : (r : ℕ) (c : List ℕ) → Fitting t w n p given held-then r c → Fitting t w n₀ p₀ g₀ b₀ r c
+  pub whole : (r : ℕ) (c : List ℕ) → MatchesChildren t w n p given held-then r c → MatchesChildren t w n₀ p₀ g₀ b₀ r c
 
 pub going-none : (t w : List ℕ) (n p g : ℕ) (b : List ℕ) → p < 4096 → kindOf t p ≡ 19 → agreeing t w p (nodeIn g) ≡ true → Going t w n p g b n p (nodeIn g) b (unitsIn g) 0
 going-none t w n p g b inside kind agreed = record {
@@ -379,10 +379,10 @@ module _ {t w : List ℕ} {n₀ p₀ g₀ : ℕ} {b₀ : List ℕ} {n p k : ℕ}
         whole = λ r st′ f. c .whole r st′ (last-fits a z d kind e refl h r st′ f);
       }
 
--- an answer's word, told as a: with any record where it is no success
-out-kept : (st w : List ℕ) (r x : ℕ) (b : Bindings ℕ) (m : ℕ) (a : Answer) → a ≡ toldOf r → Tagged a 1 2 → out r st w ≡ kept r x b w m
+-- an answer's word, read as a: with any record where it is no success
+out-kept : (st w : List ℕ) (r x : ℕ) (b : Bindings ℕ) (m : ℕ) (a : Answer) → a ≡ answerOf r → Tagged a 1 2 → out r st w ≡ kept r x b w m
 unfolding meaning giving
-out-kept st w r x b m a e h = out-told st w r a e ∙ go a h ∙ sym (kept-told st w x b m r a e)
+out-kept st w r x b m a e h = out-answer st w r a e ∙ go a h ∙ sym (kept-answer st w x b m r a e)
   where
     go : (a : Answer) → Tagged a 1 2 → meaning a st w ≡ giving a x b w m
     go (Done y v) h = absurd (⊎-elim (λ z. omega arith) (λ z. omega arith) h)
@@ -412,7 +412,7 @@ module _ {t w st : List ℕ} {p g : ℕ} (c : Matchable t w st p g) (n : ℕ) wh
   }
 
   -- a word that is no success, whose units are the root's
-  stopped-root : (r : ℕ) (st′ : List ℕ) → Framed st st′ → (a : Answer) → a ≡ toldOf r → Tagged a 1 2 → kept r (nodeIn g) (held st′) w (markOf st) ≡ root → Gives root st r st′ w
+  stopped-root : (r : ℕ) (st′ : List ℕ) → Framed st st′ → (a : Answer) → a ≡ answerOf r → Tagged a 1 2 → kept r (nodeIn g) (held st′) w (markOf st) ≡ root → Gives root st r st′ w
   stopped-root r st′ f a e h o = record { is = out-kept st′ w r (nodeIn g) (held st′) (markOf st) a e h ∙ o; frame = f }
 
   module _ (z : unitsIn g ≡ 0 → ⊥) (d : n ≡ 0 → ⊥) where
@@ -436,17 +436,17 @@ module _ {t w st : List ℕ} {p g : ℕ} (c : Matchable t w st p g) (n : ℕ) wh
           rw s (ended-root (g - 1) (unitsIn g - 1) (bound st v (nodeIn g)) one-less (omega arith) (mark-bound st v (nodeIn g) root-small) (framed-bound st v (nodeIn g) root-small (c .long) e)
           (variable-free t n p (nodeIn g) (held st) w (markOf st) (unitsIn g) z d v kind ve (held-none st v e) ∙ rw (held-bound st v (nodeIn g) root-small (c .long))))
 
-      module _ (e : bitOf (maskOf st) v ≡ 1) {y : ℕ} (ye : y ≡ wordOf st v) (r : ℕ) (is : kept r (nodeIn g) (held st) w (markOf st) ≡ visit t (n - 1) (compare y (nodeIn g) (held st)) w (markOf st) (unitsIn g - 1)) (a : Answer) (told : a ≡ toldOf r) where
+      module _ (e : bitOf (maskOf st) v ≡ 1) {y : ℕ} (ye : y ≡ wordOf st v) (r : ℕ) (is : kept r (nodeIn g) (held st) w (markOf st) ≡ visit t (n - 1) (compare y (nodeIn g) (held st)) w (markOf st) (unitsIn g - 1)) (a : Answer) (read : a ≡ answerOf r) where
         root-compared : kept r (nodeIn g) (held st) w (markOf st) ≡ root
         root-compared = is ∙ ap (λ y. visit t (n - 1) (compare y (nodeIn g) (held st)) w (markOf st) (unitsIn g - 1)) ye ∙ sym (variable-bound t n p (nodeIn g) (held st) w (markOf st) (unitsIn g) z d v kind ve (wordOf st v) (held-some st v root-small e))
 
         pub root-bound-stops : Tagged a 1 2 → Gives root st r st w
-        root-bound-stops h = stopped-root r st (framed-refl st) a told h root-compared
+        root-bound-stops h = stopped-root r st (framed-refl st) a read h root-compared
 
         pub root-bound : (j k r′ : ℕ) → a ≡ Done j k → r′ ≡ packed (nodeIn g) k → Gives root st r′ st w
         root-bound j k r′ f s =
-            ended-root r′ k st s (omega (arith, done-node r j k (sym told ∙ f))) refl (framed-refl st)
-            (sym root-compared ∙ kept-is w r (nodeIn g) (held st) (markOf st) a told j k f)
+            ended-root r′ k st s (omega (arith, done-node r j k (sym read ∙ f))) refl (framed-refl st)
+            (sym root-compared ∙ kept-is w r (nodeIn g) (held st) (markOf st) a read j k f)
 
     -- a constructor
     module _ (kind : kindOf t p ≡ 19) where
@@ -469,19 +469,19 @@ module _ {t w st : List ℕ} {p g : ℕ} (c : Matchable t w st p g) (n : ℕ) wh
         root-handed = ap (λ x. agreeing t w p x) node-less ∙ e
 
         -- its children: the word r comes back, with the record st′
-        module _ (r : ℕ) (st′ : List ℕ) (f : Fitting t w (n - 1) p (g - 1) st r st′) (a : Answer) (told : a ≡ toldOf r) where
-          root-fitted : kept r (nodeIn g) (held st′) w (markOf st) ≡ root
-          root-fitted =
+        module _ (r : ℕ) (st′ : List ℕ) (f : MatchesChildren t w (n - 1) p (g - 1) st r st′) (a : Answer) (read : a ≡ answerOf r) where
+          root-answered : kept r (nodeIn g) (held st′) w (markOf st) ≡ root
+          root-answered =
               (rw (node-less, units-less) at (f .is (markOf st)))
               ∙ sym (agrees t n p (nodeIn g) (held st) w (markOf st) (unitsIn g) z d (c .entries) (c .inside) kind e)
 
           pub root-stops : Tagged a 1 2 → Gives root st r st′ w
-          root-stops h = stopped-root r st′ (f .frame) a told h root-fitted
+          root-stops h = stopped-root r st′ (f .frame) a read h root-answered
 
-          pub root-fits : (y k r′ : ℕ) → a ≡ Done y k → r′ ≡ packed (nodeIn g) k → Gives root st r′ st′ w
-          root-fits y k r′ h s =
-              ended-root r′ k st′ s (omega (arith, done-node r y k (sym told ∙ h))) (f .mark) (f .frame)
-              (sym root-fitted ∙ kept-is w r (nodeIn g) (held st′) (markOf st) a told y k h)
+          pub root-matched : (y k r′ : ℕ) → a ≡ Done y k → r′ ≡ packed (nodeIn g) k → Gives root st r′ st′ w
+          root-matched y k r′ h s =
+              ended-root r′ k st′ s (omega (arith, done-node r y k (sym read ∙ h))) (f .mark) (f .frame)
+              (sym root-answered ∙ kept-is w r (nodeIn g) (held st′) (markOf st) a read y k h)
 
         -- no nesting is left for them
         pub root-stopped : (operandCount t p ≡ 0 → ⊥) → n ≡ 1 → {r : ℕ} → r ≡ stoppedWord (unitsIn g - 1) → Gives root st r st w
@@ -489,5 +489,5 @@ module _ {t w st : List ℕ} {p g : ℕ} (c : Matchable t w st p g) (n : ℕ) wh
             root-stops r st
             (nothing-fits t w (n - 1) p (g - 1) st (c .entries) (c .inside) kind root-handed o (omega arith) (f ∙ ap (λ u. stoppedWord u) (sym units-less)))
             (Cut r)
-            (sym (ap (λ r. toldOf r) f ∙ told-stopped (unitsIn g - 1) (omega arith) ∙ ap (λ r. Cut r) (sym f)))
+            (sym (ap (λ r. answerOf r) f ∙ answer-stopped (unitsIn g - 1) (omega arith) ∙ ap (λ r. Cut r) (sym f)))
             (inr refl)

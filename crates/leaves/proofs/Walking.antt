@@ -11,10 +11,10 @@ use Rattle.meaning.specs.Limits.{Limit, ended, lost, cut, runPlan}
 use Rattle.leaves.specs.Noted.{on, leftWords}
 use Rattle.leaves.specs.declared.answers.Answer.{Answer}
 use Rattle.leaves.specs.declared.answers.Answer.the-variants.{Done, Failed, Cut}
-use Rattle.leaves.specs.Answers.{unitsIn, toldOf}
+use Rattle.leaves.specs.Answers.{unitsIn, answerOf}
 use Rattle.leaves.specs.Record.{markOf, held}
 use Rattle.leaves.specs.Visits.{visit, plan, limitOf, out, giving, kept}
-use Rattle.leaves.proofs.Telling.{kept-told}
+use Rattle.leaves.proofs.AnswerWords.{kept-answer}
 use Rattle.leaves.proofs.Asking.{Tagged, ask-done, ask-failed, ask-cut, goes-on, not-done}
 
 -- a plan that ends
@@ -52,20 +52,20 @@ module _ (t : List ℕ) (n : ℕ) (w : List ℕ) (m u : ℕ) (gs : List ℕ) (b 
     unfolding walk
     walk-cut v w′ c e = ask-cut t n w m u (q b) (λ g c. walk qs (gs ++ (g ∷ [])) c k) fail v w′ keep c e
 
-    -- by its answer's word r, told as a, with record and store
-    module _ (r : ℕ) (st w′ : List ℕ) (is : out r st w′ ≡ visit t n (q b) w m u) (a : Answer) (told : a ≡ toldOf r) where
+    -- by its answer's word r, read as a, with record and store
+    module _ (r : ℕ) (st w′ : List ℕ) (is : out r st w′ ≡ visit t n (q b) w m u) (a : Answer) (read : a ≡ answerOf r) where
       pub walk-on : (x v : ℕ) → a ≡ Done x v → plan t n (walk (q ∷ qs) gs b k) w m u ≡ plan t n (walk qs (gs ++ (x ∷ [])) (held st) k) w′ (markOf st) v
       unfolding walk
-      walk-on x v e = goes-on t n w m u (q b) r st w′ is a told (λ g c. walk qs (gs ++ (g ∷ [])) c k) fail x v e
+      walk-on x v e = goes-on t n w m u (q b) r st w′ is a read (λ g c. walk qs (gs ++ (g ∷ [])) c k) fail x v e
 
       pub walk-stop : Tagged a 1 2 → out r st w′ ≡ plan t n (walk (q ∷ qs) gs b k) w m u
       unfolding walk
-      walk-stop h = not-done t n w m u (q b) r st w′ is a told keep (λ g c. walk qs (gs ++ (g ∷ [])) c k) h
+      walk-stop h = not-done t n w m u (q b) r st w′ is a read keep (λ g c. walk qs (gs ++ (g ∷ [])) c k) h
 
-    -- by its answer's word r, told as a, of which only the units count
-    module _ (r x : ℕ) (b′ : Bindings ℕ) (is : kept r x b′ w m ≡ visit t n (q b) w m u) (a : Answer) (told : a ≡ toldOf r) where
+    -- by its answer's word r, read as a, of which only the units count
+    module _ (r x : ℕ) (b′ : Bindings ℕ) (is : kept r x b′ w m ≡ visit t n (q b) w m u) (a : Answer) (read : a ≡ answerOf r) where
       says : visit t n (q b) w m u ≡ giving a x b′ w m
-      says = sym is ∙ kept-told w w x b′ m r a told
+      says = sym is ∙ kept-answer w w x b′ m r a read
 
       pub kept-on : (y v : ℕ) → a ≡ Done y v → plan t n (walk (q ∷ qs) gs b k) w m u ≡ plan t n (walk qs (gs ++ (x ∷ [])) b′ k) w m v
       unfolding giving
@@ -73,7 +73,7 @@ module _ (t : List ℕ) (n : ℕ) (w : List ℕ) (m u : ℕ) (gs : List ℕ) (b 
 
       pub kept-stop : Tagged a 1 2 → (y : ℕ) (c : Bindings ℕ) → kept r y c w m ≡ plan t n (walk (q ∷ qs) gs b k) w m u
       unfolding giving
-      kept-stop h y c = kept-told w w y c m r a told ∙ go a refl h
+      kept-stop h y c = kept-answer w w y c m r a read ∙ go a refl h
         where
           go : (a′ : Answer) → a ≡ a′ → Tagged a′ 1 2 → giving a y c w m ≡ plan t n (walk (q ∷ qs) gs b k) w m u
           go (Done z v) e g = absurd (⊎-elim (λ z. omega arith) (λ z. omega arith) g)

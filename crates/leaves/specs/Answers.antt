@@ -5,8 +5,8 @@ use lib.Dec.{eqb, ltb}
 use Rattle.words.specs.Tests.{if_then_else_}
 use Rattle.leaves.specs.declared.answers.Answer.{Answer}
 use Rattle.leaves.specs.declared.answers.Answer.the-variants.{Done, Failed, Cut}
-use Rattle.leaves.specs.declared.answers.Heard.{Heard}
-use Rattle.leaves.specs.declared.answers.Heard.the-variants.{Ended, Cut as Off}
+use Rattle.leaves.specs.declared.answers.Attempt.{Attempt}
+use Rattle.leaves.specs.declared.answers.Attempt.the-variants.{Ended, Cut as Off}
 
 -- a node and the units left in one word, and the two again
 abbrev pub packed : ℕ → ℕ → ℕ
@@ -35,15 +35,15 @@ nestingWord u = 18446744056529682432 + u
 unfoldable pub stoppedWord : ℕ → ℕ
 stoppedWord u = if eqb u 0 then unitsWord else nestingWord u
 
--- the word told
-unfoldable pub toldOf : ℕ → Answer
-toldOf r =
+-- the word read
+unfoldable pub answerOf : ℕ → Answer
+answerOf r =
     if eqb (nodeIn r) 4294967295 then Failed (unitsIn r)
     else if ltb (nodeIn r) 4294967292 then Done (nodeIn r) (unitsIn r)
     else Cut r
 
 -- success and failure in one
-unfoldable pub heardOf : Answer → Heard
-heardOf (Done x u) = Ended true x u
-heardOf (Failed u) = Ended false 0 u
-heardOf (Cut c) = Off c
+unfoldable pub attemptOf : Answer → Attempt
+attemptOf (Done x u) = Ended true x u
+attemptOf (Failed u) = Ended false 0 u
+attemptOf (Cut c) = Off c

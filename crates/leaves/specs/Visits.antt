@@ -14,13 +14,13 @@ use Rattle.checks.specs.Good.{kindOf, operandCount, argumentOf, goodNode}
 use Rattle.meaning.specs.Bindings.{Bindings}
 use Rattle.meaning.specs.Table.{table, operands}
 use Rattle.meaning.specs.Plan.{ret}
-use Rattle.meaning.specs.Rules.{Visit, compare, match, Do, does, strategy, walk, zip}
+use Rattle.meaning.specs.Rules.{Visit, build, compare, match, Do, does, strategy, walk, zip}
 use Rattle.meaning.specs.Limits.{Limit, units, room, nesting, ended, lost, cut, run, runPlan, roomFor}
 use Rattle.meaning.specs.Store.{children}
 use Rattle.leaves.specs.Noted.{on, stored, Ran, leftWords}
 use Rattle.leaves.specs.declared.answers.Answer.{Answer}
 use Rattle.leaves.specs.declared.answers.Answer.the-variants.{Done, Failed, Cut}
-use Rattle.leaves.specs.Answers.{toldOf, nodeIn, unitsIn}
+use Rattle.leaves.specs.Answers.{answerOf, nodeIn, unitsIn}
 use Rattle.leaves.specs.Record.{recordLong, markOf, held, Framed}
 
 -- a node's child count, read as at most 6; its eight words
@@ -56,7 +56,7 @@ meaning (Failed u) st w = lost (leftWords w) u
 meaning (Cut c) st w = cut (limitOf c) (leftWords w) (unitsIn c)
 
 unfoldable pub out : ℕ → List ℕ → List ℕ → Ran
-out r st w = meaning (toldOf r) st w
+out r st w = meaning (answerOf r) st w
 
 -- an answer of which only the units count: success gives the node k and the bindings b back, with nothing made
 unfoldable pub giving : Answer → ℕ → Bindings ℕ → List ℕ → ℕ → Ran
@@ -65,7 +65,7 @@ giving (Failed u) k b w m = lost (leftWords w) u
 giving (Cut c) k b w m = cut (limitOf c) (leftWords w) (unitsIn c)
 
 unfoldable pub kept : ℕ → ℕ → Bindings ℕ → List ℕ → ℕ → Ran
-kept r k b w m = giving (toldOf r) k b w m
+kept r k b w m = giving (answerOf r) k b w m
 
 -- r answers the comparison of nodes a and b: by every table, whatever the bindings and the mark, which it leaves
 abbrev pub Compares : (w : List ℕ) (a b u d r : ℕ) → Type 0
@@ -114,9 +114,24 @@ pub record Gives (o : Ran) (st : List ℕ) (r : ℕ) (st′ w′ : List ℕ) : T
   pub is : out r st′ w′ ≡ o
   pub frame : Framed st st′
 
+-- what BUILD of entry p requires, and what it gives, whatever the subject
+abbrev pub Buildable : (t w st : List ℕ) (p : ℕ) → Type 0
+Buildable t w st p = Entries t × (p < 4096) × Pattern t p × Steady w (markOf st) (held st) × (length st ≡ recordLong)
+
+abbrev pub Builds : (t w st : List ℕ) (p u d r : ℕ) → (st′ w′ : List ℕ) → Type 0
+Builds t w st p u d r st′ w′ = (k : ℕ) → Gives (visit t d (build p k (held st)) w (markOf st) u) st r st′ w′
+
+-- MATCH of entry p gives r with the record st′
+abbrev pub Matches : (t w st : List ℕ) (p g d r : ℕ) (st′ : List ℕ) → Type 0
+Matches t w st p g d r st′ = Gives (visit t d (match p (nodeIn g) (held st)) w (markOf st) (unitsIn g)) st r st′ w
+
+-- entry p is a PCON whose constructor and count are the node's, and nesting is left for its children
+abbrev pub Agreed : (t w : List ℕ) (p g d : ℕ) → Type 0
+Agreed t w p g d = Entries t × (p < 4096) × (kindOf t p ≡ 19) × (agreeing t w p (nodeIn g) ≡ true) × (0 < d)
+
 -- what follows a MATCH of entry p on node k, whose constructor and count agree, whatever the mark: the record is b before
 -- and c after, and its mark is as it was
-pub record Fitting (t w : List ℕ) (n p g : ℕ) (b : List ℕ) (r : ℕ) (c : List ℕ) : Type 0 where
+pub record MatchesChildren (t w : List ℕ) (n p g : ℕ) (b : List ℕ) (r : ℕ) (c : List ℕ) : Type 0 where
   pub is : (m : ℕ) → kept r (nodeIn g) (held c) w m ≡ plan t n (walk (zip match (operands t p) (children w (nodeIn g))) [] (held b) (λ gs b′. ret (nodeIn g) b′)) w m (unitsIn g)
   pub frame : Framed b c
   pub mark : markOf c ≡ markOf b

@@ -1,7 +1,7 @@
 // The answer of a visit in one word: node × 2³² + units left. The four highest node numbers, which no store has, stand
-// for failed, units, room and nesting. A word crosses a call in one register, and is told as an enum on the spot.
+// for failed, units, room and nesting. A word crosses a call in one register, and is read as an enum on the spot.
 ghost use mathlib.Core.Path.{_≡_};
-ghost use Rattle.leaves.specs.Answers.{packed, failedWord, unitsWord, roomWord, nestingWord, stoppedWord, toldOf, heardOf};
+ghost use Rattle.leaves.specs.Answers.{packed, failedWord, unitsWord, roomWord, nestingWord, stoppedWord, answerOf, attemptOf};
 
 // A word's half: a node stands above it, and the units left below.
 pub const HALF: u64 = 1 << 32;
@@ -22,14 +22,14 @@ pub enum Answer {
     Cut(u64),
 }
 
-// What an operator hears that goes on after a failure: whether its operand succeeded, the node, the units left.
-pub enum Heard {
+// An answer for an operator that goes on after a failure: whether its operand succeeded, the node, the units left.
+pub enum Attempt {
     Ended(bool, u32, u32),
     Cut(u64),
 }
 
-pub fn told(r: u64) -> Answer
-    ensures { λ a. ⌜ a ≡ toldOf r ⌝ }
+pub fn answer_of(r: u64) -> Answer
+    ensures { λ a. ⌜ a ≡ answerOf r ⌝ }
 {
     let t = r / HALF;
     let left = (r % HALF) as u32;
@@ -42,14 +42,14 @@ pub fn told(r: u64) -> Answer
     Answer::Cut(r)
 }
 
-pub fn hear(r: u64) -> Heard
-    ensures { λ a. ⌜ a ≡ heardOf (toldOf r) ⌝ }
+pub fn attempt_of(r: u64) -> Attempt
+    ensures { λ a. ⌜ a ≡ attemptOf (answerOf r) ⌝ }
 {
-    let a = told(r);
+    let a = answer_of(r);
     match a {
-        Answer::Done(x, left) => Heard::Ended(true, x, left),
-        Answer::Failed(left) => Heard::Ended(false, 0, left),
-        Answer::Cut(c) => Heard::Cut(c),
+        Answer::Done(x, left) => Attempt::Ended(true, x, left),
+        Answer::Failed(left) => Attempt::Ended(false, 0, left),
+        Answer::Cut(c) => Attempt::Cut(c),
     }
 }
 

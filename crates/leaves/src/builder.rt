@@ -1,11 +1,11 @@
 // A new node at the mark, and the builder: nodes after their children, left to right.
 use crate::answers::Answer;
+use crate::answers::answer_of;
 use crate::answers::done;
 use crate::answers::failure;
 use crate::answers::no_nesting;
 use crate::answers::no_room;
 use crate::answers::no_units;
-use crate::answers::told;
 use crate::reading::entry;
 use crate::reading::kind;
 use crate::reading::operands;
@@ -17,11 +17,10 @@ use crate::record::word_of;
 use checks::kinds::PVAR;
 use words::put_row;
 ghost use mathlib.Core.Path.{_≡_};
-ghost use Prim.Native.Nat.{ℕ, _<_};
+ghost use Prim.Native.Nat.{_<_};
 ghost use lib.ListN.{length};
-ghost use Rattle.meaning.specs.Rules.{build as built};
-ghost use Rattle.leaves.specs.Record.{markOf, held, recordLong};
-ghost use Rattle.leaves.specs.Visits.{visit, noded, Pattern, Entries, Steady, Roomy, Gives};
+ghost use Rattle.leaves.specs.Record.{markOf, recordLong};
+ghost use Rattle.leaves.specs.Visits.{noded, Roomy, Gives, Buildable, Builds};
 
 // The node of these eight words at the mark; no room where the mark equals the store's nodes.
 pub fn node(store: &mut [u32], st: &mut [u32; RECORD], made: [u32; 8], left: u32) -> u64
@@ -43,37 +42,37 @@ pub fn build(
     store: &mut [u32],
     st: &mut [u32; RECORD],
     p: u32,
-    left: u32,
+    units: u32,
     deep: u32,
 ) -> u64
-    requires { ⌜ Entries (now table) × (p < 4096) × Pattern (now table) p × Steady (now store) (markOf (now st)) (held (now st)) × (length (now st) ≡ recordLong) ⌝ }
-    ensures { λ r. ⌜ ((k : ℕ) → Gives (visit (now (table .entry)) deep (built p k (held (now (st .entry)))) (now (store .entry)) (markOf (now (st .entry))) left) (now (st .entry)) r (now (st .exit)) (now (store .exit))) ⌝ }
+    requires { ⌜ Buildable (now table) (now store) (now st) p ⌝ }
+    ensures { λ r. ⌜ Builds (now (table .entry)) (now (store .entry)) (now (st .entry)) p units deep r (now (st .exit)) (now (store .exit)) ⌝ }
 {
-    if left == 0 {
+    if units == 0 {
         return no_units();
     }
     if deep == 0 {
-        return no_nesting(left);
+        return no_nesting(units);
     }
-    let mut u = left - 1;
+    let mut left = units - 1;
     if kind(table, p) == PVAR {
         let v = entry(table, p, 1);
         if bit(st[MASK], v) == 1 {
-            return done(word_of(st, v), u);
+            return done(word_of(st, v), left);
         }
-        return failure(u);
+        return failure(left);
     }
     let n = operands(table, p);
     let mut made = [entry(table, p, 1), n, 0, 0, 0, 0, 0, 0];
     let mut i: u32 = 0;
     while i < n {
-        let got = build(table, store, st, entry(table, p, 2 + i), u, deep - 1);
-        let Answer::Done(x, rest) = told(got) else {
+        let got = build(table, store, st, entry(table, p, 2 + i), left, deep - 1);
+        let Answer::Done(x, rest) = answer_of(got) else {
             return got;
         };
         made[2 + (i as usize)] = x;
-        u = rest;
+        left = rest;
         i += 1;
     }
-    node(store, st, made, u)
+    node(store, st, made, left)
 }

@@ -3,11 +3,11 @@
 // the nesting, which falls at each call. Nesting and units are counted as for every visit. The last child pair goes round the
 // loop, one deeper as the others, and takes no new frame of the machine's stack.
 use crate::answers::Answer;
+use crate::answers::answer_of;
 use crate::answers::done;
 use crate::answers::failure;
 use crate::answers::no_nesting;
 use crate::answers::no_units;
-use crate::answers::told;
 use crate::reading::count;
 use words::word;
 ghost use Rattle.leaves.specs.Visits.{Compares};
@@ -44,7 +44,7 @@ pub fn same(store: &[u32], a: u32, b: u32, units: u32, deep: u32) -> u64
             // The call gets a copy of the slice, so that the slice itself stays in registers.
             let words = store;
             let got = same(words, word(store, x, 2 + i), word(store, y, 2 + i), left, d);
-            let Answer::Done(_, rest) = told(got) else {
+            let Answer::Done(_, rest) = answer_of(got) else {
                 return got;
             };
             left = rest;

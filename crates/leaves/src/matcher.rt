@@ -2,12 +2,12 @@
 // run's own, in place, for the children of a MATCH's pattern; below that its core takes and returns the record by value.
 use crate::answers::Answer;
 use crate::answers::HALF;
+use crate::answers::answer_of;
 use crate::answers::done;
 use crate::answers::failure;
 use crate::answers::no_nesting;
 use crate::answers::no_units;
 use crate::answers::stopped;
-use crate::answers::told;
 use crate::compare::same;
 use crate::reading::agree;
 use crate::reading::entry;
@@ -24,91 +24,101 @@ use crate::record::word_of;
 use checks::kinds::PVAR;
 use words::word;
 ghost use mathlib.Core.Path.{_≡_};
-ghost use mathlib.Core.Bool.{true};
 ghost use Prim.Native.Nat.{_<_};
 ghost use lib.ListN.{length};
-ghost use Rattle.meaning.specs.Rules.{match as met};
-ghost use Rattle.checks.specs.Good.{kindOf};
-ghost use Rattle.leaves.specs.Answers.{nodeIn, unitsIn};
-ghost use Rattle.leaves.specs.Record.{markOf, held, recordLong};
-ghost use Rattle.leaves.specs.Visits.{visit, Pattern, Entries, agreeing, Matchable, Gives, Fitting};
+ghost use Rattle.leaves.specs.Record.{recordLong};
+ghost use Rattle.leaves.specs.Visits.{Pattern, Agreed, Matchable, Matches, MatchesChildren};
 
-pub struct Fitted {
+pub struct MatchedChildren {
     pub got: u64,
     pub binds: Bindings,
 }
 
-// A PCON whose constructor and count agree with the node's, after its own visit: child by child. Some nesting is left for
-// the children, so that the loop does not test it; its caller does.
-fn fits(table: &[u32; 32768], store: &[u32], p: u32, s: u64, b: Bindings, deep: u32) -> Fitted
-    requires { ⌜ Entries (now table) × (p < 4096) × (kindOf (now table) p ≡ 19) × (agreeing (now table) (now store) p (nodeIn s) ≡ true) × (0 < deep) ⌝ }
-    ensures { λ r. ⌜ Fitting (now (table .entry)) (now (store .entry)) deep p s (b .words) (r .got) (r .binds .words) ⌝ }
+// The children of a PCON whose constructor and count agree with the node's, after its own visit, one by one. Some nesting is left
+// for them, so that the loop does not test it; its caller does. The record is taken and returned by value.
+fn match_children(
+    table: &[u32; 32768],
+    store: &[u32],
+    p: u32,
+    s: u64,
+    b: Bindings,
+    deep: u32,
+) -> MatchedChildren
+    requires { ⌜ Agreed (now table) (now store) p s deep ⌝ }
+    ensures { λ r. ⌜ MatchesChildren (now (table .entry)) (now (store .entry)) deep p s (b .words) (r .got) (r .binds .words) ⌝ }
 {
     let t = (s / HALF) as u32;
-    let mut u = (s % HALF) as u32;
+    let mut left = (s % HALF) as u32;
     let mut words = b.words;
     let n = operands(table, p);
     let mut i: u32 = 0;
     while i < n {
         let q = entry(table, p, 2 + i);
         let c = word(store, t, 2 + i);
-        if u == 0 {
-            return Fitted {
+        if left == 0 {
+            return MatchedChildren {
                 got: no_units(),
                 binds: Bindings { words },
             };
         }
-        u -= 1;
+        left -= 1;
         if kind(table, q) == PVAR {
             let v = entry(table, q, 1);
             if bit(words[MASK], v) == 1 {
-                let got = same(store, word_of(&words, v), c, u, deep - 1);
-                let Answer::Done(_, left) = told(got) else {
-                    return Fitted {
+                let got = same(store, word_of(&words, v), c, left, deep - 1);
+                let Answer::Done(_, rest) = answer_of(got) else {
+                    return MatchedChildren {
                         got,
                         binds: Bindings { words },
                     };
                 };
-                u = left;
+                left = rest;
             } else {
                 words[FIRST + v as usize] = c;
                 words[MASK] = words[MASK] | (1 << v);
             }
         } else {
             if !agree(table, store, q, c) {
-                return Fitted {
-                    got: failure(u),
+                return MatchedChildren {
+                    got: failure(left),
                     binds: Bindings { words },
                 };
             }
             if operands(table, q) != 0 {
                 if deep == 1 {
-                    return Fitted {
-                        got: stopped(u),
+                    return MatchedChildren {
+                        got: stopped(left),
                         binds: Bindings { words },
                     };
                 }
-                let f = fits(table, store, q, done(c, u), Bindings { words }, deep - 1);
+                let f = match_children(
+                    table,
+                    store,
+                    q,
+                    done(c, left),
+                    Bindings { words },
+                    deep - 1,
+                );
                 let got = f.got;
-                let Answer::Done(_, left) = told(got) else {
+                let Answer::Done(_, rest) = answer_of(got) else {
                     return f;
                 };
-                u = left;
+                left = rest;
                 let filled = f.binds;
                 words = filled.words;
             }
         }
         i += 1;
     }
-    Fitted {
-        got: done(0, u),
+    MatchedChildren {
+        got: done(0, left),
         binds: Bindings { words },
     }
 }
 
-// The same in the run's record, for the children of a MATCH's own pattern. The last child goes round the loop: its children
+// The children of a PCON, matched in the run's record, for a MATCH's own pattern. The last child goes round the loop: its children
 // are next, with a level of nesting less. A failure leaves the bindings made so far, which are of no account then.
-fn filled(
+fn match_in_place(
     table: &[u32; 32768],
     store: &[u32],
     st: &mut [u32; RECORD],
@@ -116,43 +126,44 @@ fn filled(
     s: u64,
     deep: u32,
 ) -> u64
-    requires { ⌜ Entries (now table) × (p < 4096) × (kindOf (now table) p ≡ 19) × (agreeing (now table) (now store) p (nodeIn s) ≡ true) × (0 < deep) × (length (now st) ≡ recordLong) ⌝ }
-    ensures { λ r. ⌜ Fitting (now (table .entry)) (now (store .entry)) deep p s (now (st .entry)) r (now (st .exit)) ⌝ }
+    requires { ⌜ (length (now st) ≡ recordLong) × Agreed (now table) (now store) p s deep ⌝ }
+    ensures { λ r. ⌜ MatchesChildren (now (table .entry)) (now (store .entry)) deep p s (now (st .entry)) r (now (st .exit)) ⌝ }
 {
     let mut x = p;
     let mut t = (s / HALF) as u32;
-    let mut u = (s % HALF) as u32;
+    let mut left = (s % HALF) as u32;
     let mut d = deep;
     let mut n = operands(table, x);
     let mut i: u32 = 0;
     while i < n {
         let q = entry(table, x, 2 + i);
         let c = word(store, t, 2 + i);
-        if u == 0 {
+        if left == 0 {
             return no_units();
         }
-        u -= 1;
+        left -= 1;
         i += 1;
         if kind(table, q) == PVAR {
             let v = entry(table, q, 1);
             if bit(st[MASK], v) == 1 {
+                // A call gets a copy of the slice, so that the slice itself stays in registers; so below.
                 let words = store;
-                let got = same(words, word_of(st, v), c, u, d - 1);
-                let Answer::Done(_, left) = told(got) else {
+                let got = same(words, word_of(st, v), c, left, d - 1);
+                let Answer::Done(_, rest) = answer_of(got) else {
                     return got;
                 };
-                u = left;
+                left = rest;
             } else {
                 put_variable(st, v, c);
             }
         } else {
             if !agree(table, store, q, c) {
-                return failure(u);
+                return failure(left);
             }
             let m = operands(table, q);
             if m != 0 {
                 if d == 1 {
-                    return stopped(u);
+                    return stopped(left);
                 }
                 if i == n {
                     x = q;
@@ -162,12 +173,19 @@ fn filled(
                     i = 0;
                 } else {
                     let words = store;
-                    let f = fits(table, words, q, done(c, u), Bindings { words: *st }, d - 1);
+                    let f = match_children(
+                        table,
+                        words,
+                        q,
+                        done(c, left),
+                        Bindings { words: *st },
+                        d - 1,
+                    );
                     let got = f.got;
-                    let Answer::Done(_, left) = told(got) else {
+                    let Answer::Done(_, rest) = answer_of(got) else {
                         return got;
                     };
-                    u = left;
+                    left = rest;
                     let b = f.binds;
                     let w = b.words;
                     *st = w;
@@ -175,11 +193,11 @@ fn filled(
             }
         }
     }
-    done(0, u)
+    done(0, left)
 }
 
 // MATCH of the pattern p on a node: the root is looked at first.
-pub fn matching(
+pub fn match_node(
     table: &[u32; 32768],
     store: &[u32],
     st: &mut [u32; RECORD],
@@ -188,7 +206,7 @@ pub fn matching(
     deep: u32,
 ) -> u64
     requires { ⌜ Matchable (now table) (now store) (now st) p s × Pattern (now table) p ⌝ }
-    ensures { λ r. ⌜ Gives (visit (now (table .entry)) deep (met p (nodeIn s) (held (now (st .entry)))) (now (store .entry)) (markOf (now (st .entry))) (unitsIn s)) (now (st .entry)) r (now (st .exit)) (now (store .entry)) ⌝ }
+    ensures { λ r. ⌜ Matches (now (table .entry)) (now (store .entry)) (now (st .entry)) p s deep r (now (st .exit)) ⌝ }
 {
     let left = (s % HALF) as u32;
     if left == 0 {
@@ -203,10 +221,10 @@ pub fn matching(
         if bit(st[MASK], v) == 1 {
             let words = store;
             let got = same(words, word_of(st, v), t, left - 1, deep - 1);
-            let Answer::Done(_, u) = told(got) else {
+            let Answer::Done(_, rest) = answer_of(got) else {
                 return got;
             };
-            return done(t, u);
+            return done(t, rest);
         }
         let set = bind(Bindings { words: *st }, v, t);
         let w = set.words;
@@ -223,9 +241,9 @@ pub fn matching(
         return stopped(left - 1);
     }
     let words = store;
-    let got = filled(table, words, st, p, s - 1, deep - 1);
-    let Answer::Done(_, u) = told(got) else {
+    let got = match_in_place(table, words, st, p, s - 1, deep - 1);
+    let Answer::Done(_, rest) = answer_of(got) else {
         return got;
     };
-    done(t, u)
+    done(t, rest)
 }

@@ -12,7 +12,7 @@ use Rattle.checks.specs.Good.{kindOf}
 use Rattle.checks.specs.Checked.{checked, tableChecked}
 use Rattle.meaning.specs.Rules.{apply}
 use Rattle.leaves.specs.Visits.{visit, agreeing}
-use Rattle.cycle.specs.Cycle.{Skips, Leads, Heads, Hinted}
+use Rattle.cycle.specs.Cycle.{VisitsToFailure, Leads, Heads, Hinted}
 use Rattle.leaves.proofs.Kind.{applied, no-units}
 use Rattle.cycle.proofs.Ruling.{ruled-rec, ruled-call}
 use Rattle.cycle.proofs.Failing.{match-fails, seq-fails, scope-fails}
@@ -74,7 +74,7 @@ module _ {t c : List ℕ} (ch : tableChecked t ≡ checked 0 0) (l : Loaded t c)
   first-inside e i = rw (first-same e) (entries-loaded ch l .operand e 0 i (omega arith))
 
   -- where constructor and count differ, a strategy fails in the visit of the PCON that it begins with
-  begins-fails : {p q n : ℕ} → Begins t p q n → q < 4096 → (w : List ℕ) (k : ℕ) → agreeing c w p k ≡ false → Skips c w q k n n
+  begins-fails : {p q n : ℕ} → Begins t p q n → q < 4096 → (w : List ℕ) (k : ℕ) → agreeing c w p k ≡ false → VisitsToFailure c w q k n n
   begins-fails {p} (MATCH q h e g) i w k a =
       match-fails (entries-loaded ch l) i (kind-same l q ∙ h) (e ∙ first-same q) (kind-same l p ∙ g) a
   begins-fails (SEQ q n h b) i w k a =

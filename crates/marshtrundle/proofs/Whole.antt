@@ -29,12 +29,12 @@ use Rattle.meaning.proofs.Falling.{unitsLeft, units-fall}
 use Rattle.meaning.proofs.Demands.{over-the-words}
 use Rattle.leaves.specs.declared.answers.Answer.{Answer}
 use Rattle.leaves.specs.declared.answers.Answer.the-variants.{Done, Failed, Cut}
-use Rattle.leaves.specs.Answers.{packed, nodeIn, unitsIn, toldOf}
+use Rattle.leaves.specs.Answers.{packed, nodeIn, unitsIn, answerOf}
 use Rattle.leaves.specs.Noted.{State, Ran, on, leftWords, stored}
 use Rattle.leaves.specs.Record.{markOf, held}
 use Rattle.leaves.specs.Visits.{visit, limitOf, meaning, out, Entries, Steady, Gives}
 use Rattle.cycle.specs.Cycle.{Hinted, Ready}
-use Rattle.leaves.proofs.Telling.{node-packed, units-packed, out-told}
+use Rattle.leaves.proofs.AnswerWords.{node-packed, units-packed, out-answer}
 use Rattle.marshtrundle.specs.Loaded.{Loaded, Opened}
 use Rattle.marshtrundle.specs.Refused.{refused}
 use Rattle.marshtrundle.specs.Run.{atReturn, refusing, runOf, cutNumber, numbers, wordsOf, Ends}
@@ -97,16 +97,16 @@ module _ (i : Input) (a : Accepted i) (c st : List ℕ) (g : ℕ) (same : table 
   pub ended-as : (r : Outcome) (st′ w′ : List ℕ) → Ends (visit c 4096 (apply (i .start) (i .subject) (held st)) (i .store) (markOf st) (i .units)) (i .subject) (markOf st) (i .units) r st′ w′ → Ends (ran quiet tt i) (i .subject) (i .mark) (i .units) r st′ w′
   ended-as r st′ w′ e = subst (λ m. Ends (ran quiet tt i) (i .subject) m (i .units) r st′ w′) (o .mark) (subst (λ x. Ends x (i .subject) (markOf st) (i .units) r st′ w′) is-ran e)
 
--- What the engine answers, told, as a run's end: the numbers are those of the end, and the units left are at most those given.
+-- What the engine answers, read, as a run's end: the numbers are those of the end, and the units left are at most those given.
 module _ (c w st : List ℕ) (e k u : ℕ) (few : u < 4294967296) (got : ℕ) (g : ℕ) (ge : g ≡ packed k u) (st′ w′ : List ℕ)
-    (gives : Gives (visit c 4096 (apply e (nodeIn g) (held st)) w (markOf st) (unitsIn g)) st got st′ w′) (a : Answer) (told : a ≡ toldOf got) where
+    (gives : Gives (visit c 4096 (apply e (nodeIn g) (held st)) w (markOf st) (unitsIn g)) st got st′ w′) (a : Answer) (read : a ≡ answerOf got) where
   abbrev ends : Ran
   ends = visit c 4096 (apply e k (held st)) w (markOf st) u
 
-  ends-told : ends ≡ meaning a st′ w′
-  ends-told =
+  ends-answer : ends ≡ meaning a st′ w′
+  ends-answer =
       (λ z. visit c 4096 (apply e (sym (ap nodeIn ge ∙ node-packed k u few) z) (held st)) w (markOf st) (sym (ap unitsIn ge ∙ units-packed k u few) z))
-      ∙ sym (gives .is) ∙ out-told st′ w′ got a told
+      ∙ sym (gives .is) ∙ out-answer st′ w′ got a read
 
   few-left : unitsLeft ends ≤ u
   unfolding visit
@@ -115,7 +115,7 @@ module _ (c w st : List ℕ) (e k u : ℕ) (few : u < 4294967296) (got : ℕ) (g
   module _ (x v : ℕ) (q : a ≡ Done x v) where
     is-done : ends ≡ ended x (held st′) (on w′ (markOf st′)) v
     unfolding meaning
-    is-done = ends-told ∙ rw q
+    is-done = ends-answer ∙ rw q
 
     pub done-left : v ≤ u
     unfolding unitsLeft
@@ -128,7 +128,7 @@ module _ (c w st : List ℕ) (e k u : ℕ) (few : u < 4294967296) (got : ℕ) (g
   module _ (v : ℕ) (q : a ≡ Failed v) where
     is-failed : ends ≡ lost (leftWords w′) v
     unfolding meaning
-    is-failed = ends-told ∙ rw q
+    is-failed = ends-answer ∙ rw q
 
     pub failed-left : v ≤ u
     unfolding unitsLeft
@@ -141,7 +141,7 @@ module _ (c w st : List ℕ) (e k u : ℕ) (few : u < 4294967296) (got : ℕ) (g
   module _ (d : ℕ) (q : a ≡ Cut d) where
     is-cut : ends ≡ cut (limitOf d) (leftWords w′) (unitsIn d)
     unfolding meaning
-    is-cut = ends-told ∙ rw q
+    is-cut = ends-answer ∙ rw q
 
     pub cut-left : unitsIn d ≤ u
     unfolding unitsLeft

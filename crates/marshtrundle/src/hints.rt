@@ -32,7 +32,7 @@ fn matched(table: &[u32], q: u32) -> Hint
     Hint(p, 2)
 }
 
-// The same, alone or first in a SEQ.
+// A MATCH of a PCON, alone or first in a SEQ.
 fn first(table: &[u32], q: u32) -> Hint
     ensures { λ r. ⌜ Begun (now (table .entry)) q 3 (r .0) (r .1) ⌝ }
 {
@@ -46,7 +46,7 @@ fn first(table: &[u32], q: u32) -> Hint
     Hint(h.0, h.1 + 1)
 }
 
-// The same, also inside a SCOPE.
+// A MATCH of a PCON, alone or first in a SEQ, or so inside a SCOPE.
 fn begun(table: &[u32], q: u32) -> Hint
     ensures { λ r. ⌜ Begun (now (table .entry)) q 4 (r .0) (r .1) ⌝ }
 {

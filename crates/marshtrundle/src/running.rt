@@ -8,8 +8,8 @@ use leaves::answers::Answer;
 use leaves::answers::HALF;
 use leaves::answers::ROOM;
 use leaves::answers::UNITS;
+use leaves::answers::answer_of;
 use leaves::answers::done;
-use leaves::answers::told;
 use leaves::record::MARK;
 use leaves::record::RECORD;
 use words::clear_from;
@@ -59,7 +59,7 @@ pub(crate) fn run_accepted(
 {
     let mark = st[MARK];
     let got = apply(code, store, st, start, done(subject, units), 4096);
-    let a = told(got);
+    let a = answer_of(got);
     match a {
         Answer::Done(x, left) => Outcome {
             answer: 0,

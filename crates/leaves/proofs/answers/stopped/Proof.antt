@@ -1,6 +1,6 @@
 use mathlib.Core.Path.{sym, _∙_}
 use borrow.Author.Needs.{needs}
-use Rattle.leaves.proofs.Telling.{stopped-units, stopped-nesting}
+use Rattle.leaves.proofs.AnswerWords.{stopped-units, stopped-nesting}
 use Rattle.leaves.proofs.answers.stopped.Statement.{statement}
 use Rattle.leaves.proofs.answers.stopped.Tie as tie
 use Rattle.leaves.proofs.answers.stopped.Reads as reads

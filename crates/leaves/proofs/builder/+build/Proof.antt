@@ -9,7 +9,7 @@ use Rattle.checks.specs.Good.{kindOf, operandCount}
 use Rattle.meaning.specs.Rules.{build as built}
 use Rattle.leaves.specs.Record.{markOf, held}
 use Rattle.leaves.specs.Visits.{visit}
-use Rattle.leaves.proofs.Telling.{done-node}
+use Rattle.leaves.proofs.AnswerWords.{done-node}
 use Rattle.leaves.proofs.Keeping.{roomy}
 use Rattle.leaves.proofs.Holding.{framed-refl}
 use Rattle.leaves.proofs.Limited.{units-out, nesting-out}
@@ -25,7 +25,7 @@ use Rattle.leaves.proofs.answers.done.Reads as done-reads
 use Rattle.leaves.proofs.answers.failure.Reads as failure-reads
 use Rattle.leaves.proofs.answers.no_nesting.Reads as no-nesting-reads
 use Rattle.leaves.proofs.answers.no_units.Reads as no-units-reads
-use Rattle.leaves.proofs.answers.told.Reads as told-reads
+use Rattle.leaves.proofs.answers.answer_of.Reads as answer-of-reads
 use Rattle.leaves.proofs.builder.node.Reads as node-reads
 use Rattle.leaves.proofs.reading.entry.Reads as entry-reads
 use Rattle.leaves.proofs.reading.kind.Reads as kind-reads
@@ -45,7 +45,7 @@ abbrev build-below : ℕ → In 3 build-kinds.ps
 build-below t = and 3 build-kinds.ps (falls 3 build-kinds.ps _<_ μ-build t) build.Pre
 
 abbrev build-calls : ℕ → build-lts.Claims
-build-calls t = (no-units-reads.Asked, no-units-reads.Learnt, no-nesting-reads.Asked, no-nesting-reads.Learnt, kind-reads.Asked, kind-reads.Learnt, entry-reads.Asked, entry-reads.Learnt, bit-reads.Asked, bit-reads.Learnt, word-of-reads.Asked, word-of-reads.Learnt, done-reads.Asked, done-reads.Learnt, failure-reads.Asked, failure-reads.Learnt, operands-reads.Asked, operands-reads.Learnt, build-below t, build.Post, told-reads.Asked, told-reads.Learnt, node-reads.Asked, node-reads.Learnt)
+build-calls t = (no-units-reads.Asked, no-units-reads.Learnt, no-nesting-reads.Asked, no-nesting-reads.Learnt, kind-reads.Asked, kind-reads.Learnt, entry-reads.Asked, entry-reads.Learnt, bit-reads.Asked, bit-reads.Learnt, word-of-reads.Asked, word-of-reads.Learnt, done-reads.Asked, done-reads.Learnt, failure-reads.Asked, failure-reads.Learnt, operands-reads.Asked, operands-reads.Learnt, build-below t, build.Post, answer-of-reads.Asked, answer-of-reads.Learnt, node-reads.Asked, node-reads.Learnt)
 
 abbrev build-Inv-loop : build-lts.InvT-loop
 build-Inv-loop table store₀ st₀ p left deep u₀ n made₀ i₀ store st u made i =
@@ -135,13 +135,13 @@ build-build-requires t c κs =
 
 build-returns-5 : (t : ℕ) → build-lts.Need-returns-5 (build-calls t) (build-at t) build.Post build-Inv-loop build-μ-loop
 build-returns-5 t c =
-    let at-told = c .before in
-    let at-build = at-told .before .before .before in
+    let at-answer-of = c .before in
+    let at-build = at-answer-of .before .before .before in
     let at-entry3 = at-build .before in
     let at-before = at-entry3 .before .before in
     let at-loop = at-before .before .before in
     let start = at-loop .before .before .before .before .before .before .before .before in
-    build-stops _ _ _ _ _ _ _ _ _ _ (at-loop .loop .inv .6) (start .pre .1 .0 .few _ (start .pre .1 .1)) (below t (at-before .before)) _ _ (at-entry3 .entry3 .ensures) _ _ (at-build .build .ensures) _ (at-told .told .ensures) (c .match .keys2)
+    build-stops _ _ _ _ _ _ _ _ _ _ (at-loop .loop .inv .6) (start .pre .1 .0 .few _ (start .pre .1 .1)) (below t (at-before .before)) _ _ (at-entry3 .entry3 .ensures) _ _ (at-build .build .ensures) _ (at-answer-of .answer-of .ensures) (c .match .keys2)
 
 build-array-write-made : (t : ℕ) → build-lts.Need-array-write-made (build-calls t) (build-at t) build.Post build-Inv-loop build-μ-loop
 build-array-write-made t c =
@@ -151,8 +151,8 @@ build-array-write-made t c =
 build-loop-again : (t : ℕ) → build-lts.Need-loop-again (build-calls t) (build-at t) build.Post build-Inv-loop build-μ-loop
 build-loop-again t c =
     let at-x = c .before in
-    let at-told = at-x .before .before in
-    let at-build = at-told .before .before .before in
+    let at-answer-of = at-x .before .before in
+    let at-build = at-answer-of .before .before .before in
     let at-entry3 = at-build .before in
     let at-before = at-entry3 .before .before in
     let at-loop = at-before .before .before in
@@ -161,10 +161,10 @@ build-loop-again t c =
       search needs,
       i .1,
       i .2,
-      omega (arith, done-node _ _ _ (sym (at-told .told .ensures) ∙ at-x .x .given .1)),
+      omega (arith, done-node _ _ _ (sym (at-answer-of .answer-of .ensures) ∙ at-x .x .given .1)),
       at-build .build .kept .1 .0 ∙ i .4,
       simp length-set (i .5),
-      built-more _ _ _ _ _ _ _ _ _ _ (i .6) (start .pre .1 .0 .few _ (start .pre .1 .1)) (below t (at-before .before)) _ _ (at-entry3 .entry3 .ensures) _ _ (at-build .build .ensures) _ (at-told .told .ensures) (start .pre .1 .0) _ _ (at-x .x .given .1),
+      built-more _ _ _ _ _ _ _ _ _ _ (i .6) (start .pre .1 .0 .few _ (start .pre .1 .1)) (below t (at-before .before)) _ _ (at-entry3 .entry3 .ensures) _ _ (at-build .build .ensures) _ (at-answer-of .answer-of .ensures) (start .pre .1 .0) _ _ (at-x .x .given .1),
     )
 
 build-node-requires : (t : ℕ) → build-lts.Need-node-requires (build-calls t) (build-at t) build.Post build-Inv-loop build-μ-loop

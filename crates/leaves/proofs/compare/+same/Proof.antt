@@ -9,7 +9,7 @@ use Rattle.meaning.specs.Bindings.{Bindings}
 use Rattle.meaning.specs.Rules.{compare}
 use Rattle.leaves.specs.Noted.{Ran}
 use Rattle.leaves.specs.Visits.{countOf, visit}
-use Rattle.leaves.proofs.Telling.{done-node}
+use Rattle.leaves.proofs.AnswerWords.{done-node}
 use Rattle.leaves.proofs.Limited.{units-kept, nesting-kept}
 use Rattle.leaves.proofs.Comparing.{Goes-on, Carried, other-constructor, other-count, agreed, compared, pair-done, pair-stops, last-pair}
 use Prim.Native.Nat.{ℕ, _+_, _-_, _*_, _<_, _≤_}
@@ -22,7 +22,7 @@ use Rattle.leaves.proofs.answers.done.Reads as done-reads
 use Rattle.leaves.proofs.answers.failure.Reads as failure-reads
 use Rattle.leaves.proofs.answers.no_nesting.Reads as no-nesting-reads
 use Rattle.leaves.proofs.answers.no_units.Reads as no-units-reads
-use Rattle.leaves.proofs.answers.told.Reads as told-reads
+use Rattle.leaves.proofs.answers.answer_of.Reads as answer-of-reads
 use Rattle.leaves.proofs.reading.count.Reads as count-reads
 use Rattle.words.proofs.word.Reads as word-reads
 use Rattle.leaves.proofs.compare.+same.{statement}
@@ -38,7 +38,7 @@ abbrev same-below : ℕ → In 1 same-kinds.ps
 same-below t = and 1 same-kinds.ps (falls 1 same-kinds.ps _<_ μ-same t) same.Pre
 
 abbrev same-calls : ℕ → same-lts.Claims
-same-calls t = (no-units-reads.Asked, no-units-reads.Learnt, no-nesting-reads.Asked, no-nesting-reads.Learnt, count-reads.Asked, count-reads.Learnt, word-reads.Asked, word-reads.Learnt, failure-reads.Asked, failure-reads.Learnt, done-reads.Asked, done-reads.Learnt, same-below t, same.Post, told-reads.Asked, told-reads.Learnt)
+same-calls t = (no-units-reads.Asked, no-units-reads.Learnt, no-nesting-reads.Asked, no-nesting-reads.Learnt, count-reads.Asked, count-reads.Learnt, word-reads.Asked, word-reads.Learnt, failure-reads.Asked, failure-reads.Learnt, done-reads.Asked, done-reads.Learnt, same-below t, same.Post, answer-of-reads.Asked, answer-of-reads.Learnt)
 
 abbrev same-Inv-loop2 : same-lts.InvT-loop2
 same-Inv-loop2 store a b left deep x y u₀ d n i₀ u i =
@@ -129,13 +129,13 @@ same-same-requires t c κs = (omega (arith, c .before .before .before .loop2 .in
 same-returns-6 : (t : ℕ) → same-lts.Need-returns-6 (same-calls t) (same-at t) same.Post same-Inv-loop2 same-μ-loop2 same-Inv-loop same-μ-loop
 same-returns-6 t c = λ t β m.
     let g = c .before .before .before .before .before .before .loop2 .inv .5 t β m in
-    g .2 _ (pair-stops _ _ _ t _ _ β m _ (g .1) (omega arith) (omega arith) _ _ _ (c .before .before .before .before .word3 .ensures) (c .before .before .before .word4 .ensures) (c .before .before .same .ensures t β m) _ (c .before .told .ensures) (c .match .keys2))
+    g .2 _ (pair-stops _ _ _ t _ _ β m _ (g .1) (omega arith) (omega arith) _ _ _ (c .before .before .before .before .word3 .ensures) (c .before .before .before .word4 .ensures) (c .before .before .same .ensures t β m) _ (c .before .answer-of .ensures) (c .match .keys2))
 
 same-loop2-again : (t : ℕ) → same-lts.Need-loop2-again (same-calls t) (same-at t) same.Post same-Inv-loop2 same-μ-loop2 same-Inv-loop same-μ-loop
 same-loop2-again t c =
     let at-rest = c .before in
-    let at-told = at-rest .before .before in
-    let at-same = at-told .before in
+    let at-answer-of = at-rest .before .before in
+    let at-same = at-answer-of .before in
     let at-word4 = at-same .before in
     let at-word3 = at-word4 .before in
     let at-loop2 = at-word3 .before .before in
@@ -143,11 +143,11 @@ same-loop2-again t c =
       search needs,
       l .1,
       l .2,
-      omega (arith, done-node _ _ _ (sym (at-told .told .ensures) ∙ at-rest .rest .given .1)),
+      omega (arith, done-node _ _ _ (sym (at-answer-of .answer-of .ensures) ∙ at-rest .rest .given .1)),
       l .4,
       λ t β m.
           let g = l .5 t β m in
-          (_, pair-done _ _ _ t _ _ β m _ (g .1) (omega arith) (omega arith) _ _ _ (at-word3 .word3 .ensures) (at-word4 .word4 .ensures) (at-same .same .ensures t β m) _ (at-told .told .ensures) _ _ (at-rest .rest .given .1), g .2),
+          (_, pair-done _ _ _ t _ _ β m _ (g .1) (omega arith) (omega arith) _ _ _ (at-word3 .word3 .ensures) (at-word4 .word4 .ensures) (at-same .same .ensures t β m) _ (at-answer-of .answer-of .ensures) _ _ (at-rest .rest .given .1), g .2),
     )
 
 same-loop-less : (t : ℕ) → same-lts.Need-loop-less (same-calls t) (same-at t) same.Post same-Inv-loop2 same-μ-loop2 same-Inv-loop same-μ-loop

@@ -1,4 +1,4 @@
--- `run_accepted` meets its contract: the engine's answer, told, is the run's end.
+-- `run_accepted` meets its contract: the engine's answer, read, is the run's end.
 use borrow.Author.Needs.{needs}
 use Rattle.marshtrundle.proofs.Whole.{done-left, done-ends, failed-left, failed-ends, cut-left, cut-ends}
 use Rattle.marshtrundle.proofs.running.run_accepted.Statement.{statement}
@@ -10,50 +10,50 @@ apply-requires c κs = let start = c .before .before .before .before .before in 
 sub-t25 : tie.Need-sub-t25
 sub-t25 c =
     let at-a = c .before .before in
-    let at-told = at-a .before .before in
-    let at-apply = at-told .before .before .before in
+    let at-answer-of = at-a .before .before in
+    let at-apply = at-answer-of .before .before .before in
     let start = at-apply .before .before .before .before .before .before in
-    done-left _ _ _ _ _ _ (start .fits .units .fits) _ _ (at-apply .before .done .ensures) _ _ (at-apply .apply .ensures) _ (at-told .told .ensures) _ _ (at-a .a .given .1)
+    done-left _ _ _ _ _ _ (start .fits .units .fits) _ _ (at-apply .before .done .ensures) _ _ (at-apply .apply .ensures) _ (at-answer-of .answer-of .ensures) _ _ (at-a .a .given .1)
 
 sub-t26 : tie.Need-sub-t26
 sub-t26 c =
     let at-a = c .before in
-    let at-told = at-a .before .before in
-    let at-apply = at-told .before .before .before in
+    let at-answer-of = at-a .before .before in
+    let at-apply = at-answer-of .before .before .before in
     let start = at-apply .before .before .before .before .before .before in
-    failed-left _ _ _ _ _ _ (start .fits .units .fits) _ _ (at-apply .before .done .ensures) _ _ (at-apply .apply .ensures) _ (at-told .told .ensures) _ (at-a .a2 .given .1)
+    failed-left _ _ _ _ _ _ (start .fits .units .fits) _ _ (at-apply .before .done .ensures) _ _ (at-apply .apply .ensures) _ (at-answer-of .answer-of .ensures) _ (at-a .a2 .given .1)
 
 sub-t30 : tie.Need-sub-t30
 sub-t30 c =
     let at-a = c .before .before in
-    let at-told = at-a .before .before in
-    let at-apply = at-told .before .before .before in
+    let at-answer-of = at-a .before .before in
+    let at-apply = at-answer-of .before .before .before in
     let start = at-apply .before .before .before .before .before .before in
-    cut-left _ _ _ _ _ _ (start .fits .units .fits) _ _ (at-apply .before .done .ensures) _ _ (at-apply .apply .ensures) _ (at-told .told .ensures) _ (at-a .a3 .given .1)
+    cut-left _ _ _ _ _ _ (start .fits .units .fits) _ _ (at-apply .before .done .ensures) _ _ (at-apply .apply .ensures) _ (at-answer-of .answer-of .ensures) _ (at-a .a3 .given .1)
 
 returns : tie.Need-returns
 returns c =
     let at-a = c .before .before in
-    let at-told = at-a .before .before in
-    let at-apply = at-told .before .before .before in
+    let at-answer-of = at-a .before .before in
+    let at-apply = at-answer-of .before .before .before in
     let start = at-apply .before .before .before .before .before .before in
-    done-ends _ _ _ _ _ _ (start .fits .units .fits) _ _ (at-apply .before .done .ensures) _ _ (at-apply .apply .ensures) _ (at-told .told .ensures) _ _ (at-a .a .given .1)
+    done-ends _ _ _ _ _ _ (start .fits .units .fits) _ _ (at-apply .before .done .ensures) _ _ (at-apply .apply .ensures) _ (at-answer-of .answer-of .ensures) _ _ (at-a .a .given .1)
 
 returns-2 : tie.Need-returns-2
 returns-2 c =
     let at-a = c .before in
-    let at-told = at-a .before .before in
-    let at-apply = at-told .before .before .before in
+    let at-answer-of = at-a .before .before in
+    let at-apply = at-answer-of .before .before .before in
     let start = at-apply .before .before .before .before .before .before in
-    failed-ends _ _ _ _ _ _ (start .fits .units .fits) _ _ (at-apply .before .done .ensures) _ _ (at-apply .apply .ensures) _ (at-told .told .ensures) _ (at-a .a2 .given .1)
+    failed-ends _ _ _ _ _ _ (start .fits .units .fits) _ _ (at-apply .before .done .ensures) _ _ (at-apply .apply .ensures) _ (at-answer-of .answer-of .ensures) _ (at-a .a2 .given .1)
 
 returns-3 : tie.Need-returns-3
 returns-3 c =
     let at-a = c .before .before in
-    let at-told = at-a .before .before in
-    let at-apply = at-told .before .before .before in
+    let at-answer-of = at-a .before .before in
+    let at-apply = at-answer-of .before .before .before in
     let start = at-apply .before .before .before .before .before .before in
-    cut-ends _ _ _ _ _ _ (start .fits .units .fits) _ _ (at-apply .before .done .ensures) _ _ (at-apply .apply .ensures) _ (at-told .told .ensures) _ (at-a .a3 .given .1) _ (c .cut-answer .ensures)
+    cut-ends _ _ _ _ _ _ (start .fits .units .fits) _ _ (at-apply .before .done .ensures) _ _ (at-apply .apply .ensures) _ (at-answer-of .answer-of .ensures) _ (at-a .a3 .given .1) _ (c .cut-answer .ensures)
 
 pub run-accepted-spec : {M : Type 1} → statement M
 run-accepted-spec =

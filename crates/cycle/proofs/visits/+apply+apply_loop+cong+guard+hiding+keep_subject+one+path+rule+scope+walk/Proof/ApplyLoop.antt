@@ -1,0 +1,227 @@
+use Rattle.cycle.proofs.Looping.{Turn, first-turn, ends-units, ends-nesting, ready-next, ready-same, seq-returns, seq-turn, left-returns, left-turn, skip-turn, within, rec-turn, of-two, last-kind, five-up, whole, pos}
+use mathlib.Core.Logic.{inl, inr, ⊎-elim}
+use Rattle.leaves.proofs.Keeping.{node-small}
+use Prim.Native.Nat.{ℕ, _<_, _≤_, _-_, _+_}
+use mathlib.Core.Path.{_≡_, refl, sym, ap, _∙_}
+use borrow.Author.Needs.{needs}
+use native.Mathlib.Omega.{arith}
+use Rattle.cycle.proofs.visits.apply_loop.Reads as apply-loop
+use Rattle.cycle.proofs.visits.+apply+apply_loop+cong+guard+hiding+keep_subject+one+path+rule+scope+walk.Lts-apply_loop as apply-loop-lts
+use Rattle.cycle.proofs.visits.+apply+apply_loop+cong+guard+hiding+keep_subject+one+path+rule+scope+walk.Proof.Common.{apply-loop-at, apply-loop-calls}
+
+abbrev pub apply-loop-Inv-loop : apply-loop-lts.InvT-loop
+apply-loop-Inv-loop table store₀ st₀ start given deep e₀ s₀ d₀ store st e s d = Turn table store₀ st₀ start given deep store st e s d
+
+abbrev pub apply-loop-μ-loop : apply-loop-lts.MeasureT-loop
+apply-loop-μ-loop table store₀ st₀ start given deep e₀ s₀ d₀ store st e s d = d
+
+pub apply-loop-loop-holds : (t : ℕ) → apply-loop-lts.Need-loop-holds (apply-loop-calls t) (apply-loop-at t) apply-loop.Post apply-loop-Inv-loop apply-loop-μ-loop
+apply-loop-loop-holds t c = first-turn _ (c .before .pre .1) (c .before .fits .given .fits)
+
+pub apply-loop-same-length : (t : ℕ) → apply-loop-lts.Need-same-length (apply-loop-calls t) (apply-loop-at t) apply-loop.Post apply-loop-Inv-loop apply-loop-μ-loop
+apply-loop-same-length t c = (c .before .before .loop .inv) .long
+
+pub apply-loop-returns : (t : ℕ) → apply-loop-lts.Need-returns (apply-loop-calls t) (apply-loop-at t) apply-loop.Post apply-loop-Inv-loop apply-loop-μ-loop
+apply-loop-returns t c = ends-units (c .before .before .loop .inv) _ (c .no-units .ensures) (c .before .if1 .taken)
+
+pub apply-loop-same-length-2 : (t : ℕ) → apply-loop-lts.Need-same-length-2 (apply-loop-calls t) (apply-loop-at t) apply-loop.Post apply-loop-Inv-loop apply-loop-μ-loop
+apply-loop-same-length-2 t c = (c .before .before .before .loop .inv) .long
+
+pub apply-loop-returns-2 : (t : ℕ) → apply-loop-lts.Need-returns-2 (apply-loop-calls t) (apply-loop-at t) apply-loop.Post apply-loop-Inv-loop apply-loop-μ-loop
+apply-loop-returns-2 t c = ends-nesting (c .before .before .before .loop .inv) _ (c .no-nesting .ensures) (c .before .before .if1 .left) (c .before .if2 .taken)
+
+pub apply-loop-sub-d : (t : ℕ) → apply-loop-lts.Need-sub-d (apply-loop-calls t) (apply-loop-at t) apply-loop.Post apply-loop-Inv-loop apply-loop-μ-loop
+apply-loop-sub-d t c = omega (arith, pos _ (c .if2 .left))
+
+pub apply-loop-sub-s : (t : ℕ) → apply-loop-lts.Need-sub-s (apply-loop-calls t) (apply-loop-at t) apply-loop.Post apply-loop-Inv-loop apply-loop-μ-loop
+apply-loop-sub-s t c = omega (arith, pos _ (c .before .if1 .left))
+
+pub apply-loop-kind-requires : (t : ℕ) → apply-loop-lts.Need-kind-requires (apply-loop-calls t) (apply-loop-at t) apply-loop.Post apply-loop-Inv-loop apply-loop-μ-loop
+apply-loop-kind-requires t c κs = (c .before .before .loop .inv) .ready .inside
+
+pub apply-loop-entry-requires : (t : ℕ) → apply-loop-lts.Need-entry-requires (apply-loop-calls t) (apply-loop-at t) apply-loop.Post apply-loop-Inv-loop apply-loop-μ-loop
+apply-loop-entry-requires t c κs = ((c .before .before .before .before .before .before .loop .inv) .ready .inside, omega arith)
+
+pub apply-loop-apply-requires : (t : ℕ) → apply-loop-lts.Need-apply-requires (apply-loop-calls t) (apply-loop-at t) apply-loop.Post apply-loop-Inv-loop apply-loop-μ-loop
+apply-loop-apply-requires t c κs =
+    let at-if2 = c .before .before .before .before .before in
+    let at-if1 = at-if2 .before in
+    let at-loop = at-if1 .before in
+    let start = at-loop .before .before in
+    (omega (arith, (at-loop .loop .inv) .deeper, pos _ (at-if2 .if2 .left), start .pre .0), ready-next (at-loop .loop .inv) (at-if1 .if1 .left) (at-if2 .if2 .left) 0 _ (omega arith) (c .entry .ensures))
+
+pub apply-loop-same-length-3 : (t : ℕ) → apply-loop-lts.Need-same-length-3 (apply-loop-calls t) (apply-loop-at t) apply-loop.Post apply-loop-Inv-loop apply-loop-μ-loop
+apply-loop-same-length-3 t c = c .before .before .before .before .apply .kept .1 .0 ∙ (c .before .before .before .before .before .before .before .before .before .before .before .before .loop .inv) .long
+
+pub apply-loop-returns-3 : (t : ℕ) → apply-loop-lts.Need-returns-3 (apply-loop-calls t) (apply-loop-at t) apply-loop.Post apply-loop-Inv-loop apply-loop-μ-loop
+apply-loop-returns-3 t c =
+    let at-answer-of = c .before in
+    let at-apply = at-answer-of .before .before .before in
+    let at-entry = at-apply .before in
+    let at-match = at-entry .before .before .before in
+    let at-kind = at-match .before in
+    let at-if2 = at-kind .before in
+    let at-if1 = at-if2 .before in
+    let at-loop = at-if1 .before in
+    seq-returns (at-loop .loop .inv) (at-if1 .if1 .left) (at-if2 .if2 .left) (at-entry .entry .ensures) (at-apply .apply .ensures) (at-answer-of .answer-of .ensures) refl (sym (at-kind .kind .ensures) ∙ at-match .match .keys1) (c .match2 .keys2)
+
+pub apply-loop-entry-requires-2 : (t : ℕ) → apply-loop-lts.Need-entry-requires-2 (apply-loop-calls t) (apply-loop-at t) apply-loop.Post apply-loop-Inv-loop apply-loop-μ-loop
+apply-loop-entry-requires-2 t c κs = ((c .before .before .before .before .before .before .before .before .before .before .before .before .before .loop .inv) .ready .inside, omega arith)
+
+pub apply-loop-loop-less : (t : ℕ) → apply-loop-lts.Need-loop-less (apply-loop-calls t) (apply-loop-at t) apply-loop.Post apply-loop-Inv-loop apply-loop-μ-loop
+apply-loop-loop-less t c = omega (arith, pos _ (c .before .before .before .before .before .before .before .before .before .before .before .before .if2 .left))
+
+pub apply-loop-loop-again : (t : ℕ) → apply-loop-lts.Need-loop-again (apply-loop-calls t) (apply-loop-at t) apply-loop.Post apply-loop-Inv-loop apply-loop-μ-loop
+apply-loop-loop-again t c =
+    let at-enum-told = c .before in
+    let at-answer-of = at-enum-told .before .before in
+    let at-apply = at-answer-of .before .before .before in
+    let at-entry = at-apply .before in
+    let at-match = at-entry .before .before .before in
+    let at-kind = at-match .before in
+    let at-if2 = at-kind .before in
+    let at-if1 = at-if2 .before in
+    let at-loop = at-if1 .before in
+    seq-turn (at-loop .loop .inv) (at-if1 .if1 .left) (at-if2 .if2 .left) (at-entry .entry .ensures) (at-apply .apply .ensures) (at-answer-of .answer-of .ensures) (c .entry2 .ensures) (sym (at-kind .kind .ensures) ∙ at-match .match .keys1) (at-enum-told .enum-told .given .1) (at-apply .apply .kept .1 .0)
+
+pub apply-loop-entry-requires-3 : (t : ℕ) → apply-loop-lts.Need-entry-requires-3 (apply-loop-calls t) (apply-loop-at t) apply-loop.Post apply-loop-Inv-loop apply-loop-μ-loop
+apply-loop-entry-requires-3 t c κs = ((c .before .before .before .before .before .before .loop .inv) .ready .inside, omega arith)
+
+pub apply-loop-visits-to-failure-requires : (t : ℕ) → apply-loop-lts.Need-visits-to-failure-requires (apply-loop-calls t) (apply-loop-at t) apply-loop.Post apply-loop-Inv-loop apply-loop-μ-loop
+apply-loop-visits-to-failure-requires t c κs =
+    let at-if4 = c .before .before in
+    let at-if3 = at-if4 .before in
+    let at-match = at-if3 .before in
+    let at-kind = at-match .before in
+    let at-loop = at-kind .before .before .before in
+    ((at-loop .loop .inv) .ready .hints, (at-loop .loop .inv) .ready .inside, (at-loop .loop .inv) .ready .entries .operand _ 2 ((at-loop .loop .inv) .ready .inside) (omega arith), (of-two _ _ 5 (at-kind .kind .ensures) (five-up _ (at-match .match .rest .1) (at-if3 .if3 .left)) (at-if4 .if4 .taken)))
+
+pub apply-loop-sub-s-2 : (t : ℕ) → apply-loop-lts.Need-sub-s-2 (apply-loop-calls t) (apply-loop-at t) apply-loop.Post apply-loop-Inv-loop apply-loop-μ-loop
+apply-loop-sub-s-2 t c = within _ _ _ (c .before .visits-to-failure .ensures .few)
+
+pub apply-loop-entry-requires-4 : (t : ℕ) → apply-loop-lts.Need-entry-requires-4 (apply-loop-calls t) (apply-loop-at t) apply-loop.Post apply-loop-Inv-loop apply-loop-μ-loop
+apply-loop-entry-requires-4 t c κs = ((c .before .before .before .before .before .before .before .before .before .before .loop .inv) .ready .inside, omega arith)
+
+pub apply-loop-loop-less-2 : (t : ℕ) → apply-loop-lts.Need-loop-less-2 (apply-loop-calls t) (apply-loop-at t) apply-loop.Post apply-loop-Inv-loop apply-loop-μ-loop
+apply-loop-loop-less-2 t c = omega (arith, pos _ (c .before .before .before .before .before .before .before .before .before .if2 .left))
+
+pub apply-loop-loop-again-2 : (t : ℕ) → apply-loop-lts.Need-loop-again-2 (apply-loop-calls t) (apply-loop-at t) apply-loop.Post apply-loop-Inv-loop apply-loop-μ-loop
+apply-loop-loop-again-2 t c =
+    let at-if5 = c .before in
+    let at-visits-to-failure = at-if5 .before in
+    let at-if4 = at-visits-to-failure .before .before .before in
+    let at-if3 = at-if4 .before in
+    let at-match = at-if3 .before in
+    let at-kind = at-match .before in
+    let at-if2 = at-kind .before in
+    let at-if1 = at-if2 .before in
+    let at-loop = at-if1 .before in
+    skip-turn (at-loop .loop .inv) (at-if1 .if1 .left) (at-if2 .if2 .left) refl (at-visits-to-failure .visits-to-failure .ensures) (at-if5 .if5 .taken) (of-two _ _ 5 (at-kind .kind .ensures) (five-up _ (at-match .match .rest .1) (at-if3 .if3 .left)) (at-if4 .if4 .taken)) (c .entry4 .ensures)
+
+pub apply-loop-apply-loop-requires : (t : ℕ) → apply-loop-lts.Need-apply-loop-requires (apply-loop-calls t) (apply-loop-at t) apply-loop.Post apply-loop-Inv-loop apply-loop-μ-loop
+apply-loop-apply-loop-requires t c κs =
+    let at-entry3 = c .before .before .before .before .before .before .before in
+    let at-if2 = at-entry3 .before .before .before .before .before in
+    let at-if1 = at-if2 .before in
+    let at-loop = at-if1 .before in
+    let start = at-loop .before .before in
+    (omega (arith, (at-loop .loop .inv) .deeper, pos _ (at-if2 .if2 .left), start .pre .0), ready-next (at-loop .loop .inv) (at-if1 .if1 .left) (at-if2 .if2 .left) 0 _ (omega arith) (at-entry3 .entry3 .ensures))
+
+pub apply-loop-same-length-4 : (t : ℕ) → apply-loop-lts.Need-same-length-4 (apply-loop-calls t) (apply-loop-at t) apply-loop.Post apply-loop-Inv-loop apply-loop-μ-loop
+apply-loop-same-length-4 t c = c .before .before .before .before .apply-loop .kept .1 .0 ∙ (c .before .before .before .before .before .before .before .before .before .before .before .before .before .before .before .before .before .before .before .loop .inv) .long
+
+pub apply-loop-returns-4 : (t : ℕ) → apply-loop-lts.Need-returns-4 (apply-loop-calls t) (apply-loop-at t) apply-loop.Post apply-loop-Inv-loop apply-loop-μ-loop
+apply-loop-returns-4 t c =
+    let at-answer-of2 = c .before in
+    let at-apply-loop = at-answer-of2 .before .before .before in
+    let at-entry3 = at-apply-loop .before .before .before .before .before .before .before .before in
+    let at-if4 = at-entry3 .before in
+    let at-if3 = at-if4 .before in
+    let at-match = at-if3 .before in
+    let at-kind = at-match .before in
+    let at-if2 = at-kind .before in
+    let at-if1 = at-if2 .before in
+    let at-loop = at-if1 .before in
+    left-returns (at-loop .loop .inv) (at-if1 .if1 .left) (at-if2 .if2 .left) (at-entry3 .entry3 .ensures) (at-apply-loop .apply-loop .ensures) (at-answer-of2 .answer-of2 .ensures) (of-two _ _ 5 (at-kind .kind .ensures) (five-up _ (at-match .match .rest .1) (at-if3 .if3 .left)) (at-if4 .if4 .taken)) refl (c .match3 .keys2)
+
+pub apply-loop-cast-done : (t : ℕ) → apply-loop-lts.Need-cast-done (apply-loop-calls t) (apply-loop-at t) apply-loop.Post apply-loop-Inv-loop apply-loop-μ-loop
+apply-loop-cast-done t c =
+    let at-if2 = c .before .before .before .before .before .before .before .before .before .before .before .before .before .before .before .before .before .before .before .before .before in
+    let at-if1 = at-if2 .before in
+    let at-loop = at-if1 .before in
+    omega (arith, node-small ((at-loop .loop .inv) .ready .steady) _ (ready-same (at-loop .loop .inv) (at-if1 .if1 .left) (at-if2 .if2 .left) .subject))
+
+pub apply-loop-entry-requires-5 : (t : ℕ) → apply-loop-lts.Need-entry-requires-5 (apply-loop-calls t) (apply-loop-at t) apply-loop.Post apply-loop-Inv-loop apply-loop-μ-loop
+apply-loop-entry-requires-5 t c κs = ((c .before .before .before .before .before .before .before .before .before .before .before .before .before .before .before .before .before .before .before .before .before .before .before .before .loop .inv) .ready .inside, omega arith)
+
+pub apply-loop-loop-less-3 : (t : ℕ) → apply-loop-lts.Need-loop-less-3 (apply-loop-calls t) (apply-loop-at t) apply-loop.Post apply-loop-Inv-loop apply-loop-μ-loop
+apply-loop-loop-less-3 t c = omega (arith, pos _ (c .before .before .before .before .before .before .before .before .before .before .before .before .before .before .before .before .before .before .before .before .before .before .before .if2 .left))
+
+pub apply-loop-loop-again-3 : (t : ℕ) → apply-loop-lts.Need-loop-again-3 (apply-loop-calls t) (apply-loop-at t) apply-loop.Post apply-loop-Inv-loop apply-loop-μ-loop
+apply-loop-loop-again-3 t c =
+    let at-done = c .before in
+    let at-restore = at-done .before in
+    let at-rest = at-restore .before .before .before in
+    let at-answer-of2 = at-rest .before .before in
+    let at-apply-loop = at-answer-of2 .before .before .before in
+    let at-entry3 = at-apply-loop .before .before .before .before .before .before .before .before in
+    let at-if4 = at-entry3 .before in
+    let at-if3 = at-if4 .before in
+    let at-match = at-if3 .before in
+    let at-kind = at-match .before in
+    let at-if2 = at-kind .before in
+    let at-if1 = at-if2 .before in
+    let at-loop = at-if1 .before in
+    rw (at-restore .restore .ensures) (left-turn (at-loop .loop .inv) (at-if1 .if1 .left) (at-if2 .if2 .left) (at-entry3 .entry3 .ensures) (at-apply-loop .apply-loop .ensures) (at-answer-of2 .answer-of2 .ensures) (of-two _ _ 5 (at-kind .kind .ensures) (five-up _ (at-match .match .rest .1) (at-if3 .if3 .left)) (at-if4 .if4 .taken)) (c .entry5 .ensures) (at-rest .rest .given .1) (at-done .done .ensures) (at-apply-loop .apply-loop .kept .1 .0))
+
+pub apply-loop-entry-requires-6 : (t : ℕ) → apply-loop-lts.Need-entry-requires-6 (apply-loop-calls t) (apply-loop-at t) apply-loop.Post apply-loop-Inv-loop apply-loop-μ-loop
+apply-loop-entry-requires-6 t c κs = ((c .before .before .before .before .before .before .before .loop .inv) .ready .inside, omega arith)
+
+pub apply-loop-loop-less-4 : (t : ℕ) → apply-loop-lts.Need-loop-less-4 (apply-loop-calls t) (apply-loop-at t) apply-loop.Post apply-loop-Inv-loop apply-loop-μ-loop
+apply-loop-loop-less-4 t c = omega (arith, pos _ (c .before .before .before .before .before .before .if2 .left))
+
+pub apply-loop-loop-again-4 : (t : ℕ) → apply-loop-lts.Need-loop-again-4 (apply-loop-calls t) (apply-loop-at t) apply-loop.Post apply-loop-Inv-loop apply-loop-μ-loop
+apply-loop-loop-again-4 t c =
+    let at-if6 = c .before in
+    let at-if4 = at-if6 .before in
+    let at-kind = at-if4 .before .before .before in
+    let at-if2 = at-kind .before in
+    let at-if1 = at-if2 .before in
+    let at-loop = at-if1 .before in
+    rec-turn (at-loop .loop .inv) (at-if1 .if1 .left) (at-if2 .if2 .left) _ (c .entry6 .ensures) (of-two _ _ 7 (at-kind .kind .ensures) (at-if4 .if4 .left) (at-if6 .if6 .taken))
+
+pub apply-loop-rule-requires : (t : ℕ) → apply-loop-lts.Need-rule-requires (apply-loop-calls t) (apply-loop-at t) apply-loop.Post apply-loop-Inv-loop apply-loop-μ-loop
+apply-loop-rule-requires t c κs =
+    let at-if3 = c .before .before in
+    let at-match = at-if3 .before in
+    let at-kind = at-match .before in
+    let at-if2 = at-kind .before in
+    let at-if1 = at-if2 .before in
+    let at-loop = at-if1 .before in
+    let start = at-loop .before .before in
+    (omega (arith, (at-loop .loop .inv) .deeper, pos _ (at-if2 .if2 .left), start .pre .0), (ready-same (at-loop .loop .inv) (at-if1 .if1 .left) (at-if2 .if2 .left), last-kind _ _ (at-kind .kind .ensures) (at-match .match .rest .1) (⊎-elim (λ w. inl (w .taken)) (λ w. inr (w .2 .left)) (at-if3 .if3 .came))))
+
+pub apply-loop-same-length-5 : (t : ℕ) → apply-loop-lts.Need-same-length-5 (apply-loop-calls t) (apply-loop-at t) apply-loop.Post apply-loop-Inv-loop apply-loop-μ-loop
+apply-loop-same-length-5 t c = c .before .before .rule .kept .1 .0 ∙ (c .before .before .before .before .before .before .before .before .before .before .loop .inv) .long
+
+pub apply-loop-returns-5 : (t : ℕ) → apply-loop-lts.Need-returns-5 (apply-loop-calls t) (apply-loop-at t) apply-loop.Post apply-loop-Inv-loop apply-loop-μ-loop
+apply-loop-returns-5 t c =
+    let at-rule = c .before .before in
+    let at-if2 = at-rule .before .before .before .before .before .before in
+    let at-if1 = at-if2 .before in
+    let at-loop = at-if1 .before in
+    whole (at-loop .loop .inv) (at-if1 .if1 .left) (at-if2 .if2 .left) (at-rule .rule .ensures)
+
+pub apply-loop-closed : {M : Type 1} (t : ℕ) → apply-loop-lts.Closed (apply-loop-calls t) (apply-loop-at t) apply-loop.Post M
+apply-loop-closed t =
+    apply-loop-lts.spec (apply-loop-calls t) (apply-loop-at t) apply-loop.Post
+    apply-loop-Inv-loop apply-loop-μ-loop (apply-loop-loop-holds t) (λ c. search needs) (λ c κs. search needs) (apply-loop-same-length t)
+    (apply-loop-returns t) (λ c κs. search needs) (apply-loop-same-length-2 t) (apply-loop-returns-2 t) (apply-loop-sub-d t) (apply-loop-sub-s t)
+    (apply-loop-kind-requires t) (apply-loop-entry-requires t) (apply-loop-apply-requires t) (λ c κs. search needs) (λ c. search needs)
+    (apply-loop-same-length-3 t) (apply-loop-returns-3 t) (apply-loop-entry-requires-2 t) (apply-loop-loop-less t) (apply-loop-loop-again t)
+    (apply-loop-entry-requires-3 t) (apply-loop-visits-to-failure-requires t) (λ c. search needs) (apply-loop-sub-s-2 t)
+    (apply-loop-entry-requires-4 t) (apply-loop-loop-less-2 t) (apply-loop-loop-again-2 t) (λ c. search needs) (λ c. search needs)
+    (apply-loop-apply-loop-requires t) (λ c κs. search needs) (λ c. search needs) (apply-loop-same-length-4 t) (apply-loop-returns-4 t)
+    (λ c κs. search needs) (apply-loop-cast-done t) (λ c κs. search needs) (apply-loop-entry-requires-5 t)
+    (apply-loop-loop-less-3 t) (apply-loop-loop-again-3 t) (apply-loop-entry-requires-6 t) (apply-loop-loop-less-4 t) (apply-loop-loop-again-4 t)
+    (apply-loop-rule-requires t) (apply-loop-same-length-5 t) (apply-loop-returns-5 t)

@@ -1,0 +1,224 @@
+-- `matcher::match_children` meets its contract. The loop's invariant: from child i on, with the record as it is filled so far, all goes
+-- on to the whole, whatever the mark. The measure of a call is the nesting.
+use mathlib.Core.Path.{_≡_, sym, _∙_}
+use mathlib.Core.Bool.{true}
+use mathlib.Core.Logic.{⊎-elim}
+use native.Mathlib.Omega.{arith}
+use borrow.Author.Needs.{needs}
+use borrow.Author.Tests.{not-true, not-false}
+use lib.ListN.{length}
+use Rattle.checks.specs.Good.{kindOf, operandCount}
+use Rattle.leaves.specs.Record.{recordLong, held}
+use Rattle.leaves.specs.Visits.{agreeing}
+use Rattle.leaves.proofs.AnswerWords.{done-node}
+use Rattle.leaves.proofs.Holding.{set-bound}
+use Rattle.leaves.proofs.Matching.{Matched, Turn, matched-none, matched-at, matched-all, operand-is, variable-small, constructor-is, child-units, inner-stopped, free-matched, bound-matched, bound-stops, other, leaf-matched, handed, inner-matched, inner-stops}
+use Prim.Native.Nat.{ℕ, _+_, _-_, _<_, _≤_}
+use borrow.Fn.Kinds.{In}
+use borrow.Fn.PlainCycle.{Measures, is, falls, and}
+use Rattle.leaves.proofs.matcher.match_children.Reads as children
+use Rattle.leaves.proofs.matcher.match_children.Kinds as children-kinds
+use Rattle.leaves.proofs.matcher.+match_children.Lts-match_children as children-lts
+use Rattle.leaves.proofs.answers.done.Reads as done-reads
+use Rattle.leaves.proofs.answers.failure.Reads as failure-reads
+use Rattle.leaves.proofs.answers.stopped.Reads as stopped-reads
+use Rattle.leaves.proofs.answers.no_units.Reads as no-units-reads
+use Rattle.leaves.proofs.answers.answer_of.Reads as answer-of-reads
+use Rattle.leaves.proofs.compare.same.Reads as same-reads
+use Rattle.leaves.proofs.reading.agree.Reads as agree-reads
+use Rattle.leaves.proofs.reading.entry.Reads as entry-reads
+use Rattle.leaves.proofs.reading.kind.Reads as kind-reads
+use Rattle.leaves.proofs.reading.operands.Reads as operands-reads
+use Rattle.leaves.proofs.record.bit.Reads as bit-reads
+use Rattle.leaves.proofs.record.word_of.Reads as word-of-reads
+use Rattle.words.proofs.word.Reads as word-reads
+use Rattle.leaves.proofs.matcher.+match_children.{statement}
+use Rattle.leaves.proofs.matcher.+match_children.Tie.{close}
+
+abbrev μ-children : Measures 2 children-kinds.ps ℕ
+μ-children κs a = a .1 .1 .1 .1 .1 .0
+
+abbrev children-at : ℕ → In 2 children-kinds.ps
+children-at t = and 2 children-kinds.ps (is 2 children-kinds.ps μ-children t) children.Pre
+
+abbrev children-below : ℕ → In 2 children-kinds.ps
+children-below t = and 2 children-kinds.ps (falls 2 children-kinds.ps _<_ μ-children t) children.Pre
+
+abbrev children-calls : ℕ → children-lts.Claims
+children-calls t = (operands-reads.Asked, operands-reads.Learnt, entry-reads.Asked, entry-reads.Learnt, word-reads.Asked, word-reads.Learnt, no-units-reads.Asked, no-units-reads.Learnt, kind-reads.Asked, kind-reads.Learnt, bit-reads.Asked, bit-reads.Learnt, word-of-reads.Asked, word-of-reads.Learnt, same-reads.Asked, same-reads.Learnt, answer-of-reads.Asked, answer-of-reads.Learnt, agree-reads.Asked, agree-reads.Learnt, failure-reads.Asked, failure-reads.Learnt, stopped-reads.Asked, stopped-reads.Learnt, done-reads.Asked, done-reads.Learnt, children-below t, children.Post)
+
+abbrev children-Inv-loop : children-lts.InvT-loop
+children-Inv-loop table store p s deep t left₀ words₀ n i₀ left words i =
+    (i ≤ n) × (n ≡ operandCount table p) × (left < 4294967296) × (length words ≡ recordLong) × Matched table store deep p s words₀ words left i
+
+abbrev children-μ-loop : children-lts.MeasureT-loop
+children-μ-loop table store p s deep t left₀ words₀ n i₀ left words i = n - i
+
+-- the turn, where operand and child are read
+turn : (t : ℕ) (c : children-lts.After-word (children-calls t) (children-at t) children.Post children-Inv-loop children-μ-loop) → let a = c .before .before .before .before .before .before .before .args in let l = c .before .before .before .loop in Turn (a .table .now) (a .store .now) (a .deep) (a .p) (a .s) (a .b .words) (l .words) (l .left) (l .i) (c .before .entry .result) (c .word .result)
+turn t c =
+    let f = c .before .before .before .before .before .before .before .pre .1 in
+    let i = c .before .before .before .loop .inv in
+    record {
+      so-far = i .4;
+      entries = f .0;
+      inside = f .1;
+      kind = f .2;
+      agreed = f .3;
+      below = omega arith;
+      operand = c .before .entry .ensures;
+      child = c .word .ensures;
+      few = i .2;
+    }
+
+-- some nesting is left
+levels : (t : ℕ) (c : children-lts.After-word (children-calls t) (children-at t) children.Post children-Inv-loop children-μ-loop) → c .before .before .before .before .before .before .before .args .deep ≡ 0 → ⊥
+levels t c e = omega (arith, c .before .before .before .before .before .before .before .pre .1 .4)
+
+-- the operand is a variable, or a constructor that agrees with the child's
+is-variable : (t : ℕ) (c : children-lts.Then2 (children-calls t) (children-at t) children.Post children-Inv-loop children-μ-loop) → kindOf (c .before .before .before .before .before .before .before .before .before .before .args .table .now) (c .before .before .before .before .entry .result) ≡ 18
+is-variable t c = sym (c .before .kind .ensures) ∙ c .if2 .taken
+
+is-constructor : (t : ℕ) (c : children-lts.Else2 (children-calls t) (children-at t) children.Post children-Inv-loop children-μ-loop) → kindOf (c .before .before .before .before .before .before .before .before .before .before .args .table .now) (c .before .before .before .before .entry .result) ≡ 19
+is-constructor t c = constructor-is (turn t (c .before .before .before)) (c .before .kind .ensures) (c .if2 .left)
+
+agrees : (t : ℕ) (c : children-lts.Else4 (children-calls t) (children-at t) children.Post children-Inv-loop children-μ-loop) → agreeing (c .before .before .before .before .before .before .before .before .before .before .before .before .args .table .now) (c .before .before .before .before .before .before .before .before .before .before .before .before .args .store .now) (c .before .before .before .before .before .before .entry .result) (c .before .before .before .before .before .word .result) ≡ true
+agrees t c = sym (c .before .agree .ensures) ∙ not-false _ (c .if4 .left)
+
+-- what each way through a turn comes to
+came : (t : ℕ) (c : children-lts.Joined2 (children-calls t) (children-at t) children.Post children-Inv-loop children-μ-loop) → let a = c .before .before .before .before .before .before .before .before .before .before .args in (c .if2 .left < 4294967296) × Matched (a .table .now) (a .store .now) (a .deep) (a .p) (a .s) (a .b .words) (c .if2 .words) (c .if2 .left) (c .before .before .before .before .before .before .loop .i + 1)
+came t c =
+    let l = c .before .before .before .before .before .before .loop in
+    let k = turn t (c .before .before .before) in
+    let z = c .before .before .if1 .left in
+    let d = levels t (c .before .before .before) in
+    let e = c .before .kind .ensures in
+    let less : l .left - 1 < 4294967296 = omega (arith, l .inv .2) in
+    ⊎-elim
+    (λ w. matched-at _ _ _ _ _ _ _ _ _ _ _ (w .12) (w .11) (omega (arith, done-node _ _ _ (sym (w .7 .ensures) ∙ w .9 .given .1)))
+    (bound-matched k z d (sym e ∙ w .0 .taken) (w .1 .ensures) (sym (w .2 .ensures) ∙ w .3 .taken) (w .5 .ensures) _ (λ m. w .6 .ensures _ (held (l .words)) m) _ (w .7 .ensures) _ _ (w .9 .given .1)))
+    (⊎-elim
+    (λ w. matched-at _ _ _ _ _ _ _ _ _ _ _ (w .5) (w .4) less
+    (free-matched k z d (sym e ∙ w .0 .taken) (w .1 .ensures) (l .inv .3) (λ f. w .3 .left (w .2 .ensures ∙ f))
+    (set-bound _ _ _ (variable-small k (sym e ∙ w .0 .taken) (w .1 .ensures)))))
+    (⊎-elim
+    (λ w. matched-at _ _ _ _ _ _ _ _ _ _ _ (w .15) (w .14) (omega (arith, done-node _ _ _ (sym (w .8 .ensures) ∙ w .10 .given .1)))
+    (inner-matched k z d (constructor-is k e (w .0 .left)) (sym (w .1 .ensures) ∙ not-false _ (w .2 .left)) (w .6 .ensures) _ _ (w .7 .ensures) _ (w .8 .ensures) _ _ (w .10 .given .1)))
+    (λ w. matched-at _ _ _ _ _ _ _ _ _ _ _ (w .6) (w .5) less
+    (leaf-matched k z d (constructor-is k e (w .0 .left)) (sym (w .1 .ensures) ∙ not-false _ (w .2 .left)) (sym (w .3 .ensures) ∙ w .4 .left)))))
+    (c .if2 .came)
+
+children-loop-holds : (t : ℕ) → children-lts.Need-loop-holds (children-calls t) (children-at t) children.Post children-Inv-loop children-μ-loop
+children-loop-holds t c = (search needs, c .operands .ensures, omega arith, search needs, matched-none _ _ _ _ _ _)
+
+children-add-entry : (t : ℕ) → children-lts.Need-add-entry (children-calls t) (children-at t) children.Post children-Inv-loop children-μ-loop
+children-add-entry t c = omega (arith, c .before .before .before .before .before .pre .1 .0 .few _ (c .before .before .before .before .before .pre .1 .1))
+
+children-entry-requires : (t : ℕ) → children-lts.Need-entry-requires (children-calls t) (children-at t) children.Post children-Inv-loop children-μ-loop
+children-entry-requires t c κs = (c .before .before .before .before .before .pre .1 .1, omega (arith, c .before .before .before .before .before .pre .1 .0 .few _ (c .before .before .before .before .before .pre .1 .1)))
+
+children-add-word : (t : ℕ) → children-lts.Need-add-word (children-calls t) (children-at t) children.Post children-Inv-loop children-μ-loop
+children-add-word t c = omega (arith, c .before .before .before .before .before .before .pre .1 .0 .few _ (c .before .before .before .before .before .before .pre .1 .1))
+
+children-word-requires : (t : ℕ) → children-lts.Need-word-requires (children-calls t) (children-at t) children.Post children-Inv-loop children-μ-loop
+children-word-requires t c κs = omega (arith, c .before .before .before .before .before .before .pre .1 .0 .few _ (c .before .before .before .before .before .before .pre .1 .1))
+
+children-returns : (t : ℕ) → children-lts.Need-returns (children-calls t) (children-at t) children.Post children-Inv-loop children-μ-loop
+children-returns t c = child-units (turn t (c .before .before)) (c .no-units .ensures) (c .before .if1 .taken)
+
+children-kind-requires : (t : ℕ) → children-lts.Need-kind-requires (children-calls t) (children-at t) children.Post children-Inv-loop children-μ-loop
+children-kind-requires t c κs = operand-is (turn t (c .before)) .0
+
+children-entry-requires-2 : (t : ℕ) → children-lts.Need-entry-requires-2 (children-calls t) (children-at t) children.Post children-Inv-loop children-μ-loop
+children-entry-requires-2 t c κs = (operand-is (turn t (c .before .before .before)) .0, omega arith)
+
+children-bit-requires : (t : ℕ) → children-lts.Need-bit-requires (children-calls t) (children-at t) children.Post children-Inv-loop children-μ-loop
+children-bit-requires t c κs = variable-small (turn t (c .before .before .before .before)) (is-variable t (c .before)) (c .entry2 .ensures)
+
+children-word-of-requires : (t : ℕ) → children-lts.Need-word-of-requires (children-calls t) (children-at t) children.Post children-Inv-loop children-μ-loop
+children-word-of-requires t c κs = variable-small (turn t (c .before .before .before .before .before .before .before)) (is-variable t (c .before .before .before .before)) (c .before .before .before .entry2 .ensures)
+
+children-returns-2 : (t : ℕ) → children-lts.Need-returns-2 (children-calls t) (children-at t) children.Post children-Inv-loop children-μ-loop
+children-returns-2 t c =
+    let at-answer-of = c .before in
+    let at-same = at-answer-of .before in
+    let at-word = at-same .before in
+    let at-if3 = at-word .before .before in
+    let at-bit = at-if3 .before in
+    let at-before = at-bit .before in
+    let at-before′ = at-before .before .before .before in
+    let at-loop = at-before′ .before .before .before .before in
+    bound-stops (turn t (at-before′ .before)) (at-before′ .if1 .left) (levels t (at-before′ .before)) (is-variable t (at-before .before)) (at-before .entry2 .ensures) (sym (at-bit .bit .ensures) ∙ at-if3 .if3 .taken) (at-word .word-of .ensures) _ (λ m. at-same .same .ensures _ (held (at-loop .loop .words)) m) _ (at-answer-of .answer-of .ensures) (c .match .keys2)
+
+children-add-words : (t : ℕ) → children-lts.Need-add-words (children-calls t) (children-at t) children.Post children-Inv-loop children-μ-loop
+children-add-words t c = let v = variable-small (turn t (c .before .before .before .before .before .before)) (is-variable t (c .before .before .before)) (c .before .before .entry2 .ensures) in omega arith
+
+children-mul-words : (t : ℕ) → children-lts.Need-mul-words (children-calls t) (children-at t) children.Post children-Inv-loop children-μ-loop
+children-mul-words t c = let v = variable-small (turn t (c .before .before .before .before .before .before)) (is-variable t (c .before .before .before)) (c .before .before .entry2 .ensures) in omega arith
+
+children-array-write-words : (t : ℕ) → children-lts.Need-array-write-words (children-calls t) (children-at t) children.Post children-Inv-loop children-μ-loop
+children-array-write-words t c = let v = variable-small (turn t (c .before .before .before .before .before .before)) (is-variable t (c .before .before .before)) (c .before .before .entry2 .ensures) in omega arith
+
+children-shl-words : (t : ℕ) → children-lts.Need-shl-words (children-calls t) (children-at t) children.Post children-Inv-loop children-μ-loop
+children-shl-words t c = let v = variable-small (turn t (c .before .before .before .before .before .before)) (is-variable t (c .before .before .before)) (c .before .before .entry2 .ensures) in omega arith
+
+children-agree-requires : (t : ℕ) → children-lts.Need-agree-requires (children-calls t) (children-at t) children.Post children-Inv-loop children-μ-loop
+children-agree-requires t c κs = operand-is (turn t (c .before .before .before)) .0
+
+children-returns-3 : (t : ℕ) → children-lts.Need-returns-3 (children-calls t) (children-at t) children.Post children-Inv-loop children-μ-loop
+children-returns-3 t c = other (turn t (c .before .before .before .before .before .before)) (c .before .before .before .before .before .if1 .left) (levels t (c .before .before .before .before .before .before)) (is-constructor t (c .before .before .before)) (c .failure .ensures) (sym (c .before .before .agree .ensures) ∙ not-true _ (c .before .if4 .taken))
+
+children-operands-requires-2 : (t : ℕ) → children-lts.Need-operands-requires-2 (children-calls t) (children-at t) children.Post children-Inv-loop children-μ-loop
+children-operands-requires-2 t c κs = operand-is (turn t (c .before .before .before .before .before)) .0
+
+children-returns-4 : (t : ℕ) → children-lts.Need-returns-4 (children-calls t) (children-at t) children.Post children-Inv-loop children-μ-loop
+children-returns-4 t c =
+    let at-if6 = c .before in
+    let at-if5 = at-if6 .before in
+    let at-before = at-if5 .before in
+    let at-before′ = at-before .before .before in
+    let at-before′′ = at-before′ .before .before .before in
+    inner-stopped (turn t (at-before′′ .before)) (at-before′′ .if1 .left) (is-constructor t (at-before′ .before)) (agrees t (at-before .before)) (λ z. at-if5 .if5 .taken (at-before .operands2 .ensures ∙ z)) (at-if6 .if6 .taken) (c .stopped .ensures)
+
+children-match-children-requires : (t : ℕ) → children-lts.Need-match-children-requires (children-calls t) (children-at t) children.Post children-Inv-loop children-μ-loop
+children-match-children-requires t c κs =
+    let at-if6 = c .before in
+    let at-before = at-if6 .before .before in
+    let at-before′ = at-before .before .before in
+    let at-before′′ = at-before′ .before .before .before in
+    let start = at-before′′ .before .before .before .before .before .before .before .before in
+    (omega arith, (start .pre .1 .0, operand-is (turn t (at-before′′ .before)) .0, is-constructor t (at-before′ .before), handed (turn t (at-before′′ .before)) (at-before′′ .if1 .left) (levels t (at-before′′ .before)) (is-constructor t (at-before′ .before)) (agrees t (at-before .before)) (c .done .ensures), omega (arith, at-if6 .if6 .left)))
+
+children-returns-5 : (t : ℕ) → children-lts.Need-returns-5 (children-calls t) (children-at t) children.Post children-Inv-loop children-μ-loop
+children-returns-5 t c =
+    let at-answer-of2 = c .before in
+    let at-match-children = at-answer-of2 .before in
+    let at-done = at-match-children .before in
+    let at-before = at-done .before .before .before in
+    let at-before′ = at-before .before .before in
+    let at-before′′ = at-before′ .before .before .before in
+    inner-stops (turn t (at-before′′ .before)) (at-before′′ .if1 .left) (levels t (at-before′′ .before)) (is-constructor t (at-before′ .before)) (agrees t (at-before .before)) (at-done .done .ensures) _ _ (at-match-children .match-children .ensures) _ (at-answer-of2 .answer-of2 .ensures) (c .match2 .keys2)
+
+children-loop-again : (t : ℕ) → children-lts.Need-loop-again (children-calls t) (children-at t) children.Post children-Inv-loop children-μ-loop
+children-loop-again t c =
+    let i = c .before .before .before .before .before .before .loop .inv in
+    let n = came t c in
+    (search needs, i .1, n .0, n .1 .frame .long ∙ sym (i .4 .frame .long) ∙ i .3, n .1)
+
+children-returns-6 : (t : ℕ) → children-lts.Need-returns-6 (children-calls t) (children-at t) children.Post children-Inv-loop children-μ-loop
+children-returns-6 t c = matched-all _ _ _ _ _ _ _ _ (c .before .before .loop .i) _ (c .before .before .loop .inv .4) (omega arith) (c .done2 .ensures) (c .before .before .loop .inv .2)
+
+pub +match-children-spec : {M : Type 1} → statement M
++match-children-spec = close μ-children λ t. children-lts.spec (children-calls t)
+    (children-at t)
+    children.Post
+    children-Inv-loop children-μ-loop (λ c. search needs) (λ c. search needs) (λ c κs. search needs) (children-loop-holds t)
+    (children-add-entry t) (children-entry-requires t) (children-add-word t) (children-word-requires t) (λ c κs. search needs)
+    (children-returns t) (λ c. search needs) (children-kind-requires t) (children-entry-requires-2 t) (λ c. search needs)
+    (children-bit-requires t) (children-word-of-requires t) (λ c. search needs)
+    (λ c κs. search needs) (λ c κs. search needs) (λ c. search needs) (children-returns-2 t) (λ c. search needs)
+    (children-add-words t) (children-mul-words t) (children-array-write-words t) (λ c. search needs) (children-shl-words t) (λ c. search needs)
+    (children-agree-requires t) (λ c κs. search needs) (children-returns-3 t) (children-operands-requires-2 t)
+    (λ c κs. search needs) (children-returns-4 t) (λ c κs. search needs) (λ c. search needs) (children-match-children-requires t)
+    (λ c κs. search needs) (λ c. search needs) (children-returns-5 t) (λ c. search needs) (λ c. search needs)
+    (children-loop-again t) (λ c κs. search needs) (children-returns-6 t)
