@@ -20,7 +20,7 @@ use Rattle.meaning.specs.Answer.{bindingWord, bindingWords}
 use Rattle.leaves.specs.Record.{markAt, recordLong, markOf, maskOf, wordOf, marking, bitOf, held, bound}
 use Rattle.meaning.proofs.Bits.{bit-has, has-nothing}
 use Rattle.leaves.proofs.Holding.{held-some, held-none, held-mark, held-bound, length-bound, mark-bound, mark-marking}
-use Rattle.marshtrundle.specs.Loaded.{Noted, given, Loaded, Opened}
+use Rattle.marshtrundle.specs.Loaded.{Hints, given, Loaded, Opened}
 
 -- A word of a list of zeros is zero.
 zeros : (n j : ℕ) → _≡_ {A = ℕ} (getD (replicate n 0) j 0) 0
@@ -60,7 +60,7 @@ pub copied-all : (t c : List ℕ) (i : ℕ) → Copied t 32768 c i → length t 
 copied-all t c i p l = record {
   long = p .long;
   same = λ e j m n. all (8 * e + j);
-  noted = λ e. given (all (8 * e + 4)) (all (8 * e + 5));
+  hints = λ e. given (all (8 * e + 4)) (all (8 * e + 5));
 }
   where
     all : (j : ℕ) → getD c j 0 ≡ getD t j 0
@@ -82,30 +82,30 @@ module _ (t c : List ℕ) (e x n : ℕ) (l : Loaded t c) (m : 8 * e < 32768) whe
   five : wordAt noting e 5 ≡ n
   five = getD-set-same (set c (8 * e + 4) x) (8 * e + 5) n 0 (omega (arith, l .long, length-set c (8 * e + 4) x))
 
-  pub loaded-noted : Noted t e x n → Loaded t noting
-  loaded-noted h = record {
+  pub loaded-hints : Hints t e x n → Loaded t noting
+  loaded-hints h = record {
     long = length-set (set c (8 * e + 4) x) (8 * e + 5) n ∙ length-set c (8 * e + 4) x ∙ l .long;
     same = λ d j k b. keeps d j k b ∙ l .same d j k b;
-    noted = λ d. ⊎-elim (λ z. elsewhere d (λ y. omega arith)) (λ z. from d z) (below-or-from d e);
+    hints = λ d. ⊎-elim (λ z. elsewhere d (λ y. omega arith)) (λ z. from d z) (below-or-from d e);
   }
     where
       keeps : (d j : ℕ) → j < 8 → (j < 4) ⊎ (5 < j) → wordAt noting d j ≡ wordAt c d j
       keeps d j k (inl z) = other (8 * d + j) (λ y. omega arith) (λ y. omega arith)
       keeps d j k (inr z) = other (8 * d + j) (λ y. omega arith) (λ y. omega arith)
 
-      here : Noted t e (wordAt noting e 4) (wordAt noting e 5)
+      here : Hints t e (wordAt noting e 4) (wordAt noting e 5)
       here = rw (four, five) h
 
-      elsewhere : (d : ℕ) → (d ≡ e → ⊥) → Noted t d (wordAt noting d 4) (wordAt noting d 5)
+      elsewhere : (d : ℕ) → (d ≡ e → ⊥) → Hints t d (wordAt noting d 4) (wordAt noting d 5)
       elsewhere d z =
           let p : wordAt noting d 4 ≡ wordAt c d 4 = other (8 * d + 4) (λ y. z (omega arith)) (λ y. omega arith) in
           let q : wordAt noting d 5 ≡ wordAt c d 5 = other (8 * d + 5) (λ y. omega arith) (λ y. z (omega arith)) in
-          rw (p, q) (l .noted d)
+          rw (p, q) (l .hints d)
 
-      from : (d : ℕ) → e ≤ d → Noted t d (wordAt noting d 4) (wordAt noting d 5)
+      from : (d : ℕ) → e ≤ d → Hints t d (wordAt noting d 4) (wordAt noting d 5)
       from d z =
           ⊎-elim (λ y. elsewhere d (λ x. omega arith))
-          (λ y. let q : e ≡ d = omega arith in subst (λ (d : ℕ). Noted t d (wordAt noting d 4) (wordAt noting d 5)) q here)
+          (λ y. let q : e ≡ d = omega arith in subst (λ (d : ℕ). Hints t d (wordAt noting d 4) (wordAt noting d 5)) q here)
           (below-or-from e d)
 
 -- ---- the bindings, in

@@ -25,7 +25,7 @@ use Rattle.meaning.specs.Table.{table, byKind, operands, PVAR, PCON}
 use Rattle.leaves.specs.Visits.{Entries}
 use Rattle.leaves.specs.Visits as visits
 use Rattle.leaves.proofs.Kind.{kind-is}
-use Rattle.marshtrundle.specs.Loaded.{Begins, MATCH, SEQ, SCOPE, Noted, given, choice, all, Loaded}
+use Rattle.marshtrundle.specs.Loaded.{HasHead, MATCH, SEQ, SCOPE, Hints, given, choice, all, Loaded}
 
 -- What holds at words 4 and 5 and at the other words holds at each.
 by-word : (P : ℕ → Type 0) → ((j : ℕ) → (j < 4) ⊎ (5 < j) → P j) → P 4 → P 5 → (j : ℕ) → P j
@@ -76,7 +76,7 @@ module _ {t c : List ℕ} (l : Loaded t c) where
 
   strategy-same : (e : ℕ) → table c .strategies e ≡ table t .strategies e
   unfolding byKind
-  strategy-same e = go (l .noted e)
+  strategy-same e = go (l .hints e)
     where
       x : wordAt c e 2 ≡ wordAt t e 2
       x = word-same e 2 (omega arith)
@@ -84,7 +84,7 @@ module _ {t c : List ℕ} (l : Loaded t c) where
       y : wordAt c e 3 ≡ wordAt t e 3
       y = word-same e 3 (omega arith)
 
-      go : Noted t e (wordAt c e 4) (wordAt c e 5) → table c .strategies e ≡ table t .strategies e
+      go : Hints t e (wordAt c e 4) (wordAt c e 5) → table c .strategies e ≡ table t .strategies e
       go (given p q) = alike-strategy t c e (all-same e p q)
       go (choice (inl k) n b) = kind-is c e 5 (kind-same e ∙ k) ∙ (rw (x, y)) ∙ sym (kind-is t e 5 k)
       go (choice (inr k) n b) = kind-is c e 6 (kind-same e ∙ k) ∙ (rw (x, y)) ∙ sym (kind-is t e 6 k)
@@ -92,12 +92,12 @@ module _ {t c : List ℕ} (l : Loaded t c) where
       go (all (inr k) b) = kind-is c e 13 (kind-same e ∙ k) ∙ (rw x) ∙ sym (kind-is t e 13 k)
 
   pattern-same : (e : ℕ) → table c .patterns e ≡ table t .patterns e
-  pattern-same e = go (l .noted e)
+  pattern-same e = go (l .hints e)
     where
       below : (k : ℕ) → kindOf t e ≡ k → k < 18 → table c .patterns e ≡ table t .patterns e
       below k h m = pattern-below c e k (kind-same e ∙ h) m ∙ ap PVAR (word-same e 1 (omega arith)) ∙ sym (pattern-below t e k h m)
 
-      go : Noted t e (wordAt c e 4) (wordAt c e 5) → table c .patterns e ≡ table t .patterns e
+      go : Hints t e (wordAt c e 4) (wordAt c e 5) → table c .patterns e ≡ table t .patterns e
       go (given p q) = alike-pattern t c e (all-same e p q)
       go (choice (inl k) n b) = below 5 k (omega arith)
       go (choice (inr k) n b) = below 6 k (omega arith)
@@ -177,22 +177,22 @@ module _ (t : List ℕ) (c : tableChecked t ≡ checked 0 0) where
       plain e (inside e k q l) .unused .zero 3 (omega arith) (omega arith)
 
   -- what may be noted is small
-  begins-small : {p q n : ℕ} → Begins t p q n → p < 4096
-  begins-small (MATCH q h e g) = rw e (facts-operand q 0 (omega arith))
-  begins-small (SEQ q n h b) = begins-small b
-  begins-small (SCOPE q n h b) = begins-small b
+  head-small : {p q n : ℕ} → HasHead t p q n → p < 4096
+  head-small (MATCH q h e g) = rw e (facts-operand q 0 (omega arith))
+  head-small (SEQ q n h b) = head-small b
+  head-small (SCOPE q n h b) = head-small b
 
-  noted-small : {e x n : ℕ} → Noted t e x n → (x < 4096) × (n < 4096)
-  noted-small {e} (given p q) = (rw p (facts-operand e 2 (omega arith)), rw q (facts-operand e 3 (omega arith)))
-  noted-small (choice k n b) = (begins-small b, omega arith)
-  noted-small {e} (all k b) = (rw (b .body) (facts-operand (wordAt t (wordAt t e 2) 2) 0 (omega arith)), omega (arith, b .visits))
+  hints-small : {e x n : ℕ} → Hints t e x n → (x < 4096) × (n < 4096)
+  hints-small {e} (given p q) = (rw p (facts-operand e 2 (omega arith)), rw q (facts-operand e 3 (omega arith)))
+  hints-small (choice k n b) = (head-small b, omega arith)
+  hints-small {e} (all k b) = (rw (b .body) (facts-operand (wordAt t (wordAt t e 2) 2) 0 (omega arith)), omega (arith, b .visits))
 
 module _ {t c : List ℕ} (h : tableChecked t ≡ checked 0 0) (l : Loaded t c) where
   operand-small : (e i : ℕ) → i < 6 → wordAt c e (2 + i) < 4096
   operand-small e i m =
       by-word (λ j. j < 8 → wordAt t e j < 4096 → wordAt c e j < 4096) (λ j b k z. rw (l .same e j k b) z)
-      (λ k z. noted-small t h (l .noted e) .0)
-      (λ k z. noted-small t h (l .noted e) .1)
+      (λ k z. hints-small t h (l .hints e) .0)
+      (λ k z. hints-small t h (l .hints e) .1)
       (2 + i) (omega arith) (facts-operand t h e i m)
 
   pub entries-loaded : Entries c
@@ -205,11 +205,11 @@ module _ {t c : List ℕ} (h : tableChecked t ≡ checked 0 0) (l : Loaded t c) 
     constructor = λ e m q. rw (word-same l e 1 (omega arith)) (facts-constructor t h e (sym (kind-same l e) ∙ q));
     matched = λ e m q. rw (kind-of-first l e) (facts-first t h e 14 (sym (kind-same l e) ∙ q) (omega arith) refl (omega arith));
     built = λ e m q. rw (kind-of-first l e) (facts-first t h e 15 (sym (kind-same l e) ∙ q) (omega arith) refl (omega arith));
-    parts = λ e i m q n. part e i (sym (kind-same l e) ∙ q) (rw (word-same l e 0 (omega arith)) at n) (l .noted e);
+    parts = λ e i m q n. part e i (sym (kind-same l e) ∙ q) (rw (word-same l e 0 (omega arith)) at n) (l .hints e);
   }
     where
       -- nothing is noted in a PCON
-      part : (e i : ℕ) → kindOf t e ≡ 19 → i < operandCount t e → Noted t e (wordAt c e 4) (wordAt c e 5) → visits.Pattern c (wordAt c e (2 + i))
+      part : (e i : ℕ) → kindOf t e ≡ 19 → i < operandCount t e → Hints t e (wordAt c e 4) (wordAt c e 5) → visits.Pattern c (wordAt c e (2 + i))
       part e i q n (given x y) =
           rw (all-same l e x y (2 + i) (omega (arith, facts-few t h e)), kind-same l (wordAt t e (2 + i)))
           (taken t h e 19 i q (omega arith) refl n)

@@ -16,40 +16,40 @@ use Rattle.cycle.specs.Cycle.{VisitsToFailure, Leads, Heads, Hinted}
 use Rattle.leaves.proofs.Kind.{applied, no-units}
 use Rattle.cycle.proofs.Ruling.{ruled-rec, ruled-call}
 use Rattle.cycle.proofs.Failing.{match-fails, seq-fails, scope-fails}
-use Rattle.marshtrundle.specs.Loaded.{Begins, MATCH, SEQ, SCOPE, Calls, Noted, given, choice, all, Begun, Loaded}
+use Rattle.marshtrundle.specs.Loaded.{HasHead, MATCH, SEQ, SCOPE, Calls, Hints, given, choice, all, HeadFound, Loaded}
 use Rattle.marshtrundle.proofs.Fetching.{word-same, kind-same, kind-of-first, entries-loaded, five-unused}
 
 -- ---- in the given table
 
 -- an entry by its other name
-elsewhere : {t : List ℕ} {p x y n : ℕ} → x ≡ y → Begins t p x n → Begins t p y n
-elsewhere {t} {p} {n = n} e b = subst (λ (x : ℕ). Begins t p x n) e b
+elsewhere : {t : List ℕ} {p x y n : ℕ} → x ≡ y → HasHead t p x n → HasHead t p y n
+elsewhere {t} {p} {n = n} e b = subst (λ (x : ℕ). HasHead t p x n) e b
 
 module _ {t : List ℕ} {q : ℕ} where
   -- nothing is known
-  pub begun-none : {most x n : ℕ} → n ≡ 0 → Begun t q most x n
-  begun-none e = record { few = omega arith; begins = λ z. absurd (z e) }
+  pub found-none : {most x n : ℕ} → n ≡ 0 → HeadFound t q most x n
+  found-none e = record { few = omega arith; head = λ z. absurd (z e) }
 
-  pub begun-match : {p : ℕ} → kindOf t q ≡ 14 → p ≡ wordAt t q 2 → kindOf t p ≡ 19 → Begun t q 2 p 2
-  begun-match h e g = record { few = omega arith; begins = λ z. MATCH q h e g }
+  pub found-match : {p : ℕ} → kindOf t q ≡ 14 → p ≡ wordAt t q 2 → kindOf t p ≡ 19 → HeadFound t q 2 p 2
+  found-match h e g = record { few = omega arith; head = λ z. MATCH q h e g }
 
   -- the operand x so begins
-  module _ {x most p n : ℕ} (e : x ≡ wordAt t q 2) (b : Begun t x most p n) (some : n ≡ 0 → ⊥) where
-    pub begun-seq : kindOf t q ≡ 4 → Begun t q (most + 1) p (n + 1)
-    begun-seq h = record { few = omega (arith, b .few); begins = λ z. SEQ q n h (elsewhere e (b .begins some)) }
+  module _ {x most p n : ℕ} (e : x ≡ wordAt t q 2) (b : HeadFound t x most p n) (some : n ≡ 0 → ⊥) where
+    pub found-seq : kindOf t q ≡ 4 → HeadFound t q (most + 1) p (n + 1)
+    found-seq h = record { few = omega (arith, b .few); head = λ z. SEQ q n h (elsewhere e (b .head some)) }
 
-    pub begun-scope : kindOf t q ≡ 16 → Begun t q (most + 1) p (n + 1)
-    begun-scope h = record { few = omega (arith, b .few); begins = λ z. SCOPE q n h (elsewhere e (b .begins some)) }
+    pub found-scope : kindOf t q ≡ 16 → HeadFound t q (most + 1) p (n + 1)
+    found-scope h = record { few = omega (arith, b .few); head = λ z. SCOPE q n h (elsewhere e (b .head some)) }
 
 pub calls : {t : List ℕ} {x q r : ℕ} → kindOf t q ≡ 8 → r ≡ wordAt t q 2 → kindOf t r ≡ 7 → x ≡ wordAt t r 2 → Calls t x q 2
 calls {t} h e g b = record { call = h; called = rw (← e) g; body = b ∙ ap (λ (r : ℕ). wordAt t r 2) e; visits = refl }
 
 module _ {t : List ℕ} {e q x n : ℕ} (o : q ≡ wordAt t e 2) where
-  pub noted-choice : (kindOf t e ≡ 5) ⊎ (kindOf t e ≡ 6) → Begun t q 4 x n → (n ≡ 0 → ⊥) → Noted t e x n
-  noted-choice k b z = choice k (b .few) (elsewhere o (b .begins z))
+  pub hints-choice : (kindOf t e ≡ 5) ⊎ (kindOf t e ≡ 6) → HeadFound t q 4 x n → (n ≡ 0 → ⊥) → Hints t e x n
+  hints-choice k b z = choice k (b .few) (elsewhere o (b .head z))
 
-  pub noted-all : (kindOf t e ≡ 11) ⊎ (kindOf t e ≡ 13) → ((n ≡ 0 → ⊥) → Calls t x q n) → (n ≡ 0 → ⊥) → Noted t e x n
-  noted-all k b z = all k (subst (λ (q : ℕ). Calls t x q n) o (b z))
+  pub hints-all : (kindOf t e ≡ 11) ⊎ (kindOf t e ≡ 13) → ((n ≡ 0 → ⊥) → Calls t x q n) → (n ≡ 0 → ⊥) → Hints t e x n
+  hints-all k b z = all k (subst (λ (q : ℕ). Calls t x q n) o (b z))
 
 -- ---- in a run
 
@@ -61,10 +61,10 @@ apart (inr a) (inl b) = omega arith
 apart (inr a) (inr b) = omega arith
 
 -- no such beginning is at once
-begins-some : {t : List ℕ} {p q n : ℕ} → Begins t p q n → n ≡ 0 → ⊥
-begins-some (MATCH q h e g) z = omega arith
-begins-some (SEQ q n h b) z = omega arith
-begins-some (SCOPE q n h b) z = omega arith
+head-some : {t : List ℕ} {p q n : ℕ} → HasHead t p q n → n ≡ 0 → ⊥
+head-some (MATCH q h e g) z = omega arith
+head-some (SEQ q n h b) z = omega arith
+head-some (SCOPE q n h b) z = omega arith
 
 module _ {t c : List ℕ} (ch : tableChecked t ≡ checked 0 0) (l : Loaded t c) where
   first-same : (e : ℕ) → wordAt t e 2 ≡ wordAt c e 2
@@ -74,13 +74,13 @@ module _ {t c : List ℕ} (ch : tableChecked t ≡ checked 0 0) (l : Loaded t c)
   first-inside e i = rw (first-same e) (entries-loaded ch l .operand e 0 i (omega arith))
 
   -- where constructor and count differ, a strategy fails in the visit of the PCON that it begins with
-  begins-fails : {p q n : ℕ} → Begins t p q n → q < 4096 → (w : List ℕ) (k : ℕ) → agreeing c w p k ≡ false → VisitsToFailure c w q k n n
-  begins-fails {p} (MATCH q h e g) i w k a =
+  head-fails : {p q n : ℕ} → HasHead t p q n → q < 4096 → (w : List ℕ) (k : ℕ) → agreeing c w p k ≡ false → VisitsToFailure c w q k n n
+  head-fails {p} (MATCH q h e g) i w k a =
       match-fails (entries-loaded ch l) i (kind-same l q ∙ h) (e ∙ first-same q) (kind-same l p ∙ g) a
-  begins-fails (SEQ q n h b) i w k a =
-      seq-fails (first-same q) (begins-fails b (first-inside q i) w k a) (begins-some b) (kind-same l q ∙ h)
-  begins-fails (SCOPE q n h b) i w k a =
-      scope-fails (first-same q) (begins-fails b (first-inside q i) w k a) (begins-some b) (kind-same l q ∙ h)
+  head-fails (SEQ q n h b) i w k a =
+      seq-fails (first-same q) (head-fails b (first-inside q i) w k a) (head-some b) (kind-same l q ∙ h)
+  head-fails (SCOPE q n h b) i w k a =
+      scope-fails (first-same q) (head-fails b (first-inside q i) w k a) (head-some b) (kind-same l q ∙ h)
 
   -- a CALL and its REC take two visits
   calls-leads : {x q n : ℕ} → Calls t x q n → Leads c q x n
@@ -107,21 +107,21 @@ module _ {t c : List ℕ} (ch : tableChecked t ≡ checked 0 0) (l : Loaded t c)
   pub hints-loaded : Hinted c
   unfolding kind lineOf lines
   hints-loaded = record {
-    head = λ e i k s. head e i (rw (kind-same l e) at k) s (l .noted e);
-    ahead = λ e i k s. ahead e (rw (kind-same l e) at k) s (l .noted e);
+    head = λ e i k s. head e i (rw (kind-same l e) at k) s (l .hints e);
+    ahead = λ e i k s. ahead e (rw (kind-same l e) at k) s (l .hints e);
   }
     where
-      head : (e : ℕ) → e < 4096 → (kindOf t e ≡ 5) ⊎ (kindOf t e ≡ 6) → (wordAt c e 5 ≡ 0 → ⊥) → Noted t e (wordAt c e 4) (wordAt c e 5)
+      head : (e : ℕ) → e < 4096 → (kindOf t e ≡ 5) ⊎ (kindOf t e ≡ 6) → (wordAt c e 5 ≡ 0 → ⊥) → Hints t e (wordAt c e 4) (wordAt c e 5)
           → Heads c (wordAt c e 2) (wordAt c e 4) (wordAt c e 5)
       head e i (inl k) s (given p q) = absurd (s (q ∙ five-unused t ch e 5 k (omega arith) (omega arith)))
       head e i (inr k) s (given p q) = absurd (s (q ∙ five-unused t ch e 6 k (omega arith) (omega arith)))
       head e i k s (choice h n b) = record {
         few = n;
-        fails = λ w m a. rw (word-same l e 2 (omega arith)) (begins-fails b (first-inside e i) w m a .fails s);
+        fails = λ w m a. rw (word-same l e 2 (omega arith)) (head-fails b (first-inside e i) w m a .fails s);
       }
       head e i k s (all h b) = absurd (apart k h)
 
-      ahead : (e : ℕ) → (kindOf t e ≡ 11) ⊎ (kindOf t e ≡ 13) → (wordAt c e 5 ≡ 0 → ⊥) → Noted t e (wordAt c e 4) (wordAt c e 5)
+      ahead : (e : ℕ) → (kindOf t e ≡ 11) ⊎ (kindOf t e ≡ 13) → (wordAt c e 5 ≡ 0 → ⊥) → Hints t e (wordAt c e 4) (wordAt c e 5)
           → (wordAt c e 5 ≤ 2) × Leads c (wordAt c e 2) (wordAt c e 4) (wordAt c e 5)
       ahead e (inl k) s (given p q) = absurd (s (q ∙ five-unused t ch e 11 k (omega arith) (omega arith)))
       ahead e (inr k) s (given p q) = absurd (s (q ∙ five-unused t ch e 13 k (omega arith) (omega arith)))

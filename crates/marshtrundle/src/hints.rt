@@ -13,14 +13,14 @@ use checks::kinds::SEQ;
 use checks::kinds::SOME;
 use words::word;
 ghost use mathlib.Core.Path.{_≡_};
-ghost use Rattle.marshtrundle.specs.Loaded.{Begun, Calls, Noted};
+ghost use Rattle.marshtrundle.specs.Loaded.{HeadFound, Calls, Hints};
 
 // An entry, and a number of visits; 0 visits where nothing is known.
 pub struct Hint(pub u32, pub u32);
 
 // A MATCH of a PCON: the PCON's visit is the second.
-fn matched(table: &[u32], q: u32) -> Hint
-    ensures { λ r. ⌜ Begun (now (table .entry)) q 2 (r .0) (r .1) ⌝ }
+fn match_head(table: &[u32], q: u32) -> Hint
+    ensures { λ r. ⌜ HeadFound (now (table .entry)) q 2 (r .0) (r .1) ⌝ }
 {
     if kind_of(table, q) != MATCH {
         return Hint(0, 0);
@@ -33,13 +33,13 @@ fn matched(table: &[u32], q: u32) -> Hint
 }
 
 // A MATCH of a PCON, alone or first in a SEQ.
-fn first(table: &[u32], q: u32) -> Hint
-    ensures { λ r. ⌜ Begun (now (table .entry)) q 3 (r .0) (r .1) ⌝ }
+fn seq_head(table: &[u32], q: u32) -> Hint
+    ensures { λ r. ⌜ HeadFound (now (table .entry)) q 3 (r .0) (r .1) ⌝ }
 {
     if kind_of(table, q) != SEQ {
-        return matched(table, q);
+        return match_head(table, q);
     }
-    let h = matched(table, word(table, q, 2));
+    let h = match_head(table, word(table, q, 2));
     if h.1 == 0 {
         return h;
     }
@@ -47,13 +47,13 @@ fn first(table: &[u32], q: u32) -> Hint
 }
 
 // A MATCH of a PCON, alone or first in a SEQ, or so inside a SCOPE.
-fn begun(table: &[u32], q: u32) -> Hint
-    ensures { λ r. ⌜ Begun (now (table .entry)) q 4 (r .0) (r .1) ⌝ }
+fn scope_head(table: &[u32], q: u32) -> Hint
+    ensures { λ r. ⌜ HeadFound (now (table .entry)) q 4 (r .0) (r .1) ⌝ }
 {
     if kind_of(table, q) != SCOPE {
-        return first(table, q);
+        return seq_head(table, q);
     }
-    let h = first(table, word(table, q, 2));
+    let h = seq_head(table, word(table, q, 2));
     if h.1 == 0 {
         return h;
     }
@@ -61,7 +61,7 @@ fn begun(table: &[u32], q: u32) -> Hint
 }
 
 // A CALL of a REC: the REC's operand is visited after both.
-fn called(table: &[u32], q: u32) -> Hint
+fn body_called(table: &[u32], q: u32) -> Hint
     ensures { λ r. ⌜ ((r .1 ≡ 0 → ⊥) → Calls (now (table .entry)) (r .0) q (r .1)) ⌝ }
 {
     if kind_of(table, q) != CALL {
@@ -75,22 +75,22 @@ fn called(table: &[u32], q: u32) -> Hint
 }
 
 // What is known of entry e: of CHOICE and LEFT what their first operand begins with, of ALL and SOME where their operand leads.
-pub fn known(table: &[u32], e: u32) -> Hint
-    ensures { λ r. ⌜ ((r .1 ≡ 0 → ⊥) → Noted (now (table .entry)) e (r .0) (r .1)) ⌝ }
+pub fn hint_for(table: &[u32], e: u32) -> Hint
+    ensures { λ r. ⌜ ((r .1 ≡ 0 → ⊥) → Hints (now (table .entry)) e (r .0) (r .1)) ⌝ }
 {
     let k = kind_of(table, e);
     let q = word(table, e, 2);
     if k == CHOICE {
-        return begun(table, q);
+        return scope_head(table, q);
     }
     if k == LEFT {
-        return begun(table, q);
+        return scope_head(table, q);
     }
     if k == ALL {
-        return called(table, q);
+        return body_called(table, q);
     }
     if k == SOME {
-        return called(table, q);
+        return body_called(table, q);
     }
     Hint(0, 0)
 }

@@ -1,5 +1,5 @@
 // What a run copies once: the table into words of fixed length, the bindings into the run's one record, and back.
-use crate::hints::known;
+use crate::hints::hint_for;
 use leaves::record::Bindings;
 use leaves::record::MARK;
 use leaves::record::MASK;
@@ -29,7 +29,7 @@ pub fn loaded(table: &[u32]) -> [u32; 32768]
     }
     let mut e: u32 = 0;
     while 8 * (e as usize) < table.len() {
-        let h = known(table, e);
+        let h = hint_for(table, e);
         if h.1 != 0 {
             let k = 8 * (e as usize);
             code[k + 4] = h.0;

@@ -1,5 +1,5 @@
 -- `loading::loaded` meets its contract: first the words are copied, then what is known of an entry is noted.
-use Rattle.marshtrundle.proofs.Copying.{Copied, copied-none, copied-more, copied-all, loaded-noted}
+use Rattle.marshtrundle.proofs.Copying.{Copied, copied-none, copied-more, copied-all, loaded-hints}
 use Rattle.marshtrundle.specs.Loaded.{Loaded}
 use mathlib.Core.Logic.{⊎-elim}
 use native.Mathlib.Omega.{arith}
@@ -35,7 +35,7 @@ loop2-again c =
     let l = c .before .before .before .before .loop2 .inv .1 in (
       omega (arith, c .before .before .before .before .before .before .before .before .pre),
       ⊎-elim
-          (λ w. rw (w .1) (loaded-noted _ _ _ _ _ l (omega (arith, c .before .before .before .before .before .before .before .before .pre)) (c .before .before .known .ensures (w .0 .taken))))
+          (λ w. rw (w .1) (loaded-hints _ _ _ _ _ l (omega (arith, c .before .before .before .before .before .before .before .before .pre)) (c .before .before .hint-for .ensures (w .0 .taken))))
           (λ w. rw (w .1) l)
           (c .if1 .came),
     )
