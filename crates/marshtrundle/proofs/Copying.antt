@@ -11,6 +11,7 @@ use native.Mathlib.Omega.{arith}
 use lib.ListN.{length, getD, set, replicate, length-set, length-append, length-replicate, getD-replicate, List·getD-eq-default, List·getD-append}
 use lib.Seq.{getD-set-same, getD-set-other, getD-append-add, ext-getD}
 use borrow.Author.Tests.{eq-eqb, ne-eqb}
+use Rattle.checks.specs.Kinds.{variables}
 use Rattle.words.specs.Words.{wordAt}
 use Rattle.words.specs.Tests.{if_then_else_}
 use Rattle.words.proofs.Tests.{below-or-from}
@@ -143,7 +144,7 @@ module _ (b : List ℕ) (m : ℕ) (st : List ℕ) (i : ℕ) (p : Filled b m st i
   }
 
   -- Word i is not: its variable is bound to the node one below it.
-  pub filled-bind : (w : ℕ) → w ≡ getD b i 0 → (w ≡ 0 → ⊥) → i < 32 → Filled b m (bound st i (w - 1)) (i + 1)
+  pub filled-bind : (w : ℕ) → w ≡ getD b i 0 → (w ≡ 0 → ⊥) → i < variables → Filled b m (bound st i (w - 1)) (i + 1)
   unfolding bind bindings named
   filled-bind w e n l = record {
     long = length-bound st i (w - 1) l ∙ p .long;
@@ -166,7 +167,7 @@ module _ (b : List ℕ) (m : ℕ) (st : List ℕ) (i : ℕ) (p : Filled b m st i
       name (suc k) e n = rw (← e) (ap some (omega arith))
 
 -- Past the last variable there are no words.
-pub filled-all : (b : List ℕ) (m : ℕ) (st : List ℕ) (i : ℕ) → Filled b m st i → length b ≡ 32 → 32 ≤ i → Opened b m st
+pub filled-all : (b : List ℕ) (m : ℕ) (st : List ℕ) (i : ℕ) → Filled b m st i → length b ≡ variables → variables ≤ i → Opened b m st
 unfolding bindings named
 filled-all b m st i p e l = record {
   long = p .long;
@@ -180,15 +181,15 @@ filled-all b m st i p e l = record {
 
 -- the first i words of w are those of the bindings b
 pub record Written (b : Bindings ℕ) (w : List ℕ) (i : ℕ) : Type 0 where
-  pub long : length w ≡ 32
+  pub long : length w ≡ variables
   pub before : (v : ℕ) → v < i → getD w v 0 ≡ bindingWord (b v)
 
 -- At first none is.
-pub written-none : (b : Bindings ℕ) (w : List ℕ) → length w ≡ 32 → Written b w 0
+pub written-none : (b : Bindings ℕ) (w : List ℕ) → length w ≡ variables → Written b w 0
 written-none b w e = record { long = e; before = λ v l. absurd (omega arith) }
 
 -- One more word.
-pub written-more : (b : Bindings ℕ) (w : List ℕ) (i x : ℕ) → Written b w i → i < 32 → x ≡ bindingWord (b i) → Written b (set w i x) (i + 1)
+pub written-more : (b : Bindings ℕ) (w : List ℕ) (i x : ℕ) → Written b w i → i < variables → x ≡ bindingWord (b i) → Written b (set w i x) (i + 1)
 written-more b w i x p l e = record {
   long = length-set w i x ∙ p .long;
   before =
@@ -218,13 +219,13 @@ word-of (suc n) b v l =
         rw e at (getD-append-add (bindingWords n b) (bindingWord (b n) ∷ []) 0 0)
 
 -- All are the bindings' words.
-pub written-all : (b : Bindings ℕ) (w : List ℕ) (i : ℕ) → Written b w i → 32 ≤ i → w ≡ bindingWords 32 b
+pub written-all : (b : Bindings ℕ) (w : List ℕ) (i : ℕ) → Written b w i → variables ≤ i → w ≡ bindingWords variables b
 written-all b w i p l =
-    ext-getD 0 w (bindingWords 32 b) (p .long ∙ sym (length-words 32 b))
-    (λ v k. p .before v (omega (arith, p .long)) ∙ sym (word-of 32 b v (omega (arith, p .long))))
+    ext-getD 0 w (bindingWords variables b) (p .long ∙ sym (length-words variables b))
+    (λ v k. p .before v (omega (arith, p .long)) ∙ sym (word-of variables b v (omega (arith, p .long))))
 
 -- The word of a variable in the mask, and of one that is not.
-pub word-some : (st : List ℕ) (v : ℕ) → v < 32 → bitOf (maskOf st) v ≡ 1 → wordOf st v + 1 ≡ bindingWord (held st v)
+pub word-some : (st : List ℕ) (v : ℕ) → v < variables → bitOf (maskOf st) v ≡ 1 → wordOf st v + 1 ≡ bindingWord (held st v)
 unfolding bindingWord
 word-some st v l e = rw (held-some st v l e) (omega arith)
 

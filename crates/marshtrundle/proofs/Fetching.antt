@@ -11,7 +11,7 @@ use borrow.Author.Tests.{le-leb, lt-leb}
 use Rattle.words.specs.Words.{wordAt, rows}
 use Rattle.words.specs.Tests.{if_then_else_}
 use Rattle.words.proofs.Tests.{below-or-from}
-use Rattle.checks.specs.Kinds.{lines, lineOf, kind, highest, sortOf, takes}
+use Rattle.checks.specs.Kinds.{variables, lines, lineOf, kind, highest, sortOf, takes}
 use Rattle.checks.specs.Good.{kindOf, operandCount, argumentOf, operand, goodEntry}
 use Rattle.checks.specs.Plain.{TableLength, Entry}
 use Rattle.checks.specs.declared.Checked.{Checked}
@@ -149,7 +149,7 @@ module _ (t : List ℕ) (c : tableChecked t ≡ checked 0 0) where
   facts-few : (e : ℕ) → operandCount t e ≤ 6
   facts-few e = ⊎-elim (λ z. operandCount-six t e (plain e z)) (λ z. omega (arith, past e 0 z)) (below-or-from e (rows t))
 
-  facts-variable : (e : ℕ) → kindOf t e ≡ 18 → argumentOf t e < 32
+  facts-variable : (e : ℕ) → kindOf t e ≡ 18 → argumentOf t e < variables
   unfolding kind lineOf lines
   facts-variable e q =
       let h : argumentOf t e ≤ 31 = subst (λ k. argumentOf t e ≤ highest (kind k .argument)) q (plain e (inside e 18 q (omega arith)) .argued .high) in

@@ -9,6 +9,7 @@ use native.Mathlib.Omega.{arith}
 use lib.Dec.{eqb, leb}
 use lib.ListN.{length, getD, take, List·getD-eq-default}
 use borrow.Author.Tests.{eq-eqb, ne-eqb, eqb-true, eqb-false}
+use Rattle.checks.specs.Kinds.{variables}
 use Rattle.words.specs.Words.{rows, clearedFrom}
 use Rattle.words.specs.Tests.{if_then_else_, rejected}
 use Rattle.words.proofs.Tests.{below-or-from}
@@ -293,13 +294,13 @@ unfolding named bindingWord
 named-word none = refl
 named-word (some k) = refl
 
--- bindings of the 32 variables alone come back from their words
-words-back : (b : Bindings ℕ) → ((v : ℕ) → 32 ≤ v → b v ≡ none) → bindings (bindingWords 32 b) ≡ b
+-- bindings of the variables alone come back from their words
+words-back : (b : Bindings ℕ) → ((v : ℕ) → variables ≤ v → b v ≡ none) → bindings (bindingWords variables b) ≡ b
 unfolding bindings named
-words-back b h = fun-ext (λ v. ⊎-elim (λ l. ap named (word-of 32 b v l) ∙ named-word (b v)) (λ l. past v l ∙ sym (h v l)) (below-or-from v 32))
+words-back b h = fun-ext (λ v. ⊎-elim (λ l. ap named (word-of variables b v l) ∙ named-word (b v)) (λ l. past v l ∙ sym (h v l)) (below-or-from v variables))
   where
-    past : (v : ℕ) → 32 ≤ v → named (getD (bindingWords 32 b) v 0) ≡ none
-    past v l = ap named (List·getD-eq-default (bindingWords 32 b) 0 (omega (arith, length-words 32 b)))
+    past : (v : ℕ) → variables ≤ v → named (getD (bindingWords variables b) v 0) ≡ none
+    past v l = ap named (List·getD-eq-default (bindingWords variables b) 0 (omega (arith, length-words variables b)))
 
 unbound : (w : List ℕ) (o : Option ℕ) → termOf w o ≡ none → o ≡ none
 unfolding termOf
@@ -307,12 +308,12 @@ unbound w none e = refl
 unbound w (some k) e = impossible (cc)
 
 module _ (i : Input) (a : Accepted i) where
-  -- no variable from 32 on is bound at the start, nor at the end
-  none-given : (v : ℕ) → 32 ≤ v → meant (i .store) (bindings (i .bindings)) v ≡ none
+  -- no number from `variables` on is bound at the start, nor at the end
+  none-given : (v : ℕ) → variables ≤ v → meant (i .store) (bindings (i .bindings)) v ≡ none
   unfolding meant bindings named termOf
   none-given v l = let e : getD (i .bindings) v 0 ≡ 0 = List·getD-eq-default (i .bindings) 0 (omega (arith, a .bindings)) in rw e
 
-  none-left : (k : ℕ) (b : Bindings ℕ) (s : State) (u : ℕ) → ran quiet tt i ≡ ended k b s u → (v : ℕ) → 32 ≤ v → b v ≡ none
+  none-left : (k : ℕ) (b : Bindings ℕ) (s : State) (u : ℕ) → ran quiet tt i ≡ ended k b s u → (v : ℕ) → variables ≤ v → b v ≡ none
   unfolding value meant
   none-left k b s u e v l =
       let d = meant-demands.demand-2 (Unit {0}) quiet tt i a (value (ended k b s u)) .0 (ap value e) in

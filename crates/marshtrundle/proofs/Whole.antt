@@ -8,6 +8,7 @@ use native.Mathlib.Omega.{arith}
 use lib.Dec.{eqb}
 use lib.ListN.{length, getD}
 use borrow.Author.Tests.{eq-eqb, ne-eqb}
+use Rattle.checks.specs.Kinds.{variables}
 use Rattle.words.specs.Words.{rows, clearedFrom}
 use Rattle.words.specs.Tests.{if_then_else_}
 use Rattle.checks.specs.declared.Checked.{Checked}
@@ -193,13 +194,13 @@ module _ (i : Input) (a : Accepted i) (r : Outcome) (st w : List ℕ) (ends : En
       omega (arith, l .2 .bound v j (ap (λ (g : Bindings ℕ). g v) (sym (ends .bound x u b s e)) ∙ f), l .2 .fits, l .1 .long, passes .0 .0 .most)
 
   -- what comes back: the store is cleared from the mark on; the bindings are the record's where it is done, else as given
-  come : (o : Ran) → ran quiet tt i ≡ o → (b′ : List ℕ) → (r .answer ≡ 0 → b′ ≡ bindingWords 32 (held st)) → ((r .answer ≡ 0 → ⊥) → b′ ≡ i .bindings)
+  come : (o : Ran) → ran quiet tt i ≡ o → (b′ : List ℕ) → (r .answer ≡ 0 → b′ ≡ bindingWords variables (held st)) → ((r .answer ≡ 0 → ⊥) → b′ ≡ i .bindings)
       → atReturn r (clearedFrom w (8 * r .mark)) b′ ≡ returned i o
   unfolding numbers wordsOf returned number
   come (ended x b s v) e b′ y n =
       let p : r ≡ numbers (i .subject) (i .mark) (i .units) (ended x b s v) = ends .numbers ∙ ap (numbers (i .subject) (i .mark) (i .units)) e in
       let q : w ≡ s .words = ends .words ∙ ap wordsOf e in
-      let h : b′ ≡ bindingWords 32 b = y (ap (λ (r : Outcome). r .answer) p) ∙ ap (bindingWords 32) (ends .bound x v b s e) in
+      let h : b′ ≡ bindingWords variables b = y (ap (λ (r : Outcome). r .answer) p) ∙ ap (bindingWords variables) (ends .bound x v b s e) in
       λ z. atReturn (p z) (clearedFrom (q z) (8 * p z .mark)) (h z)
   come (lost l v) e b′ y n =
       let p : r ≡ numbers (i .subject) (i .mark) (i .units) (lost l v) = ends .numbers ∙ ap (numbers (i .subject) (i .mark) (i .units)) e in
@@ -212,7 +213,7 @@ module _ (i : Input) (a : Accepted i) (r : Outcome) (st w : List ℕ) (ends : En
       let h : b′ ≡ i .bindings = n (λ z. omega (arith, ap (λ (r : Outcome). r .answer) p, limit-answer c)) in
       λ z. atReturn (p z) (clearedFrom (q z) (8 * p z .mark)) (h z)
 
-  pub comes-back : (b′ : List ℕ) → (r .answer ≡ 0 → b′ ≡ bindingWords 32 (held st)) → ((r .answer ≡ 0 → ⊥) → b′ ≡ i .bindings) → atReturn r (clearedFrom w (8 * r .mark)) b′ ≡ returned i (ran quiet tt i)
+  pub comes-back : (b′ : List ℕ) → (r .answer ≡ 0 → b′ ≡ bindingWords variables (held st)) → ((r .answer ≡ 0 → ⊥) → b′ ≡ i .bindings) → atReturn r (clearedFrom w (8 * r .mark)) b′ ≡ returned i (ran quiet tt i)
   comes-back b′ y n = come (ran quiet tt i) refl b′ y n
 
 -- a refusal, and none

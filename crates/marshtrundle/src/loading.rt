@@ -4,6 +4,7 @@ use leaves::record::Bindings;
 use leaves::record::MARK;
 use leaves::record::MASK;
 use leaves::record::RECORD;
+use leaves::record::VARIABLES;
 use leaves::record::bind;
 use leaves::record::bit;
 use leaves::record::word_of;
@@ -11,6 +12,7 @@ ghost use mathlib.Core.Path.{_≡_};
 ghost use mathlib.Core.Option.{some};
 ghost use Prim.Native.Nat.{ℕ, _≤_, _<_};
 ghost use lib.ListN.{length};
+ghost use Rattle.checks.specs.Kinds.{variables};
 ghost use Rattle.meaning.specs.Answer.{bindingWords};
 ghost use Rattle.leaves.specs.Record.{held};
 ghost use Rattle.marshtrundle.specs.Loaded.{Loaded, Opened};
@@ -42,13 +44,13 @@ pub fn loaded(table: &[u32]) -> [u32; 32768]
 
 // The record of these bindings with this mark.
 pub fn opened(bindings: &[u32], mark: u32) -> [u32; RECORD]
-    requires { ⌜ length (now bindings) ≡ 32 ⌝ }
+    requires { ⌜ length (now bindings) ≡ variables ⌝ }
     ensures { λ r. ⌜ Opened (now (bindings .entry)) mark r ⌝ }
 {
     let mut words = [0u32; RECORD];
     words[MARK] = mark;
     let mut v: u32 = 0;
-    while v < 32 {
+    while (v as usize) < VARIABLES {
         let w = bindings[v as usize];
         if w != 0 {
             let set = bind(Bindings { words }, v, w - 1);
@@ -61,12 +63,12 @@ pub fn opened(bindings: &[u32], mark: u32) -> [u32; RECORD]
 
 // The bindings that the record holds, written back; each bound node is below 131,072.
 pub fn closed(bindings: &mut [u32], st: [u32; RECORD])
-    requires { ⌜ (length (now bindings) ≡ 32) × ((v k : ℕ) → held st v ≡ some k → k < 131072) ⌝ }
-    ensures { λ _. ⌜ now (bindings .exit) ≡ bindingWords 32 (held st) ⌝ }
+    requires { ⌜ (length (now bindings) ≡ variables) × ((v k : ℕ) → held st v ≡ some k → k < 131072) ⌝ }
+    ensures { λ _. ⌜ now (bindings .exit) ≡ bindingWords variables (held st) ⌝ }
 {
     let mask = st[MASK];
     let mut v: u32 = 0;
-    while v < 32 {
+    while (v as usize) < VARIABLES {
         let k = v as usize;
         if bit(mask, v) == 1 {
             bindings[k] = word_of(&st, v) + 1;

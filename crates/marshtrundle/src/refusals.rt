@@ -8,6 +8,7 @@ use checks::kinds::Sort;
 use checks::kinds::sort_of;
 use checks::nodes::check_store;
 use checks::nodes::store_length_fits;
+use leaves::record::VARIABLES;
 ghost use mathlib.Core.Path.{_≡_};
 ghost use Rattle.marshtrundle.specs.Refused.{sizesFit, startFits, refused};
 
@@ -21,7 +22,7 @@ fn sizes_fit(table: &[u32], store: &[u32], bindings: &[u32], mark: u32) -> bool
     if !store_length_fits(store.len()) {
         return false;
     }
-    if bindings.len() != 32 {
+    if bindings.len() != VARIABLES {
         return false;
     }
     mark as usize <= store.len() / 8

@@ -4,6 +4,7 @@ use mathlib.Core.List.{List}
 use mathlib.Core.Logic.{⊎-elim}
 use borrow.Author.Needs.{needs}
 use native.Mathlib.Omega.{arith}
+use Rattle.checks.specs.Kinds.{variables}
 use Rattle.leaves.specs.Record.{held}
 use Rattle.leaves.proofs.Holding.{held-some}
 use Rattle.marshtrundle.proofs.Copying.{Written, written-none, written-more, written-all, word-some, word-none}
@@ -14,10 +15,10 @@ use Rattle.marshtrundle.proofs.loading.closed.Lts as lts
 use Rattle.leaves.proofs.record.bit.Reads as bit-reads
 
 abbrev Inv-loop : tie.InvT-loop
-Inv-loop bindings₀ st mask v₀ bindings v = (v ≤ 32) × Written (held st) bindings v
+Inv-loop bindings₀ st mask v₀ bindings v = (v ≤ variables) × Written (held st) bindings v
 
 abbrev μ-loop : tie.MeasureT-loop
-μ-loop bindings₀ st mask v₀ bindings v = 32 - v
+μ-loop bindings₀ st mask v₀ bindings v = variables - v
 
 loop-holds : tie.Need-loop-holds Inv-loop μ-loop
 loop-holds c = (omega arith, written-none (held (c .before .args .t2)) (c .before .args .bindings .now) (c .before .pre .0))
@@ -75,6 +76,6 @@ pub closed-spec : {M : Type 1} → statement M
 closed-spec =
     tie.close
     (tie.spec
-    Inv-loop μ-loop (λ c. search needs) loop-holds (λ c. search needs) (λ c κs. search needs) word-of-requires
+    Inv-loop μ-loop (λ c. search needs) loop-holds (λ c. search needs) (λ c. search needs) (λ c κs. search needs) word-of-requires
     add-bindings (λ c. search needs) (λ c. search needs) (λ c. search needs) (λ c. search needs) (λ c. search needs)
     (λ c. search needs) loop-again (λ c. search needs) returns)

@@ -1,3 +1,4 @@
+use Rattle.checks.specs.Kinds.{variables}
 use Rattle.marshtrundle.proofs.Copying.{Filled, filled-none, filled-skip, filled-bind, filled-all}
 use native.Mathlib.Omega.{arith}
 use borrow.Author.Needs.{needs}
@@ -11,10 +12,10 @@ use Rattle.marshtrundle.proofs.loading.opened.Lts as lts
 use Rattle.leaves.proofs.record.bind.Reads as bind-reads
 
 abbrev Inv-loop : tie.InvT-loop
-Inv-loop bindings mark words₀ v₀ words v = (v ≤ 32) × Filled bindings mark words v
+Inv-loop bindings mark words₀ v₀ words v = (v ≤ variables) × Filled bindings mark words v
 
 abbrev μ-loop : tie.MeasureT-loop
-μ-loop bindings mark words₀ v₀ words v = 32 - v
+μ-loop bindings mark words₀ v₀ words v = variables - v
 
 loop-holds : tie.Need-loop-holds Inv-loop μ-loop
 loop-holds c = (omega arith, filled-none (c .before .args .bindings .now) (c .before .args .mark))
@@ -37,5 +38,5 @@ pub opened-spec : {M : Type 1} → statement M
 opened-spec =
     tie.close
     (tie.spec
-    Inv-loop μ-loop (λ c. search needs) loop-holds (λ c. search needs) (λ c. search needs) (λ c. search needs)
+    Inv-loop μ-loop (λ c. search needs) loop-holds (λ c. search needs) (λ c. search needs) (λ c. search needs) (λ c. search needs)
     (λ c. search needs) (λ c κs. search needs) (λ c. search needs) (λ c. search needs) loop-again returns)
