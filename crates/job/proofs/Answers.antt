@@ -11,10 +11,11 @@ use borrow.Author.Tests.{eq-eqb, ne-eqb}
 use Rattle.words.specs.Tests.{if_then_else_}
 use Rattle.words.specs.Words.{wordAt}
 use Rattle.job.specs.Lines.{Line}
-use Rattle.job.specs.Written.{nameText, numbersText, lineText, written}
-use Rattle.job.specs.Answer.{Put, nodeShown, nodeNumbers, nodeLine, nodeLines, bindingLine, bindingLines, shown, answerLine, answered}
+use Rattle.text.specs.Written.{numbersText, Put}
+use Rattle.job.specs.Written.{nameText, lineText, written}
+use Rattle.job.specs.Answer.{nodeShown, nodeNumbers, nodeLine, nodeLines, bindingLine, bindingLines, shown, answerLine, answered}
 use Rattle.job.specs.Promises.{AnswerFits}
-use Rattle.job.proofs.Put.{put-none, put-more, length-numbersText}
+use Rattle.text.proofs.Put.{put-none, put-more, length-numbersText}
 
 -- The text of lines and more lines.
 pub written-more : (xs ys : List Line) → written (xs ++ ys) ≡ written xs ++ written ys

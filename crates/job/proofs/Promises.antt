@@ -1,116 +1,24 @@
 -- A text that is read as lines is the text of those lines, and of no others. Assumes nothing.
 use mathlib.Core.Path.{_≡_, refl, ap, sym, _∙_, subst}
-use mathlib.Core.Logic.{⊎-elim}
 use mathlib.Core.Bool.{Bool, true, false, _&&_, true≢false}
 use mathlib.Core.List.{List, [], _∷_, _++_, append-assoc, append-nil, map}
 use mathlib.Core.Option.{Option, none, some}
-use Prim.Native.Nat.{ℕ, zero, suc, _+_, _-_, _*_, _/_, _%_, _≤_, _<_}
-use native.Mathlib.Nat.{eq-or-lt-of-le}
+use Prim.Native.Nat.{ℕ, suc, _+_, _-_, _≤_}
 use native.Mathlib.Omega.{arith}
 use lib.Dec.{ltb, eqb}
 use lib.ListN.{length, getD, length-append}
 use borrow.Author.Tests.{le-ltb, ltb-false, eqb-true, eqb-false, ne-eqb}
 use Rattle.words.specs.Tests.{if_then_else_}
-use Rattle.job.specs.Text.{grown, parts, valued, zeroAlone, numberOf, inFront, numbersOf, digits, decimal}
+use Rattle.text.specs.Text.{parts, joined, joinedAfter, numbersOf, decimal}
+use Rattle.text.specs.Written.{numbersText, Within}
 use Rattle.job.specs.Lines.{Line, nameOf, letterOf, fits, lineFrom, lineOfFields, lineOf}
 use Rattle.job.specs.Job.{Reading, unread, admitted, taken, accepted, Meant, bad, good, orBad, ended, readLines, meant}
-use Rattle.job.specs.Written.{nameText, numbersText, lineText, written, Within, empty, limited, Follow, end, next}
+use Rattle.job.specs.Written.{nameText, lineText, written, Follow, end, next}
 use Rattle.job.specs.Promises.{JobText, TextIsJob, FirstBad, BadLine, OneReading}
-use Rattle.job.proofs.Parts.{parts-first}
-use Rattle.job.proofs.Put.{decimal-one, decimal-more}
+use Rattle.text.proofs.Separators.{parts-cut, some-part, joined-parts, parts-rest}
+use Rattle.text.proofs.Decimal.{never, same, numbers-text, joinedAfter-numbers}
 use Rattle.job.proofs.Readings.{fits-name}
-use Rattle.job.proofs.Grammar.{parts-cut, line-read, line-clear, written-read}
-
--- Nothing is something.
-never : {A : Type 0} {B : Type 0} {x : A} → none ≡ some x → B
-never {A} {B} {x} e = let z : _≡_ {A = ℕ} 0 1 = cc in absurd (omega arith)
-
-same : {A : Type 0} {x y : A} → some x ≡ some y → x ≡ y
-same e = cc
-
--- At least a number, and not that one, is more.
-more : {m n : ℕ} → m ≤ n → (n ≡ m → ⊥) → m < n
-more l n = ⊎-elim (λ e. absurd (n (sym e))) (λ h. h) (eq-or-lt-of-le l)
-
--- Digits after a number that is not zero are the digits of what they make.
-valued-text : (f : List ℕ) (w v : ℕ) → 0 < w → w ≤ 4294967295 → valued w f ≡ some v → (decimal w ++ f ≡ decimal v) × (v ≤ 4294967295)
-unfolding valued
-valued-text [] w v p l e =
-    let z : w ≡ v = same e in
-    (append-nil (decimal w) ∙ ap decimal z, subst (λ (n : ℕ). n ≤ 4294967295) z l)
-valued-text (b ∷ f) w v p l e = go (ltb b 48) refl (ltb 57 b) refl (ltb 4294967295 (w * 10 + (b - 48))) refl (valued-text f (w * 10 + (b - 48)) v) e
-  where
-    go : (x : Bool) → ltb b 48 ≡ x → (y : Bool) → ltb 57 b ≡ y → (z : Bool) → ltb 4294967295 (w * 10 + (b - 48)) ≡ z
-        → (0 < w * 10 + (b - 48) → w * 10 + (b - 48) ≤ 4294967295 → valued (w * 10 + (b - 48)) f ≡ some v
-        → (decimal (w * 10 + (b - 48)) ++ f ≡ decimal v) × (v ≤ 4294967295))
-        → (if x then none else (if y then none else (if z then none else valued (w * 10 + (b - 48)) f))) ≡ some v
-        → (decimal w ++ (b ∷ f) ≡ decimal v) × (v ≤ 4294967295)
-    go true i y j z k h e = never e
-    go false i true j z k h e = never e
-    go false i false j true k h e = never e
-    go false i false j false k h e =
-        let n : ℕ = w * 10 + (b - 48) in
-        let lo : 48 ≤ b = ltb-false b 48 i in
-        let hi : b ≤ 57 = ltb-false 57 b j in
-        let m : n ≤ 4294967295 = ltb-false 4294967295 n k in
-        let q : n / 10 ≡ w = omega arith in
-        let r : 48 + n % 10 ≡ b = omega arith in
-        let t : _ = h (omega arith) m e in
-        let d : decimal n ≡ decimal w ++ (b ∷ []) =
-        decimal-more n (omega arith) m
-        ∙ ap (λ (a : ℕ). decimal a ++ ((48 + n % 10) ∷ [])) q
-        ∙ ap (λ (a : ℕ). decimal w ++ (a ∷ [])) r in
-        (sym (append-assoc (decimal w) (b ∷ []) f) ∙ ap (λ (a : List ℕ). a ++ f) (sym d) ∙ t .0, t .1)
-
--- A field that is a number is its digits.
-number-text : (f : List ℕ) (v : ℕ) → numberOf f ≡ some v → (f ≡ decimal v) × (v ≤ 4294967295)
-unfolding numberOf valued digits
-number-text [] v e = never e
-number-text (b ∷ f) v e = go (eqb b 48) refl e
-  where
-    lone : (f : List ℕ) → b ≡ 48 → zeroAlone f ≡ some v → (b ∷ f ≡ decimal v) × (v ≤ 4294967295)
-    lone [] z e =
-        let y : 0 ≡ v = same e in
-        (ap (λ (a : ℕ). a ∷ []) z ∙ ap decimal y, omega arith)
-    lone (c ∷ f) z e = never e
-
-    first : (x : Bool) → ltb b 48 ≡ x → (y : Bool) → ltb 57 b ≡ y → (z : Bool) → ltb 4294967295 (0 * 10 + (b - 48)) ≡ z → (b ≡ 48 → ⊥)
-        → (if x then none else (if y then none else (if z then none else valued (0 * 10 + (b - 48)) f))) ≡ some v
-        → (b ∷ f ≡ decimal v) × (v ≤ 4294967295)
-    first true i y j z k n e = never e
-    first false i true j z k n e = never e
-    first false i false j true k n e = never e
-    first false i false j false k n e =
-        let lo : 48 ≤ b = ltb-false b 48 i in
-        let hi : b ≤ 57 = ltb-false 57 b j in
-        let g : 48 < b = more lo n in
-        let m : 0 * 10 + (b - 48) ≤ 4294967295 = omega arith in
-        let t : _ = valued-text f (0 * 10 + (b - 48)) v (omega arith) m e in
-        let q : 48 + (0 * 10 + (b - 48)) ≡ b = omega arith in
-        (ap (λ (a : ℕ). a ∷ f) (sym q) ∙ ap (λ (a : List ℕ). a ++ f) (sym (decimal-one (0 * 10 + (b - 48)) (omega arith))) ∙ t .0, t .1)
-
-    go : (q : Bool) → eqb b 48 ≡ q → (if q then zeroAlone f else valued 0 (b ∷ f)) ≡ some v → (b ∷ f ≡ decimal v) × (v ≤ 4294967295)
-    go true z e = lone f (eqb-true b 48 z) e
-    go false z e = first (ltb b 48) refl (ltb 57 b) refl (ltb 4294967295 (0 * 10 + (b - 48))) refl (eqb-false b 48 z) e
-
--- Fields that are numbers are their digits.
-numbers-text : (k : ℕ) (fs : List (List ℕ)) (vs : List ℕ) → numbersOf k fs ≡ some vs → (fs ≡ map decimal vs) × Within vs
-unfolding numbersOf
-numbers-text k [] vs e = subst (λ (ws : List ℕ). ([] ≡ map decimal ws) × Within ws) (same e) (refl, empty)
-numbers-text zero (f ∷ fs) vs e = never e
-numbers-text (suc k) (f ∷ fs) vs e = go (numberOf f) refl (numbersOf k fs) refl (numbers-text k fs) e
-  where
-    go : (o : Option ℕ) → numberOf f ≡ o → (p : Option (List ℕ)) → numbersOf k fs ≡ p
-        → ((ws : List ℕ) → numbersOf k fs ≡ some ws → (fs ≡ map decimal ws) × Within ws)
-        → inFront o p ≡ some vs
-        → (f ∷ fs ≡ map decimal vs) × Within vs
-    go none i p j h e = never e
-    go (some v) i none j h e = never e
-    go (some v) i (some ws) j h e =
-        let t : _ = number-text f v i in
-        let u : _ = h ws j in
-        subst (λ (r : List ℕ). (f ∷ fs ≡ map decimal r) × Within r) (same e)
-        (ap (λ (a : List ℕ). a ∷ fs) (t .0) ∙ ap (λ (a : List (List ℕ)). decimal v ∷ a) (u .0), limited (t .1) (u .1))
+use Rattle.job.proofs.Grammar.{line-read, line-clear, written-read}
 
 -- A field that is a name is the name's text.
 letter-text : (a : ℕ) → letterOf a ≤ 3 → a ∷ [] ≡ nameText (letterOf a)
@@ -148,63 +56,36 @@ name-text (a ∷ b ∷ c ∷ d ∷ f) l = absurd (long (rw (ne-eqb (suc (suc (su
     long : 4 ≤ 3 → ⊥
     long h = omega arith
 
--- Parts, and separators between them, are the text.
-abbrev rejoin : ℕ → List (List ℕ) → List ℕ
-rejoin c [] = []
-rejoin c (p ∷ ps) = c ∷ (p ++ rejoin c ps)
-
-abbrev unparts : ℕ → List (List ℕ) → List ℕ
-unparts c [] = []
-unparts c (p ∷ ps) = p ++ rejoin c ps
-
-some-part : (c : ℕ) (s : List ℕ) → 0 < length (parts c s)
-some-part c s = rw (parts-first c s) (omega arith)
-
-unparts-parts : (c : ℕ) (s : List ℕ) → unparts c (parts c s) ≡ s
-unfolding parts
-unparts-parts c [] = refl
-unparts-parts c (b ∷ s) = go (eqb b c) refl (parts c s) (some-part c s) (unparts-parts c s)
-  where
-    go : (q : Bool) → eqb b c ≡ q → (ps : List (List ℕ)) → 0 < length ps → unparts c ps ≡ s → unparts c (if q then [] ∷ ps else grown b ps) ≡ b ∷ s
-    go q e [] l h = absurd (omega arith)
-    go true e (p ∷ ps) l h = ap (λ (a : ℕ). a ∷ (p ++ rejoin c ps)) (sym (eqb-true b c e)) ∙ ap (λ (r : List ℕ). b ∷ r) h
-    go false e (p ∷ ps) l h = ap (λ (r : List ℕ). b ∷ r) h
-
-rejoin-numbers : (vs : List ℕ) → rejoin 9 (map decimal vs) ≡ numbersText vs
-unfolding numbersText
-rejoin-numbers [] = refl
-rejoin-numbers (v ∷ vs) = ap (λ (r : List ℕ). 9 ∷ (decimal v ++ r)) (rejoin-numbers vs)
-
 -- What is read of a line.
 record Read (l : List ℕ) (x : Line) : Type 0 where
   text : l ≡ lineText x
   fit : fits (x .name) (length (x .numbers)) (x .numbers) ≡ true
   within : Within (x .numbers)
 
-line-made : (f : List ℕ) (fs : List (List ℕ)) (vs : List ℕ) → f ≡ nameText (nameOf f) → fs ≡ map decimal vs → f ++ rejoin 9 fs ≡ lineText (record { name = nameOf f; numbers = vs })
+line-made : (f : List ℕ) (fs : List (List ℕ)) (vs : List ℕ) → f ≡ nameText (nameOf f) → fs ≡ map decimal vs → f ++ joinedAfter 9 fs ≡ lineText (record { name = nameOf f; numbers = vs })
 unfolding lineText
-line-made f fs vs n e = ap (λ (gs : List (List ℕ)). f ++ rejoin 9 gs) e ∙ ap (λ (r : List ℕ). f ++ r) (rejoin-numbers vs) ∙ ap (λ (a : List ℕ). a ++ numbersText vs) n
+line-made f fs vs n e = ap (λ (gs : List (List ℕ)). f ++ joinedAfter 9 gs) e ∙ ap (λ (r : List ℕ). f ++ r) (joinedAfter-numbers vs) ∙ ap (λ (a : List ℕ). a ++ numbersText vs) n
 
-read-from : (f : List ℕ) (fs : List (List ℕ)) (o : Option (List ℕ)) → numbersOf 8 fs ≡ o → (x : Line) → lineFrom (nameOf f) o ≡ some x → Read (f ++ rejoin 9 fs) x
+read-from : (f : List ℕ) (fs : List (List ℕ)) (o : Option (List ℕ)) → numbersOf 8 fs ≡ o → (x : Line) → lineFrom (nameOf f) o ≡ some x → Read (f ++ joinedAfter 9 fs) x
 read-from f fs none i x e = never e
 read-from f fs (some vs) i x e = go (fits (nameOf f) (length vs) vs) refl e
   where
-    made : fits (nameOf f) (length vs) vs ≡ true → Read (f ++ rejoin 9 fs) (record { name = nameOf f; numbers = vs })
+    made : fits (nameOf f) (length vs) vs ≡ true → Read (f ++ joinedAfter 9 fs) (record { name = nameOf f; numbers = vs })
     made t = record { text = text-of t; fit = t; within = numbers-text 8 fs vs i .1 }
       where
-        text-of : fits (nameOf f) (length vs) vs ≡ true → f ++ rejoin 9 fs ≡ lineText (record { name = nameOf f; numbers = vs })
+        text-of : fits (nameOf f) (length vs) vs ≡ true → f ++ joinedAfter 9 fs ≡ lineText (record { name = nameOf f; numbers = vs })
         text-of t =
             line-made f fs vs (name-text f (ltb-false 3 (nameOf f) (fits-name (nameOf f) (length vs) vs t))) (numbers-text 8 fs vs i .0)
 
-    go : (b : Bool) → fits (nameOf f) (length vs) vs ≡ b → (if b then some (record { name = nameOf f; numbers = vs }) else none) ≡ some x → Read (f ++ rejoin 9 fs) x
-    go true t e = subst (Read (f ++ rejoin 9 fs)) (same e) (made t)
+    go : (b : Bool) → fits (nameOf f) (length vs) vs ≡ b → (if b then some (record { name = nameOf f; numbers = vs }) else none) ≡ some x → Read (f ++ joinedAfter 9 fs) x
+    go true t e = subst (Read (f ++ joinedAfter 9 fs)) (same e) (made t)
     go false t e = never e
 
 line-text : (l : List ℕ) (x : Line) → lineOf l ≡ some x → Read l x
 unfolding lineOf
-line-text l x e = subst (λ (s : List ℕ). Read s x) (unparts-parts 9 l) (go (parts 9 l) e)
+line-text l x e = subst (λ (s : List ℕ). Read s x) (joined-parts 9 l) (go (parts 9 l) e)
   where
-    go : (fs : List (List ℕ)) → lineOfFields fs ≡ some x → Read (unparts 9 fs) x
+    go : (fs : List (List ℕ)) → lineOfFields fs ≡ some x → Read (joined 9 fs) x
     go [] e = never e
     go (f ∷ fs) e = read-from f fs (numbersOf 8 fs) refl x e
 
@@ -229,7 +110,7 @@ line-more : (l r : List ℕ) (x : Line) (xs : List Line) → l ≡ lineText x �
 unfolding written
 line-more l r x xs e f = rw (e, f)
 
-lines-ended : (g : Reading) (n : ℕ) (l : List ℕ) (h : Reading) → ended g n l ≡ good h → Lines (unparts 10 (l ∷ [])) g h
+lines-ended : (g : Reading) (n : ℕ) (l : List ℕ) (h : Reading) → ended g n l ≡ good h → Lines (joined 10 (l ∷ [])) g h
 lines-ended g n (b ∷ l) h e = bad-good e
 lines-ended g n [] h e = go (eqb (g .heading .section) 0) refl e
   where
@@ -260,12 +141,12 @@ lines-next g n l r h rest (some x) i k e = go (admitted (g .heading) (x .name) (
     go true a e = add a (k (taken g x) e)
     go false a e = bad-good e
 
-lines-read : (ps : List (List ℕ)) (g : Reading) (n : ℕ) (h : Reading) → readLines g n ps ≡ good h → Lines (unparts 10 ps) g h
+lines-read : (ps : List (List ℕ)) (g : Reading) (n : ℕ) (h : Reading) → readLines g n ps ≡ good h → Lines (joined 10 ps) g h
 unfolding readLines
 lines-read [] g n h e = bad-good e
 lines-read (l ∷ []) g n h e = lines-ended g n l h e
 lines-read (l ∷ m ∷ ls) g n h e =
-    lines-next g n l (unparts 10 (m ∷ ls)) h (λ g′. readLines g′ (n + 1) (m ∷ ls)) (lineOf l) refl (λ g′. lines-read (m ∷ ls) g′ (n + 1) h) e
+    lines-next g n l (joined 10 (m ∷ ls)) h (λ g′. readLines g′ (n + 1) (m ∷ ls)) (lineOf l) refl (λ g′. lines-read (m ∷ ls) g′ (n + 1) h) e
 
 -- A text means a job exactly where it is the text of the job's lines.
 job-text-of : (s : List ℕ) (g : Reading) → meant s ≡ good g → JobText s g
@@ -275,7 +156,7 @@ job-text-of s g e = go (ltb 60000 (length s)) refl e
     go : (q : Bool) → ltb 60000 (length s) ≡ q → (if q then bad 0 else readLines unread 1 (parts 10 s)) ≡ good g → JobText s g
     go true i e = bad-good e
     go false i e =
-        let t : Lines s unread g = subst (λ (r : List ℕ). Lines r unread g) (unparts-parts 10 s) (lines-read (parts 10 s) unread 1 g e) in
+        let t : Lines s unread g = subst (λ (r : List ℕ). Lines r unread g) (joined-parts 10 s) (lines-read (parts 10 s) unread 1 g e) in
         record { short = ltb-false 60000 (length s) i; lines = t .lines; text = t .text; follow = t .follow; begun = t .begun }
 
 job-meant : (s : List ℕ) (g : Reading) → JobText s g → meant s ≡ good g
@@ -295,7 +176,7 @@ both : (x : Line) (xs : List Line) (y : Line) (ys : List Line) → written (x �
 both x xs y ys e =
     let p : lineText x ∷ parts 10 (written xs) ≡ lineText y ∷ parts 10 (written ys) = sym (cut x xs) ∙ ap (parts 10) e ∙ cut y ys in
     let t : parts 10 (written xs) ≡ parts 10 (written ys) = cc in
-    (cc, sym (unparts-parts 10 (written xs)) ∙ ap (unparts 10) t ∙ unparts-parts 10 (written ys))
+    (cc, sym (joined-parts 10 (written xs)) ∙ ap (joined 10) t ∙ joined-parts 10 (written ys))
 
 -- A line has some text.
 no-text : (x : Line) (xs : List Line) → written (x ∷ xs) ≡ written [] → ⊥
@@ -315,27 +196,6 @@ one-reading (x ∷ xs) (y ∷ ys) (next f w a r) (next f′ w′ a′ r′) e =
 
 pub oneReading : OneReading
 oneReading xs ys g h p q e = one-reading xs ys p q e
-
--- The parts after the first are those of the text after it.
-parts-rest : (c : ℕ) (s l m : List ℕ) (ls : List (List ℕ)) → parts c s ≡ l ∷ m ∷ ls → parts c (unparts c (m ∷ ls)) ≡ m ∷ ls
-unfolding parts
-parts-rest c [] l m ls e = absurd (short e)
-  where
-    short : [] ∷ [] ≡ l ∷ m ∷ ls → ⊥
-    short e = let z : 1 ≡ suc (suc (length ls)) = ap length e in omega arith
-parts-rest c (b ∷ s) l m ls e = go (eqb b c) (parts c s) refl (parts-rest c s) e
-  where
-    go : (q : Bool) (ps : List (List ℕ)) → parts c s ≡ ps
-        → ((k n : List ℕ) (ns : List (List ℕ)) → parts c s ≡ k ∷ n ∷ ns → parts c (unparts c (n ∷ ns)) ≡ n ∷ ns)
-        → (if q then [] ∷ ps else grown b ps) ≡ l ∷ m ∷ ls
-        → parts c (unparts c (m ∷ ls)) ≡ m ∷ ls
-    go true ps i h e =
-        let t : ps ≡ m ∷ ls = cc in
-        ap (λ (a : List (List ℕ)). parts c (unparts c a)) (sym t ∙ sym i) ∙ ap (parts c) (unparts-parts c s) ∙ i ∙ t
-    go false [] i h e = absurd (let z : 1 ≡ suc (suc (length ls)) = ap length e in omega arith)
-    go false (p ∷ ps) i h e =
-        let t : ps ≡ m ∷ ls = cc in
-        h p m ls (i ∙ ap (λ (a : List (List ℕ)). p ∷ a) t)
 
 good-bad : {B : Type 0} {n : ℕ} {g : Reading} → good g ≡ bad n → B
 good-bad e = let z : _≡_ {A = ℕ} 0 1 = cc in absurd (omega arith)
@@ -357,7 +217,7 @@ unfolding written
 here g s n m e k u = record { lines = []; after = g; rest = s; text = refl; follow = end; number = omega (arith, e); stuck = k; unfinished = u }
 
 bad-ended : (g : Reading) (s l : List ℕ) (n m : ℕ) → parts 10 s ≡ l ∷ [] → ended g n l ≡ bad m → FirstBad g s n m
-bad-ended g s l n m i e = here g s n m (number-of l e) (λ x r z f w a. two x r z) (λ z. opened l (sym (unparts-parts 10 s) ∙ ap (unparts 10) i ∙ append-nil l) z e)
+bad-ended g s l n m i e = here g s n m (number-of l e) (λ x r z f w a. two x r z) (λ z. opened l (sym (joined-parts 10 s) ∙ ap (joined 10) i ∙ append-nil l) z e)
   where
     number-of : (l : List ℕ) → ended g n l ≡ bad m → n ≡ m
     number-of (b ∷ l) e = same-bad e
@@ -387,15 +247,15 @@ line-and l x r xs t e f = rw (e, f) (sym (append-assoc (lineText x) (10 ∷ writ
 
 bad-next : (g : Reading) (s l k : List ℕ) (ls : List (List ℕ)) (n m : ℕ) → parts 10 s ≡ l ∷ k ∷ ls
     → (rest : Reading → Meant)
-    → ((g′ : Reading) → rest g′ ≡ bad m → FirstBad g′ (unparts 10 (k ∷ ls)) (n + 1) m)
+    → ((g′ : Reading) → rest g′ ≡ bad m → FirstBad g′ (joined 10 (k ∷ ls)) (n + 1) m)
     → (o : Option Line) → lineOf l ≡ o → orBad n (accepted g o) rest ≡ bad m → FirstBad g s n m
 bad-next g s l k ls n m i rest h o j e = go o j e
   where
-    whole : s ≡ l ++ (10 ∷ unparts 10 (k ∷ ls))
-    whole = sym (unparts-parts 10 s) ∙ ap (unparts 10) i
+    whole : s ≡ l ++ (10 ∷ joined 10 (k ∷ ls))
+    whole = sym (joined-parts 10 s) ∙ ap (joined 10) i
 
     some-text : s ≡ [] → g .heading .section ≡ 0
-    some-text z = absurd (let q : length (l ++ (10 ∷ unparts 10 (k ∷ ls))) ≡ 0 = ap length (sym whole ∙ z) in omega (arith, q, length-append l (10 ∷ unparts 10 (k ∷ ls))))
+    some-text z = absurd (let q : length (l ++ (10 ∷ joined 10 (k ∷ ls))) ≡ 0 = ap length (sym whole ∙ z) in omega (arith, q, length-append l (10 ∷ joined 10 (k ∷ ls))))
 
     first-line : (x : Line) (r : List ℕ) → s ≡ lineText x ++ (10 ∷ r) → fits (x .name) (length (x .numbers)) (x .numbers) ≡ true → Within (x .numbers) → lineOf l ≡ some x
     first-line x r z f w =
@@ -403,14 +263,14 @@ bad-next g s l k ls n m i rest h o j e = go o j e
         let p : l ≡ lineText x = cc in
         ap lineOf p ∙ line-read x f w
 
-    more-lines : (x : Line) → lineOf l ≡ some x → admitted (g .heading) (x .name) (getD (x .numbers) 0 0) ≡ true → FirstBad (taken g x) (unparts 10 (k ∷ ls)) (n + 1) m → FirstBad g s n m
+    more-lines : (x : Line) → lineOf l ≡ some x → admitted (g .heading) (x .name) (getD (x .numbers) 0 0) ≡ true → FirstBad (taken g x) (joined 10 (k ∷ ls)) (n + 1) m → FirstBad g s n m
     more-lines x j a t =
         let u : Read l x = line-text l x j in
         record {
           lines = x ∷ t .lines;
           after = t .after;
           rest = t .rest;
-          text = whole ∙ line-and l x (unparts 10 (k ∷ ls)) (t .lines) (t .rest) (u .text) (t .text);
+          text = whole ∙ line-and l x (joined 10 (k ∷ ls)) (t .lines) (t .rest) (u .text) (t .text);
           follow = next (u .fit) (u .within) a (t .follow);
           number = omega (arith, t .number);
           stuck = t .stuck;
@@ -436,7 +296,7 @@ unfolding readLines
 bad-read [] s g n m i e = absurd (let q : length (parts 10 s) ≡ 0 = ap length i in omega (arith, q, some-part 10 s))
 bad-read (l ∷ []) s g n m i e = bad-ended g s l n m i e
 bad-read (l ∷ k ∷ ls) s g n m i e =
-    bad-next g s l k ls n m i (λ g′. readLines g′ (n + 1) (k ∷ ls)) (λ g′. bad-read (k ∷ ls) (unparts 10 (k ∷ ls)) g′ (n + 1) m (parts-rest 10 s l k ls i)) (lineOf l) refl e
+    bad-next g s l k ls n m i (λ g′. readLines g′ (n + 1) (k ∷ ls)) (λ g′. bad-read (k ∷ ls) (joined 10 (k ∷ ls)) g′ (n + 1) m (parts-rest 10 s l k ls i)) (lineOf l) refl e
 
 pub badLine : BadLine
 unfolding meant

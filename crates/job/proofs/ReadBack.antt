@@ -13,7 +13,8 @@ use Rattle.words.specs.Words.{wordAt, putRow}
 use Rattle.words.proofs.Rows.{length-putRow}
 use Rattle.job.specs.Lines.{Line, nodeFits, bindingFits, fits, nodeRow}
 use Rattle.job.specs.Job.{Reading, zeros, admitted, headed, tableWith, storeWith, bindingsWith, with, taken}
-use Rattle.job.specs.Written.{Within, empty, limited, Follow, end, next}
+use Rattle.text.specs.Written.{Within, empty, limited}
+use Rattle.job.specs.Written.{Follow, end, next}
 use Rattle.job.specs.Answer.{nodeShown, nodeNumbers, nodeLine, nodeLines, bindingLine, bindingLines}
 use Rattle.job.specs.Promises.{Plain, BeforeNodes, ReadBack}
 

@@ -1,27 +1,28 @@
 -- A line taken in where it stands in a text: what the text means goes on after it. Assumes nothing.
 use mathlib.Core.Path.{_≡_, refl, ap, sym, _∙_, subst}
 use mathlib.Core.Bool.{Bool, true, false, _&&_, true≢false}
-use mathlib.Core.List.{List, [], _∷_, tail}
+use mathlib.Core.List.{List, [], _∷_}
 use mathlib.Core.Logic.{⊎-elim}
 use mathlib.Core.Option.{Option, none, some}
 use Prim.Native.Nat.{ℕ, _+_, _-_, _≤_, _<_}
 use native.Mathlib.Nat.{sub-zero}
 use native.Mathlib.Omega.{arith}
 use lib.Dec.{ltb, leb, eqb}
-use lib.ListN.{length, getD, drop, length-drop, drop-of-length-le}
-use lib.Seq.{drop-drop, getD-drop}
+use lib.ListN.{length, getD, drop, drop-of-length-le}
 use borrow.Author.Tests.{lt-ltb, le-ltb, eqb-true, leb-true, ltb-true, eq-eqb, ne-eqb}
 use Rattle.words.specs.Tests.{if_then_else_}
 use Rattle.words.proofs.Tests.{and-true, below-or-from}
 use Rattle.words.specs.Words.{clearedFrom}
-use Rattle.job.specs.Text.{parts, upTo, numbersOf, eight}
+use Rattle.text.specs.Text.{parts, upTo, numbersOf, eight}
+use Rattle.text.specs.Lines.{lineEnd}
 use Rattle.job.specs.Lines.{Line, nameOf, jobFits, entryFits, nodeFits, bindingFits, fits, lineFrom, lineOfFields, lineOf, entryRow, nodeRow, noLine, lineHeld, takenAt}
 use Rattle.job.specs.Job.{Reading, admitted, headed, tableWith, storeWith, bindingsWith, with, taken, accepted, Meant, bad, good, orBad, ended, readLines, Holds, blank, zeros, meant, parsedOf, tableOf, storeOf, bindingsOf}
 use Rattle.job.specs.declared.Parsed.the-variants as told
 use Rattle.job.specs.declared.Parsed.{Parsed}
 use Rattle.job.specs.declared.Heading.{Heading}
 use Rattle.job.specs.declared.Taken.{Taken}
-use Rattle.job.proofs.Parts.{parts-first, parts-on, parts-end, length-upTo, upTo-stops}
+use Rattle.text.proofs.Parts.{parts-first}
+use Rattle.text.proofs.Lines.{line-next, line-last}
 use Rattle.job.proofs.Shapes.{getD-eight, fits-eight}
 
 -- A line has numbers that fit its name.
@@ -82,34 +83,16 @@ module _ (s : List ℕ) (at : ℕ) where
   l = upTo 10 (drop at s)
 
   abbrev e : ℕ
-  e = at + length (upTo 10 (drop at s))
-
-  -- The part up to the line feed, and the parts from there on.
-  first : parts 10 (drop at s) ≡ l ∷ tail (parts 10 (drop e s))
-  first = parts-first 10 (drop at s) ∙ ap (λ (r : List ℕ). l ∷ tail (parts 10 r)) (drop-drop (length l) at s)
-
-  -- It is inside the text.
-  inside : at ≤ length s → e ≤ length s
-  inside h =
-      let b : length l ≤ length s - at = subst (λ (m : ℕ). length l ≤ m) (length-drop at s) (length-upTo 10 (drop at s)) in
-      omega arith
-
-  -- It ends at a line feed, unless it is the last.
-  feed : e < length s → getD s e 0 ≡ 10
-  feed h = sym (getD-drop at s (length l) 0) ∙ upTo-stops 10 (drop at s) (rw (length-drop at s) (omega arith))
+  e = lineEnd s at
 
   -- What is taken: a line with its line feed, or none.
   pub taken-long : e < length s → takenAt s at ≡ lineHeld (lineOf l) (e + 1)
   unfolding takenAt
   taken-long h = rw (lt-ltb e (length s) h)
 
-  pub taken-last : length s ≤ e → at < length s → takenAt s at ≡ noLine 4 (length s)
+  pub taken-last : length s ≤ e → takenAt s at ≡ noLine (length s)
   unfolding takenAt
-  taken-last h m = rw (le-ltb e (length s) h, lt-ltb at (length s) m)
-
-  pub taken-out : length s ≤ e → length s ≤ at → takenAt s at ≡ noLine 5 (length s)
-  unfolding takenAt
-  taken-out h m = rw (le-ltb e (length s) h, le-ltb at (length s) m)
+  taken-last h = rw (le-ltb e (length s) h)
 
   -- A line with its line feed, taken in or bad.
   module _ (g : Reading) (n : ℕ) where
@@ -131,13 +114,13 @@ module _ (s : List ℕ) (at : ℕ) where
     unfolding readLines
     reads-long m =
         let p : _ = parts-first 10 (drop (e + 1) s) in
-        rw (taken-long m, first, parts-on 10 s e m (feed m), p) (one (lineOf l) (lined l) _ _ p)
+        rw (taken-long m, line-next s at m, p) (one (lineOf l) (lined l) _ _ p)
 
     reads-last : at < length s → length s ≤ e → readLines g n (parts 10 (drop at s)) ≡ goesOn g n (takenAt s at) s
     unfolding readLines
     reads-last h m =
         let p : 0 < length l = omega arith in
-        rw (taken-last m h, first, parts-end 10 s e m) (ended-more g n l p)
+        rw (taken-last m, line-last s at m) (ended-more g n l p)
 
     pub reads : at < length s → readLines g n (parts 10 (drop at s)) ≡ goesOn g n (takenAt s at) s
     reads h = ⊎-elim reads-long (reads-last h) (below-or-from e (length s))
@@ -261,13 +244,7 @@ sound s at t z h = ⊎-elim long last (below-or-from (e s at) (length s))
         subst (Sound s at) (sym w) (some-line (lineOf (l s at)) (lined (l s at)) m (subst (λ (u : Taken). u .name ≤ 3) w h))
 
     last : length s ≤ e s at → Sound s at t
-    last m =
-        absurd
-        (⊎-elim (λ k. short 4 (z ∙ taken-last s at m k) (omega arith)) (λ k. short 5 (z ∙ taken-out s at m k) (omega arith))
-        (below-or-from at (length s)))
-      where
-        short : (j : ℕ) → t ≡ noLine j (length s) → 3 < j → ⊥
-        short j w k = let d : t .name ≡ j = ap (λ (u : Taken). u .name) w in omega arith
+    last m = let d : t .name ≡ 4 = ap (λ (u : Taken). u .name) (z ∙ taken-last s at m) in absurd (omega arith)
 
 -- Words cleared from the first on are zeros.
 pub cleared-zeros : (w : List ℕ) (n : ℕ) → length w ≡ n → clearedFrom w 0 ≡ zeros n

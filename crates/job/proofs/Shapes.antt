@@ -9,10 +9,13 @@ use lib.Dec.{eqb}
 use lib.ListN.{length, getD, take, drop, replicate}
 use borrow.Author.Tests.{lt-ltb, le-ltb}
 use Rattle.words.specs.Tests.{if_then_else_}
-use Rattle.job.specs.Text.{parts, upTo, numbersOf, eight}
-use Rattle.job.specs.Lines.{nameOf, jobFits, entryFits, nodeFits, bindingFits, fits, lineFrom, lineOf, numbersHeld, noLine, lineHeld, takenAt}
-use Rattle.job.specs.declared.Numbers.{Numbers}
-use Rattle.job.proofs.Parts.{parts-first, upTo-take, length-upTo, upTo-stops}
+use Rattle.text.specs.Text.{parts, upTo, numbersOf, eight}
+use Rattle.text.specs.Held.{numbersHeld}
+use Rattle.text.specs.Lines.{lineEnd}
+use Rattle.text.specs.declared.Numbers.{Numbers}
+use Rattle.job.specs.Lines.{nameOf, jobFits, entryFits, nodeFits, bindingFits, fits, lineFrom, lineOf, noLine, lineHeld, takenAt}
+use Rattle.text.proofs.Parts.{parts-first, upTo-take, length-upTo, upTo-stops}
+use Rattle.text.proofs.Lines.{line-bytes}
 
 -- Zeros after numbers read as nothing does.
 getD-zeros : (m i : ℕ) → _≡_ {A = ℕ} (getD (replicate m 0) i 0) 0
@@ -48,7 +51,7 @@ fits-nine k vs = go (eqb k 0) (eqb k 1) (eqb k 2) (eqb k 3)
 
 module _ (k next : ℕ) (got : Numbers) where
   -- Numbers that do not fit make no line.
-  pub line-none : (o : Option (List ℕ)) → got ≡ numbersHeld o → fits k (got .count) (got .at) ≡ false → noLine 4 next ≡ lineHeld (lineFrom k o) next
+  pub line-none : (o : Option (List ℕ)) → got ≡ numbersHeld o → fits k (got .count) (got .at) ≡ false → noLine next ≡ lineHeld (lineFrom k o) next
   line-none none e f = refl
   line-none (some vs) e f =
       let g : fits k (length vs) vs ≡ false = sym (fits-eight k (length vs) vs) ∙ sym (ap (λ (n : Numbers). fits k (n .count) (n .at)) e) ∙ f in
@@ -85,31 +88,22 @@ module _ (l : List ℕ) (e : ℕ) (z : e ≡ 0 + length (upTo 9 l)) where
     whole = rw (line-fields, named)
 
     -- The line is bad where the numbers do not fit the name.
-    pub bad-line : fits k (got .count) (got .at) ≡ false → noLine 4 next ≡ lineHeld (lineOf l) next
+    pub bad-line : fits k (got .count) (got .at) ≡ false → noLine next ≡ lineHeld (lineOf l) next
     bad-line f = line-none k next got (numbersOf 8 (tail (parts 9 (drop e l)))) held f ∙ whole
 
     -- Where they fit it is the line.
     pub good-line : fits k (got .count) (got .at) ≡ true → record { name = k; count = got .count; at = got .at; next = next } ≡ lineHeld (lineOf l) next
     good-line f = line-some k next got (numbersOf 8 (tail (parts 9 (drop e l)))) held f ∙ whole
 
-module _ (s : List ℕ) (at e : ℕ) (z : e ≡ at + length (upTo 10 (drop at s))) where
-  -- A line's bytes stand between its place and its end.
-  pub line-part : upTo 10 (drop at s) ≡ take (e - at) (drop at s)
-  line-part =
-      let n : length (upTo 10 (drop at s)) ≡ e - at = omega arith in
-      upTo-take 10 (drop at s) ∙ ap (λ (i : ℕ). take i (drop at s)) n
-
+module _ (s : List ℕ) (at : ℕ) where
   -- A line with its line feed.
-  pub taken-line : e < length s → lineHeld (lineOf (take (e - at) (drop at s))) (e + 1) ≡ takenAt s at
+  pub taken-line : (e n : ℕ) → e ≡ lineEnd s at → n ≡ lineEnd s at + 1 → lineEnd s at < length s → lineHeld (lineOf (take (e - at) (drop at s))) n ≡ takenAt s at
   unfolding takenAt
-  taken-line l = rw (← z, lt-ltb _ _ l, line-part)
+  taken-line e n z y l =
+      rw (lt-ltb (lineEnd s at) (length s) l)
+      (ap (lineHeld (lineOf (take (e - at) (drop at s)))) y ∙ ap (λ (t : List ℕ). lineHeld (lineOf t) (lineEnd s at + 1)) (sym (line-bytes s at e z)))
 
   -- No line feed is left.
-  pub taken-short : length s ≤ e → at < length s → noLine 4 (length s) ≡ takenAt s at
+  pub taken-none : length s ≤ lineEnd s at → noLine (length s) ≡ takenAt s at
   unfolding takenAt
-  taken-short l m = rw (← z, le-ltb _ _ l, lt-ltb _ _ m)
-
--- Nothing is left.
-pub taken-none : (s : List ℕ) (at : ℕ) → length s ≤ at → noLine 5 (length s) ≡ takenAt s at
-unfolding takenAt
-taken-none s at m = rw (le-ltb (at + length (upTo 10 (drop at s))) (length s) (omega arith), le-ltb at (length s) m)
+  taken-none l = rw (le-ltb (lineEnd s at) (length s) l)

@@ -1,24 +1,15 @@
 -- The text of an answer: `answer` and five numbers; for 0, 1, 6, 7 and 8 also the `n` lines of the nodes below the mark
--- and the `b` lines of the bound variables, rising. A text is put into a buffer at a place.
-use mathlib.Core.Path.{_≡_}
+-- and the `b` lines of the bound variables, rising.
 use mathlib.Core.Bool.{Bool, _&&_, _||_}
 use mathlib.Core.List.{List, [], _∷_, _++_}
 use Prim.Native.Nat.{ℕ, zero, suc, _+_, _-_, min}
 use lib.Dec.{leb, eqb}
-use lib.ListN.{length, getD, take, drop}
+use lib.ListN.{getD, take}
 use Rattle.words.specs.Tests.{if_then_else_}
 use Rattle.words.specs.Words.{wordAt}
 use Rattle.job.specs.Lines.{Line}
-use Rattle.job.specs.Written.{numbersText, written}
-
--- the buffer with a text at a place
-unfoldable pub putText : List ℕ → ℕ → List ℕ → List ℕ
-putText b at t = take at b ++ (t ++ drop (at + length t) b)
-
--- the text was put, and the place after it is told
-pub record Put (b : List ℕ) (at : ℕ) (t : List ℕ) (b′ : List ℕ) (r : ℕ) : Type 0 where
-  pub place : r ≡ at + length t
-  pub text : b′ ≡ putText b at t
+use Rattle.text.specs.Written.{numbersText}
+use Rattle.job.specs.Written.{written}
 
 -- the constructor and the six children's places of node k
 unfoldable pub nodeShown : List ℕ → ℕ → List ℕ

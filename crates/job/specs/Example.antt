@@ -4,11 +4,12 @@ use mathlib.Core.Path.{_≡_, refl}
 use mathlib.Core.List.{List, [], _∷_}
 use Prim.Native.Nat.{ℕ}
 use lib.ListN.{take}
-use Rattle.job.specs.Text.{parts, valued, numberOf, numbersOf, digits}
+use Rattle.text.specs.Text.{parts, valued, numberOf, numbersOf, digits}
+use Rattle.text.specs.Written.{numbersText}
 use Rattle.job.specs.Lines.{Line, letterOf, nameOf, jobFits, entryFits, nodeFits, bindingFits, fits, lineOf, entryRow, nodeRow}
 use Rattle.job.specs.Job.{bad, zeros, admitted, headed, tableWith, storeWith, bindingsWith, with, readLines, meant, parsedOf, tableOf, storeOf}
 use Rattle.job.specs.declared.Parsed.the-variants as told
-use Rattle.job.specs.Written.{nameText, numbersText, lineText, written}
+use Rattle.job.specs.Written.{nameText, lineText, written}
 use Rattle.job.specs.Answer.{nodeShown, nodeNumbers, nodeLines, bindingLine, bindingLines, shown, answerLine, answered}
 use Rattle.words.specs.Words.{putRow}
 

@@ -10,7 +10,7 @@ use lib.Dec.{leb, ltb, eqb}
 use lib.ListN.{length, getD, set, replicate}
 use Rattle.words.specs.Tests.{if_then_else_}
 use Rattle.words.specs.Words.{putRow}
-use Rattle.job.specs.Text.{parts}
+use Rattle.text.specs.Text.{parts}
 use Rattle.job.specs.Lines.{Line, lineOf, entryRow, nodeRow}
 use Rattle.job.specs.declared.Heading.{Heading}
 use Rattle.job.specs.declared.Parsed.{Parsed}

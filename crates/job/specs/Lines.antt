@@ -7,8 +7,8 @@ use Prim.Native.Nat.{ℕ, _+_, _-_, _*_}
 use lib.Dec.{leb, ltb, eqb}
 use lib.ListN.{length, getD, drop, replicate}
 use Rattle.words.specs.Tests.{if_then_else_}
-use Rattle.job.specs.Text.{parts, upTo, numbersOf, eight}
-use Rattle.job.specs.declared.Numbers.{Numbers}
+use Rattle.text.specs.Text.{parts, upTo, numbersOf, eight}
+use Rattle.text.specs.Lines.{lineEnd}
 use Rattle.job.specs.declared.Taken.{Taken}
 
 pub record Line : Type 0 where
@@ -81,22 +81,17 @@ nodeRow n vs =
     getD vs 0 0 ∷ (n - 1)
     ∷ getD vs 1 0 ∷ getD vs 2 0 ∷ getD vs 3 0 ∷ getD vs 4 0 ∷ getD vs 5 0 ∷ getD vs 6 0 ∷ []
 
--- numbers as the code holds them: their count, 9 for fields that are not numbers or too many, and eight places
-abbrev pub numbersHeld : Option (List ℕ) → Numbers
-numbersHeld none = record { count = 9; at = replicate 8 0 }
-numbersHeld (some vs) = record { count = length vs; at = eight vs }
-
--- a line as the code holds it, with the place after it; name 4 is a bad line, and 5 nothing left
-abbrev pub noLine : ℕ → ℕ → Taken
-noLine k next = record { name = k; count = 0; at = replicate 8 0; next = next }
+-- a line as the code holds it, with the place after it; name 4 is a bad line
+abbrev pub noLine : ℕ → Taken
+noLine next = record { name = 4; count = 0; at = replicate 8 0; next = next }
 
 abbrev pub lineHeld : Option Line → ℕ → Taken
-lineHeld none next = noLine 4 next
+lineHeld none next = noLine next
 lineHeld (some x) next = record { name = x .name; count = length (x .numbers); at = eight (x .numbers); next = next }
 
--- the line that begins at a place of a text
+-- the line that begins at a place of a text; one that no line feed ends is bad
 unfoldable pub takenAt : List ℕ → ℕ → Taken
 takenAt s at =
-    if ltb (at + length (upTo 10 (drop at s))) (length s)
-    then lineHeld (lineOf (upTo 10 (drop at s))) (at + length (upTo 10 (drop at s)) + 1)
-    else (if ltb at (length s) then noLine 4 (length s) else noLine 5 (length s))
+    if ltb (lineEnd s at) (length s)
+    then lineHeld (lineOf (upTo 10 (drop at s))) (lineEnd s at + 1)
+    else noLine (length s)

@@ -10,7 +10,8 @@ use lib.ListN.{length, getD, take}
 use Rattle.words.specs.Words.{wordAt}
 use Rattle.job.specs.Lines.{Line, fits}
 use Rattle.job.specs.Job.{Reading, unread, zeros, admitted, bad, good, meant}
-use Rattle.job.specs.Written.{lineText, written, Within, Follow}
+use Rattle.text.specs.Written.{Within}
+use Rattle.job.specs.Written.{lineText, written, Follow}
 use Rattle.job.specs.Answer.{nodeLines, bindingLines, answered}
 
 -- s is the text of lines, and g what is read with them

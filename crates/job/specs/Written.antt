@@ -3,11 +3,11 @@
 use mathlib.Core.Path.{_≡_}
 use mathlib.Core.Bool.{true}
 use mathlib.Core.List.{List, [], _∷_, _++_}
-use Prim.Native.Nat.{ℕ, _≤_}
+use Prim.Native.Nat.{ℕ}
 use lib.Dec.{eqb}
 use lib.ListN.{length, getD}
 use Rattle.words.specs.Tests.{if_then_else_}
-use Rattle.job.specs.Text.{decimal}
+use Rattle.text.specs.Written.{numbersText, Within}
 use Rattle.job.specs.Lines.{Line, fits}
 use Rattle.job.specs.Job.{Reading, admitted, taken}
 
@@ -15,22 +15,12 @@ use Rattle.job.specs.Job.{Reading, admitted, taken}
 unfoldable pub nameText : ℕ → List ℕ
 nameText k = if eqb k 0 then 106 ∷ 111 ∷ 98 ∷ [] else (if eqb k 1 then 101 ∷ [] else (if eqb k 2 then 110 ∷ [] else 98 ∷ []))
 
--- numbers, each after a tab
-unfoldable pub numbersText : List ℕ → List ℕ
-numbersText [] = []
-numbersText (v ∷ vs) = 9 ∷ (decimal v ++ numbersText vs)
-
 unfoldable pub lineText : Line → List ℕ
 lineText x = nameText (x .name) ++ numbersText (x .numbers)
 
 unfoldable pub written : List Line → List ℕ
 written [] = []
 written (x ∷ xs) = lineText x ++ (10 ∷ written xs)
-
--- every number is within the limit
-pub data Within : List ℕ → Type 0 where
-  empty : Within []
-  limited : {v : ℕ} {vs : List ℕ} → v ≤ 4294967295 → Within vs → Within (v ∷ vs)
 
 -- lines that may follow what is read, each by 01's limits, and what is read with them
 pub data Follow : Reading → List Line → Reading → Type 0 where

@@ -5,9 +5,10 @@ ghost use mathlib.Core.List.{[], _∷_};
 ghost use Prim.Native.Nat.{_+_, _*_, _≤_, _<_};
 ghost use lib.ListN.{length};
 ghost use Rattle.job.specs.Written.{written};
-ghost use Rattle.job.specs.Answer.{Put, nodeShown, nodeLine, nodeLines, bindingLine, bindingLines, shown, answerName, answerLine, answered};
-use crate::write::put_byte;
-use crate::write::put_rest;
+ghost use Rattle.text.specs.Written.{Put};
+ghost use Rattle.job.specs.Answer.{nodeShown, nodeLine, nodeLines, bindingLine, bindingLines, shown, answerName, answerLine, answered};
+use text::write::put_byte;
+use text::write::put_rest;
 use words::word;
 
 // The constructor and the six children's places of a node.

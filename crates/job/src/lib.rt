@@ -1,20 +1,9 @@
-// Job text in, answer text out. A text is lines of fields; this crate finds its lines and numbers, the job that it is, or
-// its first bad line.
+// Job text in, answer text out: the lines of a job, the job that they are or the first bad one, and the text of its answer.
 pub mod answer;
 mod lines;
 pub mod read;
-mod reader;
-mod text;
-mod write;
 
-// The numbers of a line's fields after its name: how many, or 9 for fields that are none or too many; then zeros.
-pub struct Numbers {
-    pub count: u32,
-    pub at: [u32; 8],
-}
-
-// A line of a text, its numbers and the place after it. The name is 0 to 3 for job, e, n and b; 4 is a bad line, and 5
-// nothing left.
+// A line of a job, its numbers and the place after it. The name is 0 to 3 for job, e, n and b; 4 is a bad line.
 pub struct Taken {
     pub name: u32,
     pub count: u32,

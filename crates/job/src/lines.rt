@@ -1,15 +1,10 @@
-// A line of a text: its name, its numbers, whether they fit, and the line that begins at a place.
+// A line of a job: its name, whether its numbers fit, and the line that begins at a place.
 ghost use mathlib.Core.Path.{_≡_};
-ghost use mathlib.Core.List.{tail};
-ghost use Prim.Native.Nat.{_≤_, _<_};
-ghost use lib.ListN.{length, drop, getD};
-ghost use Rattle.job.specs.Text.{parts, numbersOf};
-ghost use Rattle.job.specs.Lines.{letterOf, nameOf, jobFits, entryFits, nodeFits, bindingFits, fits as fitting, numbersHeld, lineHeld, lineOf, takenAt};
-use crate::Numbers;
+ghost use Rattle.job.specs.Lines.{letterOf, nameOf, jobFits, entryFits, nodeFits, bindingFits, fits as fitting, lineHeld, lineOf, takenAt};
 use crate::Taken;
-use crate::text::Field;
-use crate::text::next_at;
-use crate::text::number;
+use text::field::next_at;
+use text::field::numbers;
+use text::reader::line_from;
 
 // The name of one letter; 4 for none.
 fn letter(b: u8) -> u32
@@ -47,37 +42,6 @@ fn name(field: &[u8]) -> u32
         return 4;
     }
     0
-}
-
-// The numbers of a line from a tab, or the end, on.
-fn numbers(line: &[u8], from: usize) -> Numbers
-    requires { ⌜ (from ≤ length (now line)) × (from < length (now line) → getD (now line) from 0 ≡ 9) ⌝ }
-    ensures { λ r. ⌜ r ≡ numbersHeld (numbersOf 8 (tail (parts 9 (drop from (now (line .entry)))))) ⌝ }
-{
-    let mut at = [0u32; 8];
-    let mut count: u32 = 0;
-    let mut i = from;
-    while i < line.len() {
-        if 8 <= count {
-            return Numbers {
-                count: 9,
-                at: [0u32; 8],
-            };
-        }
-        let start = i + 1;
-        let end = next_at(line, start, 9);
-        let field = number(&line[start..end]);
-        let Field::Number(v) = field else {
-            return Numbers {
-                count: 9,
-                at: [0u32; 8],
-            };
-        };
-        at[count as usize] = v;
-        count += 1;
-        i = end;
-    }
-    Numbers { count, at }
 }
 
 // Units, start, subject and room.
@@ -173,17 +137,10 @@ fn line_of(line: &[u8], next: usize) -> Taken
 pub fn line_at(text: &[u8], at: usize) -> Taken
     ensures { λ r. ⌜ r ≡ takenAt (now (text .entry)) at ⌝ }
 {
-    if text.len() <= at {
-        return Taken {
-            name: 5,
-            count: 0,
-            at: [0u32; 8],
-            next: text.len(),
-        };
-    }
-    let end = next_at(text, at, 10);
-    if end < text.len() {
-        return line_of(&text[at..end], end + 1);
+    let found = line_from(text, at);
+    let end = found.end;
+    if end < found.next {
+        return line_of(&text[at..end], found.next);
     }
     Taken {
         name: 4,

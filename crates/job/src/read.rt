@@ -3,12 +3,12 @@
 ghost use mathlib.Core.Path.{_≡_};
 ghost use Prim.Native.Nat.{_≤_, _<_};
 ghost use lib.ListN.{length, getD};
-ghost use Rattle.job.specs.Text.{parts};
+ghost use Rattle.text.specs.Text.{parts};
 ghost use Rattle.job.specs.Lines.{entryRow, nodeRow};
 ghost use Rattle.job.specs.Job.{admitted, headed, blank, zeros, tableWith, storeWith, bindingsWith, readLines, Holds, meant, parsedOf, tableOf, storeOf, bindingsOf};
 use crate::Heading;
 use crate::Parsed;
-use crate::reader::line_from;
+use crate::lines::line_at;
 use words::clear_from;
 use words::put_row;
 
@@ -143,7 +143,7 @@ fn read_lines(text: &[u8], table: &mut [u32], store: &mut [u32], bindings: &mut 
     let mut at = 0;
     let mut n: u32 = 1;
     while at < text.len() {
-        let t = line_from(text, at);
+        let t = line_at(text, at);
         let k = t.name;
         if 3 < k {
             return Parsed::Bad(n);

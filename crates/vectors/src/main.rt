@@ -10,12 +10,12 @@ ghost use lib.ListN.{length};
 use calls::answer_case;
 use libc::STDIN_FILENO;
 use libc::STDOUT_FILENO;
-use text::number;
+use numbers::number;
 
 mod calls;
 mod memory;
+mod numbers;
 mod show;
-mod text;
 
 fn wide(b: u8) -> u32 {
     b as u32

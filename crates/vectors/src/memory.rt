@@ -13,7 +13,7 @@
 // 1 store, 2 bindings) is set to its VALUE. A collection takes no table: its work list is lent in the table's place.
 ghost use Prim.Native.Nat.{_+_, _*_, _≤_};
 ghost use lib.ListN.{length};
-use crate::text::number;
+use crate::numbers::number;
 use words::put_row;
 
 // The twelve numbers that a case begins with, and the place after them.

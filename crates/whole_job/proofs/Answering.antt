@@ -24,7 +24,8 @@ use Rattle.job.specs.declared.Heading.{Heading}
 use Rattle.job.specs.declared.Parsed.{Parsed}
 use Rattle.job.specs.declared.Parsed.the-variants as told
 use Rattle.job.specs.Job.{Reading, Meant, bad, good, meant}
-use Rattle.job.specs.Answer.{putText, Put, shown, answered}
+use Rattle.text.specs.Written.{putText, Put}
+use Rattle.job.specs.Answer.{shown, answered}
 use Rattle.job.proofs.Readings.{Right}
 use Rattle.job.proofs.Answers.{answered-alone}
 use Rattle.whole_job.specs.Whole.{handed, textOf, runText, badText, meantText, answerTo, JobAnswered}

@@ -21,7 +21,8 @@ use Rattle.job.specs.declared.Heading.{Heading}
 use Rattle.job.specs.Lines.{Line}
 use Rattle.job.specs.Job.{Reading, headed, with, Meant, bad, good, meant}
 use Rattle.job.specs.Written.{written, Follow, end, next}
-use Rattle.job.specs.Answer.{putText, nodeLines, bindingLines, shown}
+use Rattle.text.specs.Written.{putText}
+use Rattle.job.specs.Answer.{nodeLines, bindingLines, shown}
 use Rattle.job.specs.Promises.{Left, Back}
 use Rattle.job.proofs.Answers.{written-more, answered-alone, answered-shown, answerFits}
 use Rattle.job.proofs.Promises.{textIsJob}

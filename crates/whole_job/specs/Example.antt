@@ -15,10 +15,11 @@ use Rattle.meaning.specs.Store.{row, named, bindings, ran}
 use Rattle.meaning.specs.Answer.{number, bindingWord, bindingWords, returned}
 use Rattle.marshtrundle.specs.Refused.{sizesFit, boundBelow, startFits, refused}
 use Rattle.marshtrundle.specs.Run.{runOf}
-use Rattle.job.specs.Text.{parts, valued, numberOf, numbersOf, digits}
+use Rattle.text.specs.Text.{parts, valued, numberOf, numbersOf, digits}
+use Rattle.text.specs.Written.{numbersText}
 use Rattle.job.specs.Lines.{letterOf, nameOf, jobFits, entryFits, nodeFits, bindingFits, fits, lineOf, entryRow, nodeRow}
 use Rattle.job.specs.Job.{zeros, admitted, headed, tableWith, storeWith, bindingsWith, with, readLines, meant}
-use Rattle.job.specs.Written.{nameText, numbersText, lineText, written}
+use Rattle.job.specs.Written.{nameText, lineText, written}
 use Rattle.job.specs.Answer.{nodeShown, nodeNumbers, nodeLines, bindingLine, bindingLines, shown, answerLine, answered}
 use Rattle.job.specs.Example.{jobText}
 use Rattle.whole_job.specs.Whole.{runText, meantText, answerTo}

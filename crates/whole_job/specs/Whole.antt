@@ -9,7 +9,8 @@ use Rattle.meaning.specs.Answer.{Returned}
 use Rattle.marshtrundle.specs.Run.{input, runOf}
 use Rattle.job.specs.declared.Heading.{Heading}
 use Rattle.job.specs.Job.{Reading, Meant, bad, good, meant}
-use Rattle.job.specs.Answer.{Put, answered}
+use Rattle.text.specs.Written.{Put}
+use Rattle.job.specs.Answer.{answered}
 
 -- what a run is handed of a heading and of these words; the mark is the number of `n` lines
 abbrev pub inputOf : Heading → List ℕ → List ℕ → List ℕ → Input

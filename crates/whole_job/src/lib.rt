@@ -7,7 +7,7 @@ use marshtrundle::running::run;
 ghost use mathlib.Core.Path.{_≡_};
 ghost use Prim.Native.Nat.{_≤_};
 ghost use lib.ListN.{length};
-ghost use Rattle.job.specs.Answer.{Put};
+ghost use Rattle.text.specs.Written.{Put};
 ghost use Rattle.whole_job.specs.Whole.{inputOf, runText, answerTo, JobAnswered};
 
 // Runs what a job hands over, and writes what comes back.

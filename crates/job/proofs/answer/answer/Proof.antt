@@ -7,7 +7,7 @@ use mathlib.Core.List.{[], _∷_}
 use lib.ListN.{length-append}
 use Rattle.job.specs.Written.{written}
 use Rattle.job.specs.Answer.{nodeLines, answerLine}
-use Rattle.job.proofs.Put.{put-more}
+use Rattle.text.proofs.Put.{put-more}
 use Rattle.job.proofs.Answers.{answered-alone, answered-shown, length-answerLine, length-nodes}
 use Rattle.job.proofs.answer.answer.Statement.{statement}
 use Rattle.job.proofs.answer.answer.Tie as tie

@@ -1,7 +1,7 @@
 -- `job::answer::put_binding` meets its contract: nothing, or the letter and the rest. Assumes nothing.
 use borrow.Author.Needs.{needs}
 use native.Mathlib.Omega.{arith}
-use Rattle.job.proofs.Put.{put-none, put-more}
+use Rattle.text.proofs.Put.{put-none, put-more}
 use Rattle.job.proofs.Answers.{written-unbound, written-bound}
 use Rattle.job.proofs.answer.put_binding.Statement.{statement}
 use Rattle.job.proofs.answer.put_binding.Tie as tie

@@ -7,7 +7,8 @@ use borrow.Author.Needs.{needs}
 use native.Mathlib.Omega.{arith}
 use lib.ListN.{length}
 use Rattle.job.specs.Written.{written}
-use Rattle.job.specs.Answer.{Put, bindingLines}
+use Rattle.text.specs.Written.{Put}
+use Rattle.job.specs.Answer.{bindingLines}
 use Rattle.job.proofs.Answers.{bindings-none, bindings-more, length-bindings}
 use Rattle.job.proofs.answer.put_bindings.Statement.{statement}
 use Rattle.job.proofs.answer.put_bindings.Tie as tie

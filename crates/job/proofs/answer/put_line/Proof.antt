@@ -1,7 +1,7 @@
 -- `job::answer::put_line` meets its contract. Assumes nothing.
 use borrow.Author.Needs.{needs}
 use native.Mathlib.Omega.{arith}
-use Rattle.job.proofs.Put.{put-more}
+use Rattle.text.proofs.Put.{put-more}
 use Rattle.job.specs.Answer.{answerLine}
 use Rattle.job.proofs.answer.put_line.Statement.{statement}
 use Rattle.job.proofs.answer.put_line.Tie as tie

@@ -1,7 +1,7 @@
 -- `job::answer::put_name` meets its contract, byte by byte. Assumes nothing.
 use borrow.Author.Needs.{needs}
 use native.Mathlib.Omega.{arith}
-use Rattle.job.proofs.Put.{put-more}
+use Rattle.text.proofs.Put.{put-more}
 use Rattle.job.proofs.answer.put_name.Statement.{statement}
 use Rattle.job.proofs.answer.put_name.Tie as tie
 

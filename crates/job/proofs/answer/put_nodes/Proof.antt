@@ -7,7 +7,8 @@ use borrow.Author.Needs.{needs}
 use native.Mathlib.Omega.{arith}
 use lib.ListN.{length}
 use Rattle.job.specs.Written.{written}
-use Rattle.job.specs.Answer.{Put, nodeLines}
+use Rattle.text.specs.Written.{Put}
+use Rattle.job.specs.Answer.{nodeLines}
 use Rattle.job.proofs.Answers.{nodes-none, nodes-more, length-nodes}
 use Rattle.job.proofs.answer.put_nodes.Statement.{statement}
 use Rattle.job.proofs.answer.put_nodes.Tie as tie

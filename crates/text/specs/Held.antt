@@ -1,0 +1,19 @@
+-- What the code holds, as the definitions have it.
+use mathlib.Core.List.{List}
+use mathlib.Core.Option.{Option, none, some}
+use Prim.Native.Nat.{ℕ}
+use lib.ListN.{length, replicate}
+use Rattle.text.specs.Text.{eight}
+use Rattle.text.specs.declared.field.Field.{Field}
+use Rattle.text.specs.declared.field.Field.the-variants.{Number, Other}
+use Rattle.text.specs.declared.Numbers.{Numbers}
+
+-- the number that was read
+abbrev pub valueOf : Field → Option ℕ
+valueOf (Number v) = some v
+valueOf Other = none
+
+-- numbers: their count, 9 for fields that are not numbers or too many, and eight places
+abbrev pub numbersHeld : Option (List ℕ) → Numbers
+numbersHeld none = record { count = 9; at = replicate 8 0 }
+numbersHeld (some vs) = record { count = length vs; at = eight vs }

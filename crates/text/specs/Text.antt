@@ -1,0 +1,77 @@
+-- A text is a list of bytes. A separator parts it: the line feed, 10, into lines, and the tab, 9, a line into fields. A
+-- number is decimal digits without a leading zero, at most 4,294,967,295.
+use mathlib.Core.List.{List, [], _∷_, _++_}
+use mathlib.Core.Option.{Option, none, some}
+use Prim.Native.Nat.{ℕ, zero, suc, _+_, _-_, _*_, _/_, _%_}
+use lib.Dec.{ltb, eqb}
+use lib.ListN.{length, replicate}
+use Rattle.words.specs.Tests.{if_then_else_}
+
+-- one more byte in front of the first part
+abbrev pub grown : ℕ → List (List ℕ) → List (List ℕ)
+grown b [] = (b ∷ []) ∷ []
+grown b (p ∷ ps) = (b ∷ p) ∷ ps
+
+-- the parts of a text between its separators: one more than it has separators
+unfoldable pub parts : ℕ → List ℕ → List (List ℕ)
+parts c [] = [] ∷ []
+parts c (b ∷ s) = if eqb b c then [] ∷ parts c s else grown b (parts c s)
+
+-- parts with a separator between them
+abbrev pub joinedAfter : ℕ → List (List ℕ) → List ℕ
+joinedAfter c [] = []
+joinedAfter c (p ∷ ps) = c ∷ (p ++ joinedAfter c ps)
+
+abbrev pub joined : ℕ → List (List ℕ) → List ℕ
+joined c [] = []
+joined c (p ∷ ps) = p ++ joinedAfter c ps
+
+-- the part before the first separator; all where there is none
+unfoldable pub upTo : ℕ → List ℕ → List ℕ
+upTo c [] = []
+upTo c (b ∷ s) = if eqb b c then [] else b ∷ upTo c s
+
+-- the number that digits after v make, as long as it stays within the limit
+unfoldable pub valued : ℕ → List ℕ → Option ℕ
+valued v [] = some v
+valued v (b ∷ f) =
+    if ltb b 48
+    then none
+    else (if ltb 57 b
+    then none
+    else (if ltb 4294967295 (v * 10 + (b - 48)) then none else valued (v * 10 + (b - 48)) f))
+
+-- zero is one digit
+abbrev pub zeroAlone : List ℕ → Option ℕ
+zeroAlone [] = some 0
+zeroAlone (b ∷ f) = none
+
+-- the number of a field
+unfoldable pub numberOf : List ℕ → Option ℕ
+numberOf [] = none
+numberOf (b ∷ f) = if eqb b 48 then zeroAlone f else valued 0 (b ∷ f)
+
+-- a number in front of numbers
+abbrev pub inFront : Option ℕ → Option (List ℕ) → Option (List ℕ)
+inFront none o = none
+inFront (some v) none = none
+inFront (some v) (some vs) = some (v ∷ vs)
+
+-- the numbers of fields, at most k
+unfoldable pub numbersOf : ℕ → List (List ℕ) → Option (List ℕ)
+numbersOf k [] = some []
+numbersOf zero (f ∷ fs) = none
+numbersOf (suc k) (f ∷ fs) = inFront (numberOf f) (numbersOf k fs)
+
+-- the decimal digits of n, at most k of them
+unfoldable pub digits : ℕ → ℕ → List ℕ
+digits zero n = []
+digits (suc k) n = if ltb n 10 then (48 + n) ∷ [] else digits k (n / 10) ++ ((48 + n % 10) ∷ [])
+
+-- the digits of a number up to 4,294,967,295
+abbrev pub decimal : ℕ → List ℕ
+decimal n = digits 10 n
+
+-- numbers, with zeros after them up to eight
+unfoldable pub eight : List ℕ → List ℕ
+eight vs = vs ++ replicate (8 - length vs) 0
