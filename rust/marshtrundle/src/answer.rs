@@ -1,4 +1,5 @@
 //! What comes back from a run, and what a builder refuses.
+use crate::bindings::Var;
 use crate::fault::Fault;
 use crate::store::Node;
 use std::error::Error;
@@ -155,6 +156,8 @@ pub enum BuildError {
     UnknownName(String),
     /// A call was taken out of the `rec` that it belongs to, and the table does not have that `rec`.
     CallOutsideRec,
+    /// A rule builds this variable, and neither its left side nor a condition before it binds it.
+    NothingBinds(Var),
     /// A node has this many children; 6 are allowed.
     TooManyChildren(usize),
     /// A child is not in the store.
@@ -173,6 +176,13 @@ impl fmt::Display for BuildError {
             BuildError::NameTwice(name) => write!(f, "two strategies are named '{name}'"),
             BuildError::UnknownName(name) => write!(f, "no strategy is defined as '{name}'"),
             BuildError::CallOutsideRec => f.write_str("a call stands outside its rec"),
+            BuildError::NothingBinds(var) => {
+                write!(
+                    f,
+                    "a rule builds variable {}, and nothing binds it",
+                    var.number()
+                )
+            }
             BuildError::TooManyChildren(n) => write!(f, "{n} children; at most 6 are allowed"),
             BuildError::NoSuchChild(node) => write!(f, "node {} is not there", node.number()),
             BuildError::TooManyNodes(n) => write!(f, "{n} nodes; at most 131072 are allowed"),

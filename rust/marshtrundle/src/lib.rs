@@ -100,12 +100,13 @@
 //!
 //! # What there is
 //!
-//! - [`strategy`] has a function for each operator. Strategies and patterns are values.
+//! - [`strategy`] has a function for each operator, and rules and traversals made of them. Strategies and patterns are values.
 //! - [`Table`] is laid out from one strategy, and [`TableBuilder`] makes one of several with names.
 //! - [`Store`] holds terms, eight words to a node. [`Store::node`] makes a node, [`Store::room`] makes room for a run,
 //!   [`Store::term`] reads a term back, [`Store::collect`] gives room back between runs.
 //! - [`Bindings`] says what each of the 32 variables is bound to.
 //! - [`run`] runs, [`free_variables`] answers which variables a strategy leaves free.
+//! - [`pipeline`] runs named passes one after the other, gives room back between them, and reports.
 //! - [`words`] has the library's five functions over plain slices of words.
 //!
 //! # What is promised
@@ -131,9 +132,13 @@ mod answer;
 mod archive;
 mod bindings;
 mod fault;
+mod outcome;
+pub mod pipeline;
+mod rules;
 mod store;
 pub mod strategy;
 mod table;
+mod traversals;
 
 pub use answer::{Answer, BuildError, Outcome};
 pub use bindings::{Bindings, Var, VarSet, VARS};

@@ -119,6 +119,13 @@ impl Store {
         Ok(())
     }
 
+    /// Makes all the room that there can be: 131,072 nodes, those in use among them. That is 4 MiB.
+    pub fn most_room(&mut self) {
+        if self.capacity() < NODES {
+            self.words.resize(8 * NODES, 0);
+        }
+    }
+
     /// The store check: every node below the mark has its form. This is what a run asks first.
     pub fn check(&self) -> Result<(), Answer> {
         Answer::checked(archive::check_store(&self.words, self.mark))

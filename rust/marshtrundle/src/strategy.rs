@@ -3,10 +3,19 @@
 //! Each function below makes one operator of System S. A value may be cloned and used in many places: the table then has
 //! its entries once. A mistake, as a seventh operand, does not end the program. It is kept in the value, and the table
 //! builder gives it back.
+//!
+//! What is made of the operators stands here too: rules ([`rule`], [`rule_where`]) and traversals ([`bottom_up`],
+//! [`innermost`] and the like). Each says what makes it fail.
 use crate::answer::BuildError;
 use crate::bindings::{Var, VarSet};
 use std::fmt;
 use std::sync::Arc;
+
+pub use crate::rules::{fails, gives, holds, rule, rule_where, Condition};
+pub use crate::traversals::{
+    all_td, attempt, bottom_up, down_up, innermost, left_of, map, once_bu, once_td, outermost,
+    repeat, seq_of, some_bu, some_td, top_down,
+};
 
 pub(crate) const REC: u32 = 7;
 pub(crate) const CALL: u32 = 8;
@@ -72,6 +81,17 @@ impl Strategy {
 
     fn of_two(kind: u32, first: Strategy, second: Strategy) -> Strategy {
         Strategy::new(kind, 0, vec![first.0, second.0])
+    }
+
+    /// What stands where a strategy could not be made. A table builder gives the mistake back.
+    pub(crate) fn mistaken(mistake: BuildError) -> Strategy {
+        Strategy(Arc::new(Tree {
+            kind: 1,
+            argument: 0,
+            operands: vec![],
+            tie: None,
+            mistake: Some(mistake),
+        }))
     }
 
     pub(crate) fn tied(kind: u32, operands: Vec<Arc<Tree>>, tie: Tie) -> Strategy {
@@ -239,30 +259,4 @@ fn many(kind: u32, constructor: u16, operands: Vec<Arc<Tree>>) -> Arc<Tree> {
         tie: None,
         mistake,
     })
-}
-
-/// A rewrite rule: match `from`, build `to`, in a scope of the variables of both.
-pub fn rule(from: Pattern, to: Pattern) -> Strategy {
-    let vars = from.vars().union(to.vars());
-    scope(vars.iter(), seq(match_(from), build(to)))
-}
-
-/// `s`, or the term as it is where `s` fails.
-pub fn attempt(s: Strategy) -> Strategy {
-    left(s, id())
-}
-
-/// `s` as often as it succeeds.
-pub fn repeat(s: Strategy) -> Strategy {
-    rec(|again| left(seq(s, again), id()))
-}
-
-/// `s` on every subterm, children before parents.
-pub fn bottom_up(s: Strategy) -> Strategy {
-    rec(|again| seq(all(again), s))
-}
-
-/// `s` on every subterm, parents before children.
-pub fn top_down(s: Strategy) -> Strategy {
-    rec(|again| seq(s, all(again)))
 }
