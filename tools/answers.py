@@ -3,7 +3,7 @@
 
 An answer has a number of document 01 or 02. It is named in the C header, in the Rust crate over the archive (twice: read and written),
 in rust/twin, and in the definitions of crates/*/specs. LIST says under which name. What stands in one of these places and is not
-in LIST, or is in LIST and not there, is a difference.
+in LIST, or is in LIST and not there, is a difference. docs/REFERENCE.md has a row for each number.
 """
 import pathlib
 import re
@@ -74,7 +74,11 @@ def main(words):
         for name, n in sorted(found ^ wanted, key=lambda p: p[1]):
             differ = 1
             print("%s: %s = %d %s" % (place, name, n, "is not in tools/answers.py" if (name, n) in found else "is missing"))
-    print("answers: %d numbers, %d places%s" % (len(LIST), len(places), ", they differ" if differ else " agree"))
+    rows = {int(n) for n in re.findall(r"(?m)^\| (\d+) \|", part("docs/REFERENCE.md", "## Answers", "\n## "))}
+    for n in sorted(rows ^ set(LIST)):
+        differ = 1
+        print("docs/REFERENCE.md: %d %s" % (n, "is not in tools/answers.py" if n in rows else "has no row"))
+    print("answers: %d numbers, %d places%s" % (len(LIST), len(places) + 1, ", they differ" if differ else " agree"))
     return differ
 
 

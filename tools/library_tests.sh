@@ -1,7 +1,7 @@
 #!/bin/sh
 # Tests the C header and the Rust crate over target/staticlib/libmarshtrundle.a, which 'rt staticlib marshtrundle' writes.
 #
-#   tools/library_tests.sh          the C test, the crate's tests and its documentation's examples
+#   tools/library_tests.sh          the C test, the crate's tests and its documentation's examples, what stands on the pages
 #   tools/library_tests.sh stack    the least stack of each recursive form at 4,096 levels
 #
 # The archive is x86-64 code. An x86-64 machine needs cargo and cc. An Arm machine needs a rustc with the standard library
@@ -149,5 +149,12 @@ else
     RUSTC_BOOTSTRAP=1 "$RUSTDOC" -Z unstable-options --test --edition 2021 --crate-name marshtrundle src/lib.rs \
         --target "$target" --extern marshtrundle="$built/libmarshtrundle.rlib" -L native="$MARSHTRUNDLE_LIB" \
         -C linker="$cc" $rust_flags $tool "$first" $words || exit 1
+fi
+# What stands on the pages for people who write passes.
+cd "$root"
+if command -v python3 >/dev/null; then
+    CARGO=$rust/cargo python3 tools/pages.py docs/PASSES.md docs/REFERENCE.md || exit 1
+else
+    echo "library_tests: no python3, so the pages are left out"
 fi
 echo "library_tests: all is right"
