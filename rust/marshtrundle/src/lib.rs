@@ -107,6 +107,8 @@
 //! - [`Bindings`] says what each of the 32 variables is bound to.
 //! - [`run`] runs, [`free_variables`] answers which variables a strategy leaves free.
 //! - [`pipeline`] runs named passes one after the other, gives room back between them, and reports.
+//! - [`job`] reads and writes jobs, each one run as text.
+//! - [`show`] shows terms, strategies and tables by names, as text and as graphs, and what differs in two terms.
 //! - [`words`] has the library's five functions over plain slices of words.
 //!
 //! # What is promised
@@ -127,14 +129,18 @@
 #![deny(unsafe_code)]
 #![warn(missing_docs)]
 
+mod advice;
 mod answer;
 #[allow(unsafe_code)]
 mod archive;
 mod bindings;
 mod fault;
+pub mod job;
+mod names;
 mod outcome;
 pub mod pipeline;
 mod rules;
+pub mod show;
 mod store;
 pub mod strategy;
 mod table;

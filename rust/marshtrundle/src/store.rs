@@ -226,28 +226,37 @@ impl<'a> Term<'a> {
         found.into_iter().collect()
     }
 
-    /// A number for the term's shape. Terms that are numbered with one list of shapes get equal numbers when they are equal.
-    fn shape(self, shapes: &mut HashMap<(u32, Vec<usize>), usize>) -> usize {
+    /// The term at another node of the same store.
+    pub(crate) fn at(self, node: Node) -> Term<'a> {
+        Term { node, ..self }
+    }
+
+    /// A number for the shape of each of the term's nodes. Terms that are numbered with one list of shapes get equal numbers when
+    /// they are equal.
+    pub(crate) fn shapes(
+        self,
+        shapes: &mut HashMap<(u32, Vec<usize>), usize>,
+    ) -> HashMap<Node, usize> {
         let mut of: HashMap<Node, usize> = HashMap::new();
-        let mut last = 0;
         for node in self.nodes() {
-            let term = Term { node, ..self };
+            let term = self.at(node);
             let children = term
                 .children()
                 .filter_map(|child| of.get(&child.node).copied())
                 .collect();
             let new = shapes.len();
-            last = *shapes.entry((term.constructor(), children)).or_insert(new);
-            of.insert(node, last);
+            let shape = *shapes.entry((term.constructor(), children)).or_insert(new);
+            of.insert(node, shape);
         }
-        last
+        of
     }
 }
 
 impl PartialEq for Term<'_> {
     fn eq(&self, other: &Term<'_>) -> bool {
         let mut shapes = HashMap::new();
-        self.shape(&mut shapes) == other.shape(&mut shapes)
+        let (own, others) = (self.shapes(&mut shapes), other.shapes(&mut shapes));
+        own.get(&self.node) == others.get(&other.node)
     }
 }
 

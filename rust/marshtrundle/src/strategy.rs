@@ -20,7 +20,8 @@ pub use crate::traversals::{
 pub(crate) const REC: u32 = 7;
 pub(crate) const CALL: u32 = 8;
 
-const NAMES: [&str; 20] = [
+/// The names of the kinds.
+pub(crate) const KIND_NAMES: [&str; 20] = [
     "ID", "FAIL", "TEST", "NOT", "SEQ", "CHOICE", "LEFT", "REC", "CALL", "PATH", "CONG", "ALL",
     "ONE", "SOME", "MATCH", "BUILD", "SCOPE", "WHERE", "PVAR", "PCON",
 ];
@@ -114,13 +115,13 @@ impl Pattern {
 
 impl fmt::Debug for Strategy {
     fn fmt(&self, f: &mut fmt::Formatter<'_>) -> fmt::Result {
-        write!(f, "Strategy({})", NAMES[self.0.kind as usize % 20])
+        write!(f, "Strategy({})", KIND_NAMES[self.0.kind as usize % 20])
     }
 }
 
 impl fmt::Debug for Pattern {
     fn fmt(&self, f: &mut fmt::Formatter<'_>) -> fmt::Result {
-        write!(f, "Pattern({})", NAMES[self.tree.kind as usize % 20])
+        write!(f, "Pattern({})", KIND_NAMES[self.tree.kind as usize % 20])
     }
 }
 

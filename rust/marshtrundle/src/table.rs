@@ -72,6 +72,13 @@ impl Table {
         self.names.get(name).copied()
     }
 
+    /// The names of the table's strategies with their entries.
+    pub fn names(&self) -> impl Iterator<Item = (&str, Entry)> {
+        self.names
+            .iter()
+            .map(|(name, &entry)| (name.as_str(), entry))
+    }
+
     /// The table check: every entry has its form. This is what a run asks first.
     pub fn check(&self) -> Result<(), Answer> {
         Answer::checked(archive::check_table(&self.words))

@@ -3,8 +3,8 @@ mod terms;
 
 use marshtrundle::pipeline::Pipeline;
 use marshtrundle::strategy::*;
-use marshtrundle::{Answer, Bindings, BuildError, Store, Table, Var, NODES, VARS};
-use terms::{read, rewrite};
+use marshtrundle::{run, Answer, Bindings, BuildError, Entry, Store, Table, Var, NODES, VARS};
+use terms::read;
 
 const X: Var = VARS[0];
 const Y: Var = VARS[1];
@@ -23,6 +23,27 @@ fn peel() -> Strategy {
 /// 4(x) becomes 4(4(x)): it can go on for ever.
 fn grow() -> Strategy {
     rule(con(4, [var(X)]), con(4, [con(4, [var(X)])]))
+}
+
+/// What a strategy makes of a term with ample limits, nothing bound: the new term as text, or the answer. Whatever the answer,
+/// nothing is bound afterwards, or the test ends.
+fn rewrite(s: &Strategy, text: &str) -> Result<String, Answer> {
+    let mut store = Store::new();
+    let subject = read(&mut store, text);
+    store.room(10_000).unwrap();
+    let mut bindings = Bindings::new();
+    let table = Table::of(s).unwrap();
+    let end = run(
+        &table,
+        &mut store,
+        &mut bindings,
+        Entry::FIRST,
+        subject,
+        1_000_000,
+    );
+    assert_eq!(bindings, Bindings::new());
+    let new = end.done()?;
+    Ok(store.term(new).unwrap().to_string())
 }
 
 fn gives_term(s: &Strategy, from: &str, to: &str) {

@@ -1,6 +1,5 @@
 //! Terms from text, as `Term` writes them: `5(1, 2)`.
-use marshtrundle::strategy::Strategy;
-use marshtrundle::{run, Answer, Bindings, Entry, Node, Store, Table};
+use marshtrundle::{Node, Store};
 
 /// Makes the term of a text in the store.
 pub fn read(store: &mut Store, text: &str) -> Node {
@@ -27,25 +26,4 @@ fn term(store: &mut Store, rest: &mut &str) -> Node {
         *rest = rest.strip_prefix(')').expect("a closing bracket");
     }
     store.node(constructor, &children).unwrap()
-}
-
-/// What a strategy makes of a term with ample limits, nothing bound: the new term as text, or the answer. Whatever the answer,
-/// nothing is bound afterwards, or the test ends.
-pub fn rewrite(s: &Strategy, text: &str) -> Result<String, Answer> {
-    let mut store = Store::new();
-    let subject = read(&mut store, text);
-    store.room(10_000).unwrap();
-    let mut bindings = Bindings::new();
-    let table = Table::of(s).unwrap();
-    let end = run(
-        &table,
-        &mut store,
-        &mut bindings,
-        Entry::FIRST,
-        subject,
-        1_000_000,
-    );
-    assert_eq!(bindings, Bindings::new());
-    let new = end.done()?;
-    Ok(store.term(new).unwrap().to_string())
 }
