@@ -14,7 +14,6 @@ use crate::reading::entry;
 use crate::reading::kind;
 use crate::reading::operands;
 use crate::record::Bindings;
-use crate::record::FIRST;
 use crate::record::MASK;
 use crate::record::RECORD;
 use crate::record::bind;
@@ -74,8 +73,7 @@ fn match_children(
                 };
                 left = rest;
             } else {
-                words[FIRST + v as usize] = c;
-                words[MASK] = words[MASK] | (1 << v);
+                put_variable(&mut words, v, c);
             }
         } else {
             if !agree(table, store, q, c) {

@@ -11,7 +11,6 @@ use Rattle.checks.specs.Good.{kindOf, operandCount}
 use Rattle.leaves.specs.Record.{recordLong, held}
 use Rattle.leaves.specs.Visits.{agreeing}
 use Rattle.leaves.proofs.AnswerWords.{done-node}
-use Rattle.leaves.proofs.Holding.{set-bound}
 use Rattle.leaves.proofs.Matching.{Matched, Turn, matched-none, matched-at, matched-all, operand-is, variable-small, constructor-is, child-units, inner-stopped, free-matched, bound-matched, bound-stops, other, leaf-matched, handed, inner-matched, inner-stops}
 use Prim.Native.Nat.{ℕ, _+_, _-_, _<_, _≤_}
 use borrow.Fn.Kinds.{In}
@@ -30,6 +29,7 @@ use Rattle.leaves.proofs.reading.entry.Reads as entry-reads
 use Rattle.leaves.proofs.reading.kind.Reads as kind-reads
 use Rattle.leaves.proofs.reading.operands.Reads as operands-reads
 use Rattle.leaves.proofs.record.bit.Reads as bit-reads
+use Rattle.leaves.proofs.record.put_variable.Reads as put-variable-reads
 use Rattle.leaves.proofs.record.word_of.Reads as word-of-reads
 use Rattle.words.proofs.word.Reads as word-reads
 use Rattle.leaves.proofs.matcher.+match_children.{statement}
@@ -45,7 +45,7 @@ abbrev children-below : ℕ → In 2 children-kinds.ps
 children-below t = and 2 children-kinds.ps (falls 2 children-kinds.ps _<_ μ-children t) children.Pre
 
 abbrev children-calls : ℕ → children-lts.Claims
-children-calls t = (operands-reads.Asked, operands-reads.Learnt, entry-reads.Asked, entry-reads.Learnt, word-reads.Asked, word-reads.Learnt, no-units-reads.Asked, no-units-reads.Learnt, kind-reads.Asked, kind-reads.Learnt, bit-reads.Asked, bit-reads.Learnt, word-of-reads.Asked, word-of-reads.Learnt, same-reads.Asked, same-reads.Learnt, answer-of-reads.Asked, answer-of-reads.Learnt, agree-reads.Asked, agree-reads.Learnt, failure-reads.Asked, failure-reads.Learnt, stopped-reads.Asked, stopped-reads.Learnt, done-reads.Asked, done-reads.Learnt, children-below t, children.Post)
+children-calls t = (operands-reads.Asked, operands-reads.Learnt, entry-reads.Asked, entry-reads.Learnt, word-reads.Asked, word-reads.Learnt, no-units-reads.Asked, no-units-reads.Learnt, kind-reads.Asked, kind-reads.Learnt, bit-reads.Asked, bit-reads.Learnt, word-of-reads.Asked, word-of-reads.Learnt, same-reads.Asked, same-reads.Learnt, answer-of-reads.Asked, answer-of-reads.Learnt, put-variable-reads.Asked, put-variable-reads.Learnt, agree-reads.Asked, agree-reads.Learnt, failure-reads.Asked, failure-reads.Learnt, stopped-reads.Asked, stopped-reads.Learnt, done-reads.Asked, done-reads.Learnt, children-below t, children.Post)
 
 abbrev children-Inv-loop : children-lts.InvT-loop
 children-Inv-loop table store p s deep t left₀ words₀ n i₀ left words i =
@@ -98,9 +98,9 @@ came t c =
     (λ w. matched-at _ _ _ _ _ _ _ _ _ _ _ (w .12) (w .11) (omega (arith, done-node _ _ _ (sym (w .7 .ensures) ∙ w .9 .given .1)))
     (bound-matched k z d (sym e ∙ w .0 .taken) (w .1 .ensures) (sym (w .2 .ensures) ∙ w .3 .taken) (w .5 .ensures) _ (λ m. w .6 .ensures _ (held (l .words)) m) _ (w .7 .ensures) _ _ (w .9 .given .1)))
     (⊎-elim
-    (λ w. matched-at _ _ _ _ _ _ _ _ _ _ _ (w .5) (w .4) less
+    (λ w. matched-at _ _ _ _ _ _ _ _ _ _ _ (w .7) (w .6) less
     (free-matched k z d (sym e ∙ w .0 .taken) (w .1 .ensures) (l .inv .3) (λ f. w .3 .left (w .2 .ensures ∙ f))
-    (set-bound _ _ _ (variable-small k (sym e ∙ w .0 .taken) (w .1 .ensures)))))
+    (w .5 .ensures)))
     (⊎-elim
     (λ w. matched-at _ _ _ _ _ _ _ _ _ _ _ (w .15) (w .14) (omega (arith, done-node _ _ _ (sym (w .8 .ensures) ∙ w .10 .given .1)))
     (inner-matched k z d (constructor-is k e (w .0 .left)) (sym (w .1 .ensures) ∙ not-false _ (w .2 .left)) (w .6 .ensures) _ _ (w .7 .ensures) _ (w .8 .ensures) _ _ (w .10 .given .1)))
@@ -150,17 +150,8 @@ children-returns-2 t c =
     let at-loop = at-before′ .before .before .before .before in
     bound-stops (turn t (at-before′ .before)) (at-before′ .if1 .left) (levels t (at-before′ .before)) (is-variable t (at-before .before)) (at-before .entry2 .ensures) (sym (at-bit .bit .ensures) ∙ at-if3 .if3 .taken) (at-word .word-of .ensures) _ (λ m. at-same .same .ensures _ (held (at-loop .loop .words)) m) _ (at-answer-of .answer-of .ensures) (c .match .keys2)
 
-children-add-words : (t : ℕ) → children-lts.Need-add-words (children-calls t) (children-at t) children.Post children-Inv-loop children-μ-loop
-children-add-words t c = let v = variable-small (turn t (c .before .before .before .before .before .before)) (is-variable t (c .before .before .before)) (c .before .before .entry2 .ensures) in omega arith
-
-children-mul-words : (t : ℕ) → children-lts.Need-mul-words (children-calls t) (children-at t) children.Post children-Inv-loop children-μ-loop
-children-mul-words t c = let v = variable-small (turn t (c .before .before .before .before .before .before)) (is-variable t (c .before .before .before)) (c .before .before .entry2 .ensures) in omega arith
-
-children-array-write-words : (t : ℕ) → children-lts.Need-array-write-words (children-calls t) (children-at t) children.Post children-Inv-loop children-μ-loop
-children-array-write-words t c = let v = variable-small (turn t (c .before .before .before .before .before .before)) (is-variable t (c .before .before .before)) (c .before .before .entry2 .ensures) in omega arith
-
-children-shl-words : (t : ℕ) → children-lts.Need-shl-words (children-calls t) (children-at t) children.Post children-Inv-loop children-μ-loop
-children-shl-words t c = let v = variable-small (turn t (c .before .before .before .before .before .before)) (is-variable t (c .before .before .before)) (c .before .before .entry2 .ensures) in omega arith
+children-put-variable-requires : (t : ℕ) → children-lts.Need-put-variable-requires (children-calls t) (children-at t) children.Post children-Inv-loop children-μ-loop
+children-put-variable-requires t c κs = variable-small (turn t (c .before .before .before .before .before .before .before)) (is-variable t (c .before .before .before .before)) (c .before .before .before .entry2 .ensures)
 
 children-agree-requires : (t : ℕ) → children-lts.Need-agree-requires (children-calls t) (children-at t) children.Post children-Inv-loop children-μ-loop
 children-agree-requires t c κs = operand-is (turn t (c .before .before .before)) .0
@@ -216,8 +207,8 @@ pub +match-children-spec : {M : Type 1} → statement M
     (children-add-entry t) (children-entry-requires t) (children-add-word t) (children-word-requires t) (λ c κs. search needs)
     (children-returns t) (λ c. search needs) (children-kind-requires t) (children-entry-requires-2 t) (λ c. search needs)
     (children-bit-requires t) (children-word-of-requires t) (λ c. search needs)
-    (λ c κs. search needs) (λ c κs. search needs) (λ c. search needs) (children-returns-2 t) (λ c. search needs)
-    (children-add-words t) (children-mul-words t) (children-array-write-words t) (λ c. search needs) (children-shl-words t) (λ c. search needs)
+    (λ c κs. search needs) (λ c κs. search needs) (λ c. search needs) (children-returns-2 t)
+    (children-put-variable-requires t)
     (children-agree-requires t) (λ c κs. search needs) (children-returns-3 t) (children-operands-requires-2 t)
     (λ c κs. search needs) (children-returns-4 t) (λ c κs. search needs) (λ c. search needs) (children-match-children-requires t)
     (λ c κs. search needs) (λ c. search needs) (children-returns-5 t) (λ c. search needs) (λ c. search needs)
