@@ -29,10 +29,34 @@ pub struct Outcome {
     pub units: u32,
 }
 
+/// How a visit that applies an entry ends.
+#[derive(Clone, Copy, Debug, PartialEq, Eq)]
+pub enum Way {
+    /// It gave this term.
+    Success(u32),
+    /// It failed.
+    Failure,
+    /// The run was cut off while it was under way.
+    InFlight,
+}
+
+/// What a watcher may look at: the store's words and the bindings, as they are.
+#[derive(Clone, Copy)]
+pub struct Sight<'a> {
+    /// The store's words.
+    pub store: &'a [u32],
+    /// The bindings.
+    pub bindings: &'a [u32],
+}
+
 /// Someone who looks on while a run goes. The unit type looks at nothing.
 pub trait Watcher {
     /// A visit was counted: an entry of this kind, at this nesting.
     fn visited(&mut self, _kind: u32, _nesting: u32) {}
+    /// That visit applies this entry to this term.
+    fn applied(&mut self, _entry: u32, _term: u32, _sight: Sight<'_>) {}
+    /// A visit that applied this entry came to its end.
+    fn ended(&mut self, _entry: u32, _way: Way, _sight: Sight<'_>) {}
     /// A visit was counted: a pair of nodes, at this nesting.
     fn compared(&mut self, _nesting: u32) {}
     /// A comparison for a bound variable ended: the two nodes, and the verdict.
@@ -142,12 +166,38 @@ impl<'a, W: Watcher> Machine<'a, W> {
         }
     }
 
+    /// What a watcher may look at.
+    fn sight(&mut self) -> (&mut W, Sight<'_>) {
+        let sight = Sight {
+            store: self.store,
+            bindings: &self.bindings,
+        };
+        (self.watcher, sight)
+    }
+
     /// Applies an entry as a strategy to a term and gives the new term.
+    fn apply(&mut self, entry: u32, term: u32, nesting: u32) -> Result<u32, End> {
+        self.visit(nesting)?;
+        let kind = kind_of(self.table, entry);
+        let (watcher, sight) = self.sight();
+        watcher.visited(kind, nesting);
+        watcher.applied(entry, term, sight);
+        let end = self.by_its_rule(entry, term, nesting);
+        let way = match end {
+            Ok(new) => Way::Success(new),
+            Err(End::Failed) => Way::Failure,
+            Err(End::CutOff(_)) => Way::InFlight,
+        };
+        let (watcher, sight) = self.sight();
+        watcher.ended(entry, way, sight);
+        end
+    }
+
+    /// Does what the rule of an entry says, its visit being counted.
     ///
     /// 01: "Unless its rule says otherwise, a strategy fails as soon as an
     /// operand it runs fails": that is the `?` after `apply`.
-    fn apply(&mut self, entry: u32, term: u32, nesting: u32) -> Result<u32, End> {
-        self.visit(nesting)?;
+    fn by_its_rule(&mut self, entry: u32, term: u32, nesting: u32) -> Result<u32, End> {
         // 01: "a visit asked for by another is one deeper."
         let deeper = nesting + 1;
         let row = self.entry(entry);
@@ -155,7 +205,6 @@ impl<'a, W: Watcher> Machine<'a, W> {
         let first = row[2];
         let second = row[3];
         let kind = row[0] / 16;
-        self.watcher.visited(kind, nesting);
         match kind {
             // 01: "ID gives the state back. FAIL fails."
             kind::ID => Ok(term),
