@@ -1,7 +1,8 @@
 #!/bin/sh
-# Tests the C header and the Rust crate over target/staticlib/libmarshtrundle.a, which 'rt staticlib marshtrundle' writes.
+# Tests the C header, the Rust crate and the command over target/staticlib/libmarshtrundle.a, which 'rt staticlib marshtrundle' writes.
 #
-#   tools/library_tests.sh          the C test, the crate's tests and its documentation's examples, what stands on the pages
+#   tools/library_tests.sh          the C test, the crate's tests and its documentation's examples, the command's tests, what
+#                                   stands on the pages
 #   tools/library_tests.sh stack    the least stack of each recursive form at 4,096 levels
 #
 # The archive is x86-64 code. An x86-64 machine needs cargo and cc. An Arm machine needs a rustc with the standard library
@@ -150,11 +151,19 @@ else
         --target "$target" --extern marshtrundle="$built/libmarshtrundle.rlib" -L native="$MARSHTRUNDLE_LIB" \
         -C linker="$cc" $rust_flags $tool "$first" $words || exit 1
 fi
-# What stands on the pages for people who write passes.
+# The command, as a program.
+cd "$root/rust/command"
+MARSHTRUNDLE_RUNNER=$run "$rust/cargo" test || exit 1
+
+# What stands on the pages for people who write passes. A page's commands are those of the machine at hand.
 cd "$root"
-if command -v python3 >/dev/null; then
-    CARGO=$rust/cargo python3 tools/pages.py docs/PASSES.md docs/REFERENCE.md || exit 1
-else
+pages="docs/PASSES.md docs/REFERENCE.md $(echo examples/*.md examples/*/*.md)"
+# shellcheck disable=SC2086  # the pages are words
+if ! command -v python3 >/dev/null; then
     echo "library_tests: no python3, so the pages are left out"
+elif [ "$machine" = x86_64 ]; then
+    CARGO=$rust/cargo python3 tools/pages.py --programs "$built" $pages || exit 1
+else
+    CARGO=$rust/cargo python3 tools/pages.py --no-commands $pages || exit 1
 fi
 echo "library_tests: all is right"

@@ -1,12 +1,13 @@
 #!/usr/bin/env python3
 """Runs what stands on the pages: every block of Rust and every block of commands.
 
-pages.py [--programs FOLDER] PAGE...   one line for each block, 'N passed, M failed' last; exit status 1 where one fails
+pages.py [--programs FOLDER | --no-commands] PAGE...
+    one line for each block, 'N passed, M failed' last; exit status 1 where one fails
 
-The blocks marked ```rust of a page, one after the other, are one program: the page is read as it is run. A block marked
+The blocks marked ```rust of a page, one after the other, are one program, run from the repository's root. A block marked
 ```console has commands after '$ ', run from the repository's root by sh, and what they print: both outputs, line by line. A line
 '..' there stands for any number of lines, and '[exit status N]' is the last line where a command ends with another status than 0.
-FOLDER is put before PATH. The programs need cargo and the archive, as tools/library_tests.sh says.
+FOLDER is put before PATH. With --no-commands the blocks of commands are left out. The programs need cargo and the archive, as tools/library_tests.sh says.
 """
 import os
 import pathlib
@@ -64,8 +65,8 @@ def program(page, text):
         + "\n    Ok(())\n}\nfn main() {\n    marshtrundle::with_stack(page).unwrap().unwrap();\n}\n"
     )
     ran = subprocess.run(
-        [os.environ.get("CARGO", "cargo"), "run", "--quiet", "--offline"],
-        cwd=folder, stdout=subprocess.PIPE, stderr=subprocess.STDOUT, timeout=SECONDS,
+        [os.environ.get("CARGO", "cargo"), "run", "--quiet", "--offline", "--manifest-path", folder / "Cargo.toml"],
+        cwd=ROOT, stdout=subprocess.PIPE, stderr=subprocess.STDOUT, timeout=SECONDS,
     )
     return None if ran.returncode == 0 else ran.stdout.decode("utf-8", "replace")
 
@@ -109,6 +110,8 @@ def main(words):
     if words[:1] == ["--programs"] and len(words) > 1:
         os.environ["PATH"] = words[1] + os.pathsep + os.environ["PATH"]
         words = words[2:]
+    commands = words[:1] != ["--no-commands"]
+    words = words if commands else words[1:]
     if not words or words[0].startswith("-"):
         print(__doc__.strip(), file=sys.stderr)
         return 2
@@ -116,7 +119,8 @@ def main(words):
     for word in words:
         page = pathlib.Path(word).resolve()
         text = page.read_text(encoding="utf-8")
-        results = [(f"{word}, line {first}", console(lines)) for first, lines in blocks(text, "console")]
+        sessions = blocks(text, "console") if commands else []
+        results = [(f"{word}, line {first}", console(lines)) for first, lines in sessions]
         if blocks(text, "rust"):
             results.insert(0, (f"{word}, its program", program(page, text)))
         for what, wrong in results:

@@ -87,7 +87,7 @@ impl<'n> Show<'n> {
 
     /// A term. A shared subterm with children is shown once.
     pub fn term(&self, term: Term<'_>) -> String {
-        let shared = shared_nodes(term);
+        let shared = self.shared_nodes(term);
         let mut defined = HashSet::new();
         let mut left = self.length;
         let mut text = String::new();
@@ -120,6 +120,26 @@ impl<'n> Show<'n> {
             push_list(&mut open, &children, level + 1);
         }
         text
+    }
+
+    /// The nodes with children that are met more than once where the term is shown within the limits.
+    fn shared_nodes(&self, term: Term<'_>) -> HashSet<Node> {
+        let mut seen = HashSet::new();
+        let mut shared = HashSet::new();
+        let mut open = vec![(term, 1)];
+        while let Some((term, level)) = open.pop() {
+            if level > self.depth || seen.len() >= self.length {
+                continue;
+            }
+            if !seen.insert(term.node()) {
+                if term.children().next().is_some() {
+                    shared.insert(term.node());
+                }
+                continue;
+            }
+            open.extend(term.children().rev().map(|child| (child, level + 1)));
+        }
+        shared
     }
 
     /// What is bound: `x = A, y = PAIR(A, A)`.
@@ -202,7 +222,7 @@ impl<'n> Show<'n> {
             let row = match table.words().chunks_exact(8).nth(entry as usize) {
                 Some(row) => row,
                 None => {
-                    let _ = write!(text, "?{entry}");
+                    let _ = write!(text, "<{entry}>");
                     continue;
                 }
             };
@@ -216,12 +236,12 @@ impl<'n> Show<'n> {
             }
             left -= 1;
             let kind = row[0] / 16;
-            // In a table that does not pass its check an operand may be anywhere. One that is not above is shown by number.
+            // In a table that does not pass its check an operand may be anywhere. One that is not above is shown as `<5>`.
             let lower = |&operand: &u32| {
                 if operand > entry {
                     Piece::Thing((operand, None, true), level + 1)
                 } else {
-                    Piece::Text(format!("?{operand}"))
+                    Piece::Text(format!("<{operand}>"))
                 }
             };
             let list = operands(row);
@@ -267,7 +287,7 @@ impl<'n> Show<'n> {
                     }
                 }
                 _ => {
-                    let _ = write!(text, "?kind {kind}");
+                    let _ = write!(text, "<kind {kind}>");
                 }
             }
         }
@@ -424,20 +444,6 @@ fn push_list<T: Copy>(open: &mut Vec<Piece<T>>, things: &[T], level: usize) {
         open.push(Piece::Thing(thing, level));
         open.push(Piece::Text(if k == 0 { "(" } else { ", " }.to_owned()));
     }
-}
-
-/// The nodes with children that more than one child position of the term names.
-fn shared_nodes(term: Term<'_>) -> HashSet<Node> {
-    let mut seen = HashSet::new();
-    let mut shared = HashSet::new();
-    for node in term.nodes() {
-        for child in term.at(node).children() {
-            if !seen.insert(child.node()) && child.children().next().is_some() {
-                shared.insert(child.node());
-            }
-        }
-    }
-    shared
 }
 
 /// How often each entry of a table is an operand, calls left aside, and of which kind it is.

@@ -168,7 +168,10 @@ impl Store {
     /// The term at a node below the mark.
     pub fn term(&self, node: Node) -> Option<Term<'_>> {
         let there = node.0 < self.mark && (node.0 as usize) < self.capacity();
-        there.then_some(Term { store: self, node })
+        there.then_some(Term {
+            words: &self.words,
+            node,
+        })
     }
 }
 
@@ -178,14 +181,20 @@ impl Store {
 /// In a store that does not pass its check, a child that is not below its parent is left out.
 #[derive(Clone, Copy)]
 pub struct Term<'a> {
-    store: &'a Store,
+    words: &'a [u32],
     node: Node,
 }
 
 impl<'a> Term<'a> {
+    /// The term at a node of a store's words, for callers that keep their own. None where the words have no such node.
+    pub fn of_words(words: &'a [u32], node: Node) -> Option<Term<'a>> {
+        let there = (node.0 as usize) < words.len() / 8;
+        there.then_some(Term { words, node })
+    }
+
     fn row(self) -> &'a [u32] {
         let at = 8 * self.node.0 as usize;
-        self.store.words.get(at..at + 8).unwrap_or(&[0; 8])
+        self.words.get(at..at + 8).unwrap_or(&[0; 8])
     }
 
     /// The term's node.
@@ -205,10 +214,7 @@ impl<'a> Term<'a> {
         self.row()[2..2 + count]
             .iter()
             .filter(move |&&child| child < below)
-            .map(move |&child| Term {
-                store: self.store,
-                node: Node(child),
-            })
+            .map(move |&child| self.at(Node(child)))
     }
 
     /// The child at a position from 1, as PATH counts.

@@ -273,15 +273,15 @@ fn a_bad_table_is_shown() {
     let names = Names::new();
     let show = Show::new(&names);
     for (words, text) in [
-        ([[66, 0, 1, 9, 0, 0, 0, 0], [0; 8]].concat(), "id ; ?9"),
-        ([[33, 0, 0, 0, 0, 0, 0, 0], [0; 8]].concat(), "test(?0)"),
-        ([[320, 0, 0, 0, 0, 0, 0, 0], [0; 8]].concat(), "?kind 20"),
+        ([[66, 0, 1, 9, 0, 0, 0, 0], [0; 8]].concat(), "id ; <9>"),
+        ([[33, 0, 0, 0, 0, 0, 0, 0], [0; 8]].concat(), "test(<0>)"),
+        ([[320, 0, 0, 0, 0, 0, 0, 0], [0; 8]].concat(), "<kind 20>"),
     ] {
         let table = Table::from_words(words);
         assert_eq!(show.strategy(&table, Entry::FIRST), text);
         assert_eq!(show.entries(&table).lines().count(), 2);
     }
-    assert_eq!(show.strategy(&Table::from_words([]), Entry::FIRST), "?0");
+    assert_eq!(show.strategy(&Table::from_words([]), Entry::FIRST), "<0>");
 }
 
 #[test]

@@ -1,0 +1,494 @@
+//! The command as a program: its outputs, its exit status, and what it says of bad words, bad files and every answer.
+use std::io::Write;
+use std::path::PathBuf;
+use std::process::{Command, Output, Stdio};
+
+fn root() -> PathBuf {
+    PathBuf::from(env!("CARGO_MANIFEST_DIR")).join("../..")
+}
+
+/// Runs the program with these words, from the repository's root. MARSHTRUNDLE_RUNNER has the words of an emulator, if there is one.
+fn program(words: &[&str], input: &[u8]) -> Output {
+    let runner = std::env::var("MARSHTRUNDLE_RUNNER").unwrap_or_default();
+    let mut whole: Vec<&str> = runner.split_whitespace().collect();
+    whole.push(env!("CARGO_BIN_EXE_marshtrundle"));
+    whole.extend(words);
+    let mut child = Command::new(whole[0])
+        .args(&whole[1..])
+        .current_dir(root())
+        .stdin(Stdio::piped())
+        .stdout(Stdio::piped())
+        .stderr(Stdio::piped())
+        .spawn()
+        .expect("the program starts");
+    // A program that ends before it reads has closed its input.
+    let _ = child.stdin.take().expect("an input").write_all(input);
+    child.wait_with_output().expect("the program ends")
+}
+
+struct Told {
+    status: i32,
+    output: String,
+    error: String,
+}
+
+fn told(words: &[&str], input: &str) -> Told {
+    let ran = program(words, input.as_bytes());
+    Told {
+        status: ran.status.code().expect("a status"),
+        output: String::from_utf8(ran.stdout).expect("text"),
+        error: String::from_utf8(ran.stderr).expect("text"),
+    }
+}
+
+/// Fields parted by spaces here, by tabs in the job.
+fn job(lines: &[&str]) -> String {
+    lines
+        .iter()
+        .map(|line| line.replace(' ', "\t") + "\n")
+        .collect()
+}
+
+#[test]
+fn every_example_is_answered_as_it_is_stored() {
+    let mut jobs = 0;
+    for file in std::fs::read_dir(root().join("examples")).unwrap() {
+        let path = file.unwrap().path();
+        if path.extension().map_or(true, |end| end != "job") {
+            continue;
+        }
+        let stored = std::fs::read_to_string(path.with_extension("answer")).unwrap();
+        let ran = told(&["run", path.to_str().unwrap()], "");
+        assert_eq!(ran.output, stored, "{}", path.display());
+        let answer = stored.split('\t').nth(1).unwrap();
+        assert_eq!(ran.status.to_string(), answer, "{}", path.display());
+        assert_eq!(ran.error.is_empty(), ran.status == 0, "{}", path.display());
+        jobs += 1;
+    }
+    assert!(jobs >= 6, "{jobs} jobs");
+}
+
+/// A job for each answer: its status, and words of what is said of it.
+#[test]
+fn each_answer_has_its_status_and_its_words() {
+    let id = "e 0 0";
+    for (lines, status, says) in [
+        (&["job 9 0 0 1", id, "n 1"][..], 0, ""),
+        (&["job 9 0 0 1", "e 1 0", "n 1"], 1, "answer 1: failed"),
+        (
+            &["job 9 0 0 1", id, "n 1", "n 1"],
+            2,
+            "answer 2: a length or the mark is bad",
+        ),
+        (&["job 9 0 0 1", id, "n 1 0"], 4, "answer 4: node 0 is bad"),
+        (
+            &["job 9 0 1 1", id, "n 1"],
+            5,
+            "answer 5: the start, the subject or a binding is bad",
+        ),
+        (
+            &["job 0 0 0 1", id, "n 1"],
+            6,
+            "answer 6: all units are used",
+        ),
+        (
+            &["job 9 0 0 1", "e 15 0 1", "e 19 5", "n 1"],
+            7,
+            "answer 7: the store has no room",
+        ),
+        (
+            &["job 9999 0 0 1", "e 7 0 1", "e 8 0 0", "n 1"],
+            8,
+            "answer 8: a visit is nested too deep",
+        ),
+        (
+            &["job 9 0 0 1", "e 0"],
+            9,
+            "answer 9: line 2: it has 1 numbers, expected 2 to 8",
+        ),
+        (
+            &["job 9 0 0 1", "e 20 0", "n 1"],
+            13,
+            "entry 0: unknown kind or wrong number of operands: word 0 is 320",
+        ),
+        (
+            &["job 9 0 0 1", "e 0 7", "n 1"],
+            14,
+            "word 1 is 7, expected 0 for ID",
+        ),
+        (
+            &["job 9 0 0 1", "e 11 0 1", "n 1"],
+            15,
+            "word 2 is 1, expected an entry after this one",
+        ),
+        (
+            &["job 9 0 0 1", "e 11 0 1", "e 18 0", "n 1"],
+            16,
+            "expected the number of a strategy for ALL",
+        ),
+    ] {
+        let text = job(lines);
+        let ran = told(&["run", "-"], &text);
+        assert_eq!(ran.status, status, "{lines:?}: {}", ran.error);
+        assert!(ran.error.contains(says), "{lines:?}: {}", ran.error);
+        assert!(
+            ran.output.starts_with(&format!("answer\t{status}\t")),
+            "{}",
+            ran.output
+        );
+        // What to do next is a second line.
+        assert_eq!(
+            ran.error.lines().count(),
+            if status == 0 { 0 } else { 2 },
+            "{}",
+            ran.error
+        );
+        assert!(
+            ran.error.lines().skip(1).all(|line| line.len() > 60),
+            "{}",
+            ran.error
+        );
+    }
+}
+
+#[test]
+fn bad_usage_is_64_and_says_what_is_wrong() {
+    for (words, says) in [
+        (&[][..], "no subcommand"),
+        (&["rum"], "'rum' is no subcommand"),
+        (&["run"], "no FILE"),
+        (&["run", "a", "b"], "'b' is one word too many"),
+        (&["run", "a", "--html"], "'run' has no option --html"),
+        (&["print", "a", "--graph"], "--graph needs a value"),
+        (
+            &["print", "a", "--graph", "tree"],
+            "--graph is 'term' or 'table', not 'tree'",
+        ),
+        (
+            &["run", "a", "--units", "many"],
+            "--units is a number, and 'many' is none",
+        ),
+        (
+            &["run", "a", "--units", "4294967296"],
+            "--units is a number",
+        ),
+    ] {
+        let ran = told(words, "");
+        assert_eq!(ran.status, 64, "{words:?}");
+        assert!(ran.error.contains(says), "{words:?}: {}", ran.error);
+        assert!(
+            ran.error.contains("usage: marshtrundle run FILE"),
+            "{}",
+            ran.error
+        );
+    }
+    let ran = told(&["--help"], "");
+    assert_eq!((ran.status, ran.error.as_str()), (0, ""));
+    assert!(ran.output.starts_with("usage: "));
+}
+
+#[test]
+fn files_that_cannot_be_read_are_66() {
+    let ran = told(&["run", "examples/nothing.job"], "");
+    assert_eq!(ran.status, 66);
+    assert!(
+        ran.error
+            .starts_with("marshtrundle: examples/nothing.job: "),
+        "{}",
+        ran.error
+    );
+    let ran = told(
+        &["print", "examples/swap.job", "--names", "examples/swap.job"],
+        "",
+    );
+    assert_eq!(ran.status, 66);
+    assert!(
+        ran.error.contains("examples/swap.job: line 1: "),
+        "{}",
+        ran.error
+    );
+}
+
+#[test]
+fn check_says_what_a_run_would_refuse() {
+    let ran = told(&["check", "examples/pruner.job"], "");
+    assert_eq!(ran.status, 0);
+    assert_eq!(
+        ran.output,
+        "47 entries, 35 nodes, room for 29 more: nothing is refused\n"
+    );
+    let ran = told(&["check", "-"], &job(&["job 9 5 0 1", "e 0 0", "n 1"]));
+    assert_eq!(ran.status, 5);
+    assert!(
+        ran.output.is_empty() && ran.error.contains("answer 5"),
+        "{}",
+        ran.error
+    );
+}
+
+#[test]
+fn free_names_the_variables() {
+    let ran = told(&["free", "examples/pruner.job"], "");
+    assert_eq!((ran.status, ran.output.as_str()), (0, "1\tm\n"));
+    let ran = told(&["free", "examples/swap.job"], "");
+    assert_eq!((ran.status, ran.output.as_str()), (0, ""));
+    let ran = told(
+        &["free", "-"],
+        &job(&["job 9 1 0 1", "e 14 0 1", "e 18 0", "n 1"]),
+    );
+    assert_eq!(ran.status, 5);
+}
+
+#[test]
+fn print_shows_strategies_and_terms_within_limits() {
+    let ran = told(&["print", "examples/pruner.job"], "");
+    assert!(
+        ran.output
+            .starts_with("prune = rec prune((round ; prune) <+ id)\nround = {p: "),
+        "{}",
+        ran.output
+    );
+    assert!(
+        ran.output
+            .contains("\nsubject: MODULE(CELL(FUN(main, CALLS(parse)), "),
+        "{}",
+        ran.output
+    );
+    assert!(
+        ran.output.ends_with("\nbound: m = main\n"),
+        "{}",
+        ran.output
+    );
+    let ran = told(&["print", "examples/pruner.job", "--depth", "2"], "");
+    assert!(
+        ran.output
+            .contains("\nsubject: MODULE(CELL(.., ..), CELL(.., ..))\n"),
+        "{}",
+        ran.output
+    );
+    let ran = told(&["print", "examples/pruner.job", "--entries"], "");
+    assert_eq!(ran.output.lines().count(), 47);
+    assert_eq!(ran.output.lines().nth(16), Some("16\tNOT\t18\tnot(named)"));
+    let ran = told(&["print", "examples/pruner.job", "--graph", "term"], "");
+    // The three calls and the names that they share are one box each: 35 nodes.
+    assert_eq!(
+        ran.output
+            .lines()
+            .filter(|line| !line.contains("->") && line.contains("[label="))
+            .count(),
+        35
+    );
+    let ran = told(&["print", "examples/pruner.job", "--graph", "table"], "");
+    assert!(
+        ran.output
+            .contains("n12 [label=\"12 drop SCOPE f, body, rest, h, e\"];"),
+        "{}",
+        ran.output
+    );
+    // A tower of 23 levels was 25 MB once.
+    let mut tower = vec![
+        "job 9 0 23 24".to_owned(),
+        "e 0 0".to_owned(),
+        "n 1".to_owned(),
+    ];
+    tower.extend((0..23).map(|k| format!("n 5 {k} {k}")));
+    let lines: Vec<&str> = tower.iter().map(String::as_str).collect();
+    let ran = told(&["print", "-", "--full"], &job(&lines));
+    assert!(ran.output.len() < 500, "{} bytes", ran.output.len());
+}
+
+#[test]
+fn run_shows_the_new_term_and_what_changed() {
+    let ran = told(&["run", "examples/swap.job", "--print"], "");
+    assert_eq!((ran.status, ran.output.as_str()), (0, "PAIR(2, 1)\n"));
+    let ran = told(&["run", "examples/swap.job", "--difference"], "");
+    assert_eq!(ran.output, "at 1: 1, then 2\nat 2: 2, then 1\n");
+    let ran = told(
+        &["run", "examples/pruner.job", "--print", "--difference"],
+        "",
+    );
+    assert!(
+        ran.output.contains("\nm = main\nat 1.2.2.2.2.2: "),
+        "{}",
+        ran.output
+    );
+    let ran = told(&["run", "examples/swap.job", "--print", "--units", "9"], "");
+    assert_eq!((ran.status, ran.output.as_str()), (6, ""));
+}
+
+/// A store and a table of full size.
+#[test]
+fn a_job_of_full_size_is_run() {
+    let mut text = job(&["job 4294967295 0 131071 131072", "e 2 0 1"]);
+    text.push_str(&"e\t0\t0\n".repeat(4_095));
+    text.push_str(&"n\t1\n".repeat(131_072));
+    let ran = told(&["run", "-"], &text);
+    assert_eq!(ran.status, 0, "{}", ran.error);
+    assert!(ran.output.starts_with("answer\t0\t0\t131071\t131072\t2\n"));
+    assert_eq!(ran.output.lines().count(), 131_073);
+}
+
+/// The customer's handler table: slot 1 binds h and e, fails, and both are unbound again when slot 2 is looked at.
+#[test]
+fn explain_tells_the_handler_that_only_a_table_names() {
+    let ran = told(&["explain", "examples/pruner.job"], "");
+    assert_eq!(ran.status, 0, "{}", ran.error);
+    assert!(
+        ran.output.starts_with("answer 0: done, 4335 visits\n"),
+        "{}",
+        ran.output
+    );
+    let lines: Vec<&str> = ran.output.lines().map(str::trim).collect();
+    let drop = lines
+        .iter()
+        .position(|line| line.starts_with("drop on CELL(FUN(on_tariff, "))
+        .unwrap();
+    let story = [
+        "?SLOT(h, e) on SLOT(on_start, start) succeeded: h = on_start, e = start",
+        "!h on SLOT(on_start, start) gave on_start",
+        "?f on on_start failed: f is on_tariff, on_start found",
+        "undone: h = on_start, e = start",
+        "seek on CELL(SLOT(on_tariff, tariff), END) succeeded",
+        "seek on SLOT(on_tariff, tariff) succeeded",
+        "names on SLOT(on_tariff, tariff) succeeded",
+        "?SLOT(h, e) on SLOT(on_tariff, tariff) succeeded: h = on_tariff, e = tariff",
+        "!h on SLOT(on_tariff, tariff) gave on_tariff",
+        "?f on on_tariff succeeded",
+    ];
+    let from = lines[drop..]
+        .iter()
+        .position(|&line| line == story[0])
+        .unwrap();
+    assert_eq!(lines[drop + from..drop + from + story.len()], story);
+    assert!(
+        lines[drop].ends_with(" failed"),
+        "the function is kept: {}",
+        lines[drop]
+    );
+    // Places where nothing was bound are told when all is asked for.
+    let dull = "?CALLS(f) on RETURN failed: CALLS wanted, RETURN found";
+    assert!(!lines.contains(&dull));
+    let all = told(&["explain", "examples/pruner.job", "--all"], "");
+    assert!(all.output.lines().any(|line| line.trim() == dull));
+}
+
+#[test]
+fn explain_writes_a_page() {
+    let ran = told(&["explain", "examples/pruner.job", "--html"], "");
+    assert_eq!(ran.status, 0);
+    assert!(ran.output.starts_with("<!DOCTYPE html>"));
+    assert!(ran.output.ends_with("</html>\n"));
+    let (open, closed) = (
+        ran.output.matches("<details").count(),
+        ran.output.matches("</details>").count(),
+    );
+    assert!(open > 1_000 && open == closed, "{open} {closed}");
+    assert!(ran
+        .output
+        .contains("<p class=\"undone\">undone: h = on_start, e = start</p>"));
+    assert!(ran.output.contains("drop &lt;+ CELL(id, walk)"));
+    assert!(!ran.output.contains("http"), "nothing is fetched");
+}
+
+/// Why a strategy failed, one case for each reason.
+#[test]
+fn explain_gives_reasons() {
+    let pair = ["n 1", "n 2", "n 5 0 1"];
+    for (entries, status, reason) in [
+        (
+            &["e 14 0 1", "e 19 7 2", "e 18 0"][..],
+            1,
+            "?7(v0) on 5(1, 2) failed: 7 wanted, 5 found",
+        ),
+        (
+            &["e 14 0 1", "e 19 5 2", "e 18 0"],
+            1,
+            "?5(v0) on 5(1, 2) failed: 5 of 1 wanted, of 2 found",
+        ),
+        (
+            &["e 14 0 1", "e 19 5 2 2", "e 18 0"],
+            1,
+            "?5(v0, v0) on 5(1, 2) failed: v0 is 1, 2 found",
+        ),
+        (
+            &["e 14 0 1", "e 19 5 2 3", "e 18 0", "e 19 9"],
+            1,
+            "?5(v0, 9) on 5(1, 2) failed: 9 wanted, 2 found",
+        ),
+        (
+            &["e 10 5 1", "e 0 0"],
+            1,
+            "5(id) on 5(1, 2) failed: 5 of 1 wanted, of 2 found",
+        ),
+        (
+            &["e 9 3 1", "e 0 0"],
+            1,
+            "3(id) on 5(1, 2) failed: there is no child 3",
+        ),
+        (
+            &["e 9 1 1", "e 12 0 2", "e 0 0"],
+            1,
+            "one(id) on 1 failed: there are no children",
+        ),
+    ] {
+        let mut lines = vec!["job 99 0 2 9"];
+        lines.extend(entries);
+        lines.extend(pair);
+        let ran = told(&["explain", "-"], &job(&lines));
+        assert_eq!(ran.status, status, "{}", ran.error);
+        assert!(
+            ran.output.lines().any(|line| line.trim() == reason),
+            "{reason}\n{}",
+            ran.output
+        );
+    }
+    let ran = told(
+        &["explain", "-"],
+        &job(&[
+            "job 99 0 2 9",
+            "e 15 0 1",
+            "e 18 3",
+            pair[0],
+            pair[1],
+            pair[2],
+        ]),
+    );
+    assert!(
+        ran.output.contains("!v3 on 5(1, 2) ") && ran.output.contains(": v3 is not bound"),
+        "{}",
+        ran.output
+    );
+    let ran = told(&["explain", "-"], &job(&["job 99 0 0 1", "e 20 0", "n 1"]));
+    assert_eq!((ran.status, ran.output.as_str()), (13, ""));
+}
+
+#[test]
+fn explain_tells_where_a_limit_was_met() {
+    let ran = told(
+        &["explain", "-"],
+        &job(&[
+            "job 99999 0 0 1",
+            "e 7 0 1",
+            "e 4 0 2 3",
+            "e 0 0",
+            "e 8 0 0",
+            "n 1",
+        ]),
+    );
+    assert_eq!(ran.status, 8);
+    for says in [
+        "answer 8: a visit is nested too deep",
+        "4096 levels were under way. Most often:\n  1366 times rec s0(id ; s0)\n",
+        "The last levels:\n",
+    ] {
+        assert!(ran.output.contains(says), "{says}\n{}", ran.output);
+    }
+    let short = told(&["explain", "examples/pruner.job", "--length", "10"], "");
+    assert!(
+        short
+            .output
+            .contains("The first 10 visits of strategies are told"),
+        "{}",
+        short.output
+    );
+}
