@@ -83,6 +83,13 @@ static void the_job(void)
     mt_run(table, 64, store, 24, bindings, 32, 3, 0, 2, 10, numbers);
     hold(is(numbers, MT_OUT_OF_ROOM, 0, 2, 3, 10), "S3: the numbers");
     hold(same(store, given, 32), "S3: the store");
+    /* S12, but of variable 1: the BUILD alone, which no MATCH went before. Its first variable, from the left, is the place. */
+    fresh();
+    bindings[0] = 1;
+    mt_run(table, 64, store, 32, bindings, 32, 3, 3, 2, 10, numbers);
+    hold(is(numbers, MT_UNBOUND, 1, 2, 3, 3), "12: the numbers");
+    hold(same(store, given, 24) && same(store + 24, zeros, 8), "12: the store");
+    hold(bindings[0] == 1 && same(bindings + 1, zeros, 31), "12: the bindings");
     mt_check_table(table, 64, numbers);
     hold(numbers[0] == MT_DONE && numbers[1] == 0, "the table check");
     mt_check_store(given, 32, 3, numbers);

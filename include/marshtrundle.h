@@ -59,7 +59,7 @@
  *   MT_ONE            1                      runs on the leftmost child that succeeds
  *   MT_SOME           1                      runs on every child, and needs one to succeed
  *   MT_MATCH          1                      compares with a pattern, binds its unbound variables
- *   MT_BUILD          1                      makes a pattern's term; fails at an unbound variable
+ *   MT_BUILD          1                      makes a pattern's term; an unbound variable ends the run, MT_UNBOUND
  *   MT_SCOPE          1       mask           unbinds the variables of the mask, runs, puts them back
  *   MT_WHERE          1                      runs, restores the term, keeps the bindings
  *   MT_PVAR           0       0 to 31        pattern: a variable
@@ -112,8 +112,8 @@ enum mt_kind {
 /*
  * The answers. They are asked in the order 2, 13 to 17, 4, 5, then comes the run.
  * In answers 2, 4, 5 and 13 to 17 nothing is written but the numbers.
- * In answers 0, 1, 6, 7 and 8 the nodes below the given mark are unchanged, and every store word from the returned mark to
- * the end is zero. In answers 1, 6, 7 and 8 the bindings are as given.
+ * In answers 0, 1, 6, 7, 8 and 12 the nodes below the given mark are unchanged, and every store word from the returned mark
+ * to the end is zero. In answers 1, 6, 7, 8 and 12 the bindings are as given. No strategy catches 6, 7, 8 or 12.
  */
 enum mt_answer {
     MT_DONE = 0,         /* new subject, mark and bindings */
@@ -126,6 +126,8 @@ enum mt_answer {
     MT_OUT_OF_UNITS = 6, /* all units were used */
     MT_OUT_OF_ROOM = 7,  /* a node was to be made and the mark equals the store's nodes */
     MT_TOO_DEEP = 8,     /* a visit would have been nested deeper than 4,096 */
+    MT_UNBOUND = 12,     /* a BUILD met a variable that is unbound; the place is the variable. The strategy is wrong: this is no
+                            failure, and no malformed table */
     /* 13 to 17: an entry is malformed, and the place is the lowest such entry. Of its faults the first in this order is given;
        each is looked for in the whole entry before the next. */
     MT_BAD_KIND = 13,     /* word 0: the kind is above 19, or the operands are too few or too many for the kind */
@@ -139,7 +141,7 @@ enum mt_answer {
 /* Where each number stands in `numbers`. */
 enum mt_number {
     MT_ANSWER = 0,  /* one of enum mt_answer */
-    MT_PLACE = 1,   /* the bad entry in answers 13 to 17, the bad node in answer 4, and 0 otherwise */
+    MT_PLACE = 1,   /* the bad entry in answers 13 to 17, the bad node in 4, the variable in 12, and 0 otherwise */
     MT_SUBJECT = 2, /* mt_run, mt_collect: the new subject in answer 0, and the given one otherwise */
     MT_MARK = 3,    /* mt_run, mt_collect: the new mark in answer 0, and the given one otherwise */
     MT_UNITS = 4,   /* mt_run: the visits counted; 0 where nothing was run */

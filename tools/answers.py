@@ -22,6 +22,7 @@ LIST = {
     7: ("MT_OUT_OF_ROOM", "OutOfRoom", "NO_ROOM", "number room"),
     8: ("MT_TOO_DEEP", "TooDeep", "NO_NESTING", "number nesting"),
     9: (None, None, "BAD_TEXT", "answered"),  # of the job program alone
+    12: ("MT_UNBOUND", "Unbound", "UNBOUND", "number unbound"),
     13: ("MT_BAD_KIND", "Kind", "BAD_KIND", "of-count"),
     14: ("MT_BAD_ARGUMENT", "Argument", "BAD_ARGUMENT", "of-argument"),
     15: ("MT_BAD_OPERAND", "Operand", "BAD_OPERAND", "of-place"),
@@ -45,7 +46,7 @@ def pairs(text, pattern, number_first=False):
 def specs():
     """The answers that the definitions give: by a name, or by the function that takes the number."""
     answer = (ROOT / "crates/meaning/specs/Answer.antt").read_text()
-    found = pairs(answer, r"(?m)^(number \w+) = (\d+)$")
+    found = {("number " + name, int(n)) for name, n in pairs(answer, r"(?m)^number \(?(\w+)(?: \w+\))? = (\d+)$")}
     found |= {("returned", int(n)) for n in re.findall(r"\banswer = (\d+);", answer)}
     found |= pairs(answer, r"\b(asGiven) i (\d+) ")
     for path in ("crates/checks/specs/Checked.antt", "crates/marshtrundle/specs/Refused.antt"):

@@ -1,4 +1,4 @@
-"""The cases of the job program. 01's job and S1 to S12 are held to what 01 prints, and each bad text to its line."""
+"""The cases of the job program. 01's job and S1 to S12 are held to what 01 prints, S12 to 02's, and each bad text to its line."""
 import random
 
 from lend import add
@@ -66,7 +66,8 @@ def small_runs():
             ([entry(WHERE, 0, 1), entry(MATCH, 0, 2), X], [0, 0, 2, 3, 3], KEPT + b"b\t0\t2\n", {}),
             ([entry(REC, 0, 1), entry(CALL, 0, 0)], [6, 0, 2, 3, 7], KEPT, dict(units=7)),
             ([entry(REC, 0, 1), entry(CALL, 0, 0)], [8, 0, 2, 3, 4096], KEPT, dict(units=5000)),
-            ([entry(BUILD, 0, 1), X], [1, 0, 2, 3, 2], KEPT, {})):
+            ([entry(BUILD, 0, 1), X], [12, 0, 2, 3, 2], KEPT, {}),
+            ([entry(BUILD, 0, 1), entry(PVAR, 31)], [12, 31, 2, 3, 2], KEPT + b"b\t4\t1\n", dict(bound=[(4, 1)]))):
         job(text_of(table, THREE, **more), five, left)
     job(text_of([entry(MATCH, 0, 1), entry(PCON, 5, 2, 2), X], [[1], [2], [5, 0, 0]]), [0, 0, 2, 3, 5],
         b"n\t1\nn\t2\nn\t5\t0\t0\nb\t0\t0\n")

@@ -1,5 +1,6 @@
-"""A model of document 01, written from its text and sharing nothing with the crates: the two checks, the question of free
-variables, the run, the collection (02), and the job text. What the executed cases must answer comes from it.
+"""A model of document 01, with what document 02 changes in it, written from their texts and sharing nothing with the crates: the
+two checks, the question of free variables, the run, the collection, and the job text. What the executed cases must answer comes
+from it.
 """
 import re
 
@@ -132,7 +133,7 @@ def refusal(t, s, b, mark, start, subject):
 
 
 class Cut(Exception):
-    pass
+    """What ends the run, caught by nothing: its answer and its place."""
 
 
 class Run:
@@ -143,14 +144,14 @@ class Run:
 
     def visit(self, nesting):
         if self.used == self.units:
-            raise Cut(6)
+            raise Cut(6, 0)
         if nesting > 4096:
-            raise Cut(8)
+            raise Cut(8, 0)
         self.used += 1
 
     def make(self, con, kids):
         if len(self.nodes) == self.room:
-            raise Cut(7)
+            raise Cut(7, 0)
         self.nodes.append((con, tuple(kids)))
         return len(self.nodes) - 1
 
@@ -232,8 +233,7 @@ class Run:
             b = self.match(ops[0], t, b, down)
             return None if b is None else (t, b)
         if kind == BUILD:
-            t = self.build(ops[0], b, down)
-            return None if t is None else (t, b)
+            return self.build(ops[0], b, down), b
         assert kind == SCOPE
         inner = {v: k for v, k in b.items() if not argument >> v & 1}
         got = self.strategy(ops[0], t, inner, down)
@@ -271,14 +271,10 @@ class Run:
         self.visit(n)
         word = self.entries[p]
         if word[0] // 16 == PVAR:
-            return b.get(word[1])
-        kids = []
-        for q in word[2:2 + word[0] % 16]:
-            k = self.build(q, b, n + 1)
-            if k is None:
-                return None
-            kids.append(k)
-        return self.make(word[1], kids)
+            if word[1] not in b:
+                raise Cut(12, word[1])
+            return b[word[1]]
+        return self.make(word[1], [self.build(q, b, n + 1) for q in word[2:2 + word[0] % 16]])
 
 
 def run(t, s, b, mark, start, subject, units):
@@ -291,7 +287,7 @@ def run(t, s, b, mark, start, subject, units):
     try:
         got = r.strategy(start, subject, {v: w - 1 for v, w in enumerate(b) if w}, 1)
     except Cut as c:
-        return [c.args[0], 0, subject, mark, r.used], clean, b
+        return [*c.args, subject, mark, r.used], clean, b
     if got is None:
         return [1, 0, subject, mark, r.used], clean, b
     for k in range(mark, len(r.nodes)):
@@ -399,7 +395,7 @@ def five_of(text):
     bound = [job["b"].get(v, -1) + 1 for v in range(32)]
     five, store, bound = run([w for row in job["e"] for w in row], store[:8 * room], bound, mark, job["start"],
                              job["subject"], job["units"])
-    if five[0] not in (0, 1, 6, 7, 8):
+    if five[0] not in (0, 1, 6, 7, 8, 12):
         return five, b""
     nodes = [store[8 * k:8 * k + 8] for k in range(five[3])]
     return five, b"".join([line("n", r[0], *r[2:2 + r[1]]) for r in nodes]

@@ -1,4 +1,4 @@
-"""The cases of the run. S1 to S12 are held to the answers that 01 prints."""
+"""The cases of the run. S1 to S12 are held to the answers that 01 prints, S12 to 02's."""
 import itertools
 import random
 
@@ -35,7 +35,7 @@ X, Y = entry(PVAR, 0), entry(PVAR, 1)
 
 
 def small_runs():
-    """S1 to S12, held to what 01 prints."""
+    """S1 to S12, held to what 01 prints, S12 to 02's 12."""
     def s(label, table, answer, used, subject=2, mark=3, binds=(), store=THREE, new=(), given=2, **more):
         five, words, b = case(label, table, store, **{"fill": 0, "room": 6, "units": 100, "subject": given, **more})
         assert five == [answer, 0, subject, mark, used], (label, five)
@@ -57,7 +57,7 @@ def small_runs():
     s("S10 WHERE", [entry(WHERE, 0, 1), entry(MATCH, 0, 2), X], 0, 3, binds=[(0, 2)])
     s("S11 7 units", [entry(REC, 0, 1), entry(CALL, 0, 0)], 6, 7, units=7)
     s("S11 5000 units", [entry(REC, 0, 1), entry(CALL, 0, 0)], 8, 4096, units=5000)
-    s("S12", [entry(BUILD, 0, 1), X], 1, 2)
+    s("S12", [entry(BUILD, 0, 1), X], 12, 2)
 
 
 def refusals():
@@ -245,12 +245,59 @@ def bindings():
     case("the same node compared in full", twice, [[1], [4, 6, 0, 0, 0, 0, 0, 0], [5, 2, 1, 1]])
     case("a bound variable keeps its first node", [entry(MATCH, 0, 1), X], [[1], [1]], bound=[(0, 0)])
     case("BUILD of a bound variable is its node", [entry(BUILD, 0, 1), X], THREE, bound=[(0, 1)])
-    case("BUILD fails after nodes were made", [entry(LEFT, 0, 1, 2), entry(BUILD, 0, 3), entry(BUILD, 0, 4),
-         entry(PCON, 6, 4, 5), entry(PCON, 7), Y], THREE, room=4)
-    case("BUILD without a match fails", [entry(BUILD, 0, 1), entry(PCON, 6, 2, 3), entry(PCON, 7), Y], THREE)
     case("BUILD uses one variable twice", [entry(BUILD, 0, 1), entry(PCON, 6, 2, 2), X], THREE, bound=[(0, 1)])
     case("variable 31 matched and built", [entry(SEQ, 0, 1, 2), entry(MATCH, 0, 3), entry(BUILD, 0, 4),
          entry(PVAR, 31), entry(PCON, 65535, 3)], THREE)
+
+
+def unbound():
+    """A build without its binding ends the run with 12 and the variable as its place (wish 3)."""
+    def ends(label, table, answer, place, used, store=THREE, mark=3, subject=2, **more):
+        five, words, b = case("12 " + label, table, store, **{"room": 9, **more})
+        assert five == [answer, place, subject, mark, used], (label, five)
+        assert words[:24] == sum(([*row, *[0] * (8 - len(row))] for row in store[:3]), []), label
+        assert answer == 0 or not any(words[8 * mark:]), label
+        assert answer == 0 or b == [dict(more.get("bound", ())).get(v, -1) + 1 for v in range(32)], label
+    seven = [entry(BUILD, 0, 2), entry(PVAR, 7), entry(ID)]
+    for v in (0, 1, 7, 31):
+        ends("at variable %d" % v, [entry(BUILD, 0, 1), entry(PVAR, v)], 12, v, 2)
+    ends("at a variable far down, and not its entry", [entry(BUILD, 0, 1), entry(PCON, 4, 2), entry(PCON, 4, 3), entry(PVAR, 9)], 12, 9, 4)
+    for kind, argument, operands in (
+            (TEST, 0, (1,)), (NOT, 0, (1,)), (WHERE, 0, (1,)), (SCOPE, MOST, (1,)), (SCOPE, 0, (1,)), (LEFT, 0, (1, 3)), (CHOICE, 0, (1, 3)),
+            (SEQ, 0, (1, 3)), (REC, 0, (1,)), (PATH, 2, (1,)), (CONG, 5, (1, 3)), (ALL, 0, (1,)), (ONE, 0, (1,)), (SOME, 0, (1,))):
+        ends("is not caught by %s %d" % (NAMES[kind], argument), [entry(kind, argument, *operands), *seven], 12, 7, 3)
+    ends("in the second operand of LEFT", [entry(LEFT, 0, 4, 1), *seven, entry(FAIL)], 12, 7, 4)
+    ends("in the last child of SOME", [entry(SOME, 0, 1), entry(SEQ, 0, 2, 3), entry(MATCH, 0, 4), entry(BUILD, 0, 5), entry(PCON, 2),
+         entry(PVAR, 7)], 12, 7, 9)
+    ends("under a NOT under a LEFT", [entry(LEFT, 0, 1, 4), entry(NOT, 0, 2), entry(BUILD, 0, 3), entry(PVAR, 7), entry(ID)], 12, 7, 4)
+    ends("is not met where FAIL comes first", [entry(SEQ, 0, 4, 1), *seven, entry(FAIL)], 1, 0, 2)
+    ends("a SCOPE hides the binding", [entry(SCOPE, 128, 1), *seven], 12, 7, 3, bound=[(7, 0)])
+    ends("a SCOPE of another variable does not", [entry(SCOPE, 64, 1), *seven], 0, 0, 3, subject=0, bound=[(7, 0)])
+    ends("a CALL runs inside the scope", [entry(SEQ, 0, 1, 3), entry(REC, 0, 2), entry(BUILD, 0, 5), entry(SCOPE, 1, 4), entry(CALL, 0, 1), X],
+         12, 0, 9, bound=[(0, 2)])
+    ends("an abandoned branch bound it", [entry(LEFT, 0, 1, 4), entry(SEQ, 0, 2, 3), entry(MATCH, 0, 5), entry(FAIL), entry(BUILD, 0, 5), X],
+         12, 0, 7)
+    ends("after a head that fails", [entry(LEFT, 0, 1, 4), entry(SEQ, 0, 2, 3), entry(MATCH, 0, 5), entry(ID), entry(BUILD, 0, 6),
+         entry(PCON, 9), Y], 12, 1, 6)
+    ends("a match binds instead", [entry(MATCH, 0, 1), entry(PVAR, 7)], 0, 0, 2)
+    for units, answer, used in ((0, 6, 0), (1, 6, 1), (2, 12, 2), (3, 12, 2), (MOST, 12, 2)):
+        ends("with %d units" % units, [entry(BUILD, 0, 1), X], answer, 0, used, units=units)
+    pair = [entry(BUILD, 0, 1), entry(PCON, 4, 2, 3), entry(PCON, 9), entry(PVAR, 5)]
+    ends("after a node was made", pair, 12, 5, 4)
+    ends("after a node found no room", pair, 7, 0, 3, room=3)
+    ends("after a node, with its last unit", pair, 12, 5, 4, units=4)
+    ends("after a node, with one unit less", pair, 6, 0, 3, units=3)
+    ends("before a node at a full store", [entry(BUILD, 0, 1), entry(PCON, 4, 3, 2), entry(PCON, 9), entry(PVAR, 5)], 12, 5, 3, room=3)
+    ends("the leftmost of two", [entry(BUILD, 0, 1), entry(PCON, 4, 2, 3), entry(PVAR, 6), entry(PVAR, 5)], 12, 6, 3)
+    ends("with the memory as given", [entry(SEQ, 0, 1, 2), entry(MATCH, 0, 6), entry(SEQ, 0, 3, 4), entry(BUILD, 0, 5), entry(BUILD, 0, 7),
+         entry(PCON, 9, 6), X, Y], 12, 1, 9, bound=[(30, 1)])
+    pcon = (16 * PCON + 1, 1, 0)
+    for last, answer in ((4093, 12), (4094, 8)):
+        five, _, _ = case("12 at nesting %d" % (last + 3),
+                          {0: entry(REC, 0, 1), 1: entry(LEFT, 0, 2, 4), 2: entry(CONG, 2, 3), 3: entry(CALL, 0, 0), 4: entry(BUILD, 0, 5),
+                           last: entry(PVAR, 3)},
+                          {4095: [2, 1, 4094]}, tlen=8 * (last + 1), mark=4096, fill=3, head=pcon, units=9000, slen=8 * 8200)
+        assert five[:2] == [answer, 3 if answer == 12 else 0], five
 
 
 def limits():
@@ -382,7 +429,7 @@ def table_of(rng, n):
 
 def random_jobs():
     rng = random.Random(20261115)
-    wanted = {0: 70, 1: 40, 6: 25, 7: 25, 8: 10}
+    wanted = {0: 70, 1: 40, 6: 25, 7: 25, 8: 10, 12: 30}
     tried = 0
     while any(wanted.values()) and tried < 30000:
         tried += 1
@@ -426,5 +473,5 @@ def orderings():
 
 
 def write():
-    for part in (small_runs, refusals, needed, children, bindings, limits, deep, full, orderings, random_jobs):
+    for part in (small_runs, refusals, needed, children, bindings, unbound, limits, deep, full, orderings, random_jobs):
         part()

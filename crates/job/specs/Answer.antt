@@ -1,4 +1,4 @@
--- The text of an answer: `answer` and five numbers; for 0, 1, 6, 7 and 8 also the `n` lines of the nodes below the mark
+-- The text of an answer: `answer` and five numbers; for 0, 1, 6, 7, 8 and 12 also the `n` lines of the nodes below the mark
 -- and the `b` lines of the bound variables, rising.
 use mathlib.Core.Bool.{Bool, _&&_, _||_}
 use mathlib.Core.List.{List, [], _∷_, _++_}
@@ -42,7 +42,7 @@ bindingLines b (suc v) = bindingLines b v ++ bindingLine b v
 
 -- the answers that show what is left
 unfoldable pub shown : ℕ → Bool
-shown a = leb a 1 || (leb 6 a && leb a 8)
+shown a = leb a 1 || ((leb 6 a && leb a 8) || eqb a 12)
 
 -- `answer`
 abbrev pub answerName : List ℕ

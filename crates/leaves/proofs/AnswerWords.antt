@@ -10,14 +10,14 @@ use borrow.Author.Tests.{ne-eqb, eqb-true, eqb-false, lt-ltb, le-ltb, ltb-true}
 use denote.Enum.Declared.{tagOf}
 use Rattle.words.specs.Tests.{if_then_else_}
 use Rattle.meaning.specs.Bindings.{Bindings}
-use Rattle.meaning.specs.Limits.{Limit, units, room, nesting, ended, lost, cut}
+use Rattle.meaning.specs.Limits.{Limit, units, room, nesting, unbound, ended, lost, cut}
 use Rattle.leaves.specs.Noted.{on, Ran, leftWords}
 use Rattle.leaves.proofs.answers.Answer.{the-type}
 use Rattle.leaves.specs.declared.answers.Answer.{Answer}
 use Rattle.leaves.specs.declared.answers.Answer.the-variants.{Done, Failed, Cut}
 use Rattle.leaves.specs.declared.answers.Attempt.{Attempt}
 use Rattle.leaves.specs.declared.answers.Attempt.the-variants.{Ended, Cut as Off}
-use Rattle.leaves.specs.Answers.{packed, nodeIn, unitsIn, failedWord, unitsWord, roomWord, nestingWord, stoppedWord, answerOf, attemptOf}
+use Rattle.leaves.specs.Answers.{packed, nodeIn, unitsIn, failedHalf, cutHalf, unitsHalf, roomHalf, nestingHalf, failedWord, unboundWord, unitsWord, roomWord, nestingWord, stoppedWord, answerOf, attemptOf}
 use Rattle.leaves.specs.Record.{markOf, held}
 use Rattle.leaves.specs.Visits.{limitOf, meaning, out, giving, kept}
 
@@ -32,20 +32,21 @@ pub packed-again : (g : ℕ) → packed (nodeIn g) (unitsIn g) ≡ g
 packed-again g = omega arith
 
 -- what each word tells
-pub answer-done : (x u : ℕ) → x < 4294967292 → u < 4294967296 → answerOf (packed x u) ≡ Done x u
+pub answer-done : (x u : ℕ) → x < failedHalf → u < 4294967296 → answerOf (packed x u) ≡ Done x u
 unfolding answerOf
-answer-done x u h l = rw (node-packed x u l, units-packed x u l, ne-eqb x 4294967295 (λ e. omega arith), lt-ltb x 4294967292 h)
+answer-done x u h l = rw (node-packed x u l, units-packed x u l, lt-ltb x failedHalf h)
 
 pub answer-failed : (u : ℕ) → u < 4294967296 → answerOf (failedWord u) ≡ Failed u
 unfolding answerOf
-answer-failed u l =
-    let n : nodeIn (failedWord u) ≡ 4294967295 = omega arith in
-    let v : unitsIn (failedWord u) ≡ u = omega arith in
-    rw (n, v)
+answer-failed u l = rw (node-packed failedHalf u l, units-packed failedHalf u l)
 
-answer-cut : (c : ℕ) → 4294967292 ≤ nodeIn c → (nodeIn c ≡ 4294967295 → ⊥) → answerOf c ≡ Cut c
+answer-cut : (c : ℕ) → cutHalf ≤ nodeIn c → answerOf c ≡ Cut c
 unfolding answerOf
-answer-cut c h n = rw (ne-eqb (nodeIn c) 4294967295 n, le-ltb (nodeIn c) 4294967292 h)
+answer-cut c h = rw (le-ltb (nodeIn c) failedHalf (omega arith), le-ltb (nodeIn c) cutHalf h)
+
+-- the word of a cut-off with the upper half x
+cut-packed : (x u : ℕ) → cutHalf ≤ x → u < 4294967296 → answerOf (packed x u) ≡ Cut (packed x u)
+cut-packed x u h l = answer-cut (packed x u) (omega arith)
 
 -- no nesting is left: the units' word where none are left, else the nesting's; a cut-off in both cases
 pub stopped-units : (u : ℕ) → u ≡ 0 → stoppedWord u ≡ unitsWord
@@ -60,12 +61,12 @@ pub answer-stopped : (u : ℕ) → u < 4294967296 → answerOf (stoppedWord u) �
 answer-stopped u l = go (eqb u 0) refl
   where
     go : (b : Bool) → eqb u 0 ≡ b → answerOf (stoppedWord u) ≡ Cut (stoppedWord u)
-    go true h = rw (stopped-units u (eqb-true u 0 h)) (answer-cut unitsWord (omega arith) (λ e. omega arith))
-    go false h = rw (stopped-nesting u (eqb-false u 0 h)) (answer-cut (nestingWord u) (omega arith) (λ e. omega arith))
+    go true h = rw (stopped-units u (eqb-true u 0 h)) (cut-packed unitsHalf 0 (omega arith) (omega arith))
+    go false h = rw (stopped-nesting u (eqb-false u 0 h)) (cut-packed nestingHalf u (omega arith) l)
 
 -- what an answer's word says with record and store
 module _ (st w : List ℕ) where
-  pub out-done : (x u : ℕ) → x < 4294967292 → u < 4294967296 → out (packed x u) st w ≡ ended x (held st) (on w (markOf st)) u
+  pub out-done : (x u : ℕ) → x < failedHalf → u < 4294967296 → out (packed x u) st w ≡ ended x (held st) (on w (markOf st)) u
   unfolding out meaning
   out-done x u h l = rw (answer-done x u h l)
 
@@ -86,17 +87,17 @@ module _ (st w : List ℕ) where
 
   pub out-room : (u : ℕ) → u < 4294967296 → out (roomWord u) st w ≡ cut room (leftWords w) u
   unfolding out meaning limitOf
-  out-room u l =
-      let n : nodeIn (roomWord u) ≡ 4294967293 = omega arith in
-      let v : unitsIn (roomWord u) ≡ u = omega arith in
-      rw (answer-cut (roomWord u) (omega arith) (λ e. omega arith), n, v)
+  out-room u l = rw (cut-packed roomHalf u (omega arith) l, node-packed roomHalf u l, units-packed roomHalf u l)
 
   pub out-nesting : (u : ℕ) → u < 4294967296 → out (nestingWord u) st w ≡ cut nesting (leftWords w) u
   unfolding out meaning limitOf
-  out-nesting u l =
-      let n : nodeIn (nestingWord u) ≡ 4294967292 = omega arith in
-      let v : unitsIn (nestingWord u) ≡ u = omega arith in
-      rw (answer-cut (nestingWord u) (omega arith) (λ e. omega arith), n, v)
+  out-nesting u l = rw (cut-packed nestingHalf u (omega arith) l, node-packed nestingHalf u l, units-packed nestingHalf u l)
+
+  pub out-unbound : (v u : ℕ) → v < 64 → u < 4294967296 → out (unboundWord v u) st w ≡ cut (unbound v) (leftWords w) u
+  unfolding out meaning limitOf
+  out-unbound v u h l =
+      let m : (cutHalf + v) % 64 ≡ v = omega arith in
+      rw (cut-packed (cutHalf + v) u (omega arith) l, node-packed (cutHalf + v) u l, units-packed (cutHalf + v) u l, lt-ltb (cutHalf + v) unitsHalf (omega arith), m)
 
   -- an answer that was read
   pub out-answer : (r : ℕ) (a : Answer) → a ≡ answerOf r → out r st w ≡ meaning a st w
@@ -105,7 +106,7 @@ module _ (st w : List ℕ) where
 
   -- where only the units count
   module _ (k : ℕ) (b : Bindings ℕ) (m : ℕ) where
-    pub kept-done : (x u : ℕ) → x < 4294967292 → u < 4294967296 → kept (packed x u) k b w m ≡ ended k b (on w m) u
+    pub kept-done : (x u : ℕ) → x < failedHalf → u < 4294967296 → kept (packed x u) k b w m ≡ ended k b (on w m) u
     unfolding kept giving
     kept-done x u h l = rw (answer-done x u h l)
 
@@ -119,32 +120,29 @@ module _ (st w : List ℕ) where
 
     pub kept-nesting : (u : ℕ) → u < 4294967296 → kept (nestingWord u) k b w m ≡ cut nesting (leftWords w) u
     unfolding kept giving limitOf
-    kept-nesting u l =
-        let n : nodeIn (nestingWord u) ≡ 4294967292 = omega arith in
-        let v : unitsIn (nestingWord u) ≡ u = omega arith in
-        rw (answer-cut (nestingWord u) (omega arith) (λ e. omega arith), n, v)
+    kept-nesting u l = rw (cut-packed nestingHalf u (omega arith) l, node-packed nestingHalf u l, units-packed nestingHalf u l)
 
     pub kept-answer : (r : ℕ) (a : Answer) → a ≡ answerOf r → kept r k b w m ≡ giving a k b w m
     unfolding kept
     kept-answer r a e = rw e
 
--- the units of a word that was read are below 2³², and so is a done node below the four highest
-pub done-node : (r x u : ℕ) → answerOf r ≡ Done x u → (x ≡ nodeIn r) × (u ≡ unitsIn r) × (x < 4294967292)
+-- the units of a word that was read are below 2³², and a done node is below the upper half of failed
+pub done-node : (r x u : ℕ) → answerOf r ≡ Done x u → (x ≡ nodeIn r) × (u ≡ unitsIn r) × (x < failedHalf)
 unfolding answerOf
-done-node r x u e = go (eqb (nodeIn r) 4294967295) (ltb (nodeIn r) 4294967292) refl e
+done-node r x u e = go (ltb (nodeIn r) failedHalf) refl (ltb (nodeIn r) cutHalf) e
   where
-    go : (t s : Bool) → ltb (nodeIn r) 4294967292 ≡ s → (if t then Failed (unitsIn r) else if s then Done (nodeIn r) (unitsIn r) else Cut r) ≡ Done x u → (x ≡ nodeIn r) × (u ≡ unitsIn r) × (x < 4294967292)
-    go true s f h = absurd (let z : _≡_ {A = ℕ} 0 1 = cc in omega arith)
-    go false true f h = let a : nodeIn r ≡ x = cc in let b : unitsIn r ≡ u = cc in (sym a, sym b, omega (arith, ltb-true (nodeIn r) 4294967292 f))
-    go false false f h = absurd (let z : _≡_ {A = ℕ} 0 1 = cc in omega arith)
+    go : (t : Bool) → ltb (nodeIn r) failedHalf ≡ t → (s : Bool) → (if t then Done (nodeIn r) (unitsIn r) else if s then Failed (unitsIn r) else Cut r) ≡ Done x u → (x ≡ nodeIn r) × (u ≡ unitsIn r) × (x < failedHalf)
+    go true f s h = let a : nodeIn r ≡ x = cc in let b : unitsIn r ≡ u = cc in (sym a, sym b, omega (arith, ltb-true (nodeIn r) failedHalf f))
+    go false f true h = absurd (let z : _≡_ {A = ℕ} 0 1 = cc in omega arith)
+    go false f false h = absurd (let z : _≡_ {A = ℕ} 0 1 = cc in omega arith)
 
 pub failed-units : (r u : ℕ) → answerOf r ≡ Failed u → u ≡ unitsIn r
 unfolding answerOf
-failed-units r u e = go (eqb (nodeIn r) 4294967295) (ltb (nodeIn r) 4294967292) e
+failed-units r u e = go (ltb (nodeIn r) failedHalf) (ltb (nodeIn r) cutHalf) e
   where
-    go : (t s : Bool) → (if t then Failed (unitsIn r) else if s then Done (nodeIn r) (unitsIn r) else Cut r) ≡ Failed u → u ≡ unitsIn r
-    go true s h = let b : unitsIn r ≡ u = cc in sym b
-    go false true h = absurd (let z : _≡_ {A = ℕ} 0 1 = cc in omega arith)
+    go : (t s : Bool) → (if t then Done (nodeIn r) (unitsIn r) else if s then Failed (unitsIn r) else Cut r) ≡ Failed u → u ≡ unitsIn r
+    go true s h = absurd (let z : _≡_ {A = ℕ} 0 1 = cc in omega arith)
+    go false true h = let b : unitsIn r ≡ u = cc in sym b
     go false false h = absurd (let z : _≡_ {A = ℕ} 0 1 = cc in omega arith)
 
 -- what was attempted, as what was read

@@ -12,22 +12,22 @@ use Rattle.checks.specs.Good.{kindOf, operandCount, argumentOf}
 use Rattle.meaning.specs.Bindings.{Bindings}
 use Rattle.meaning.specs.Table.{table, operands}
 use Rattle.meaning.specs.Plan.{ret, make}
-use Rattle.meaning.specs.Rules.{build, Do, does, building, given, walk}
+use Rattle.meaning.specs.Rules.{build, Do, does, building, needed, walk}
 use Rattle.meaning.specs.Limits.{room, roomFor, runPlan}
 use Rattle.meaning.specs.Store.{row}
 use Rattle.leaves.specs.Noted.{on, Ran}
 use Rattle.leaves.specs.declared.answers.Answer.{Answer}
 use Rattle.leaves.specs.declared.answers.Answer.the-variants.{Done}
-use Rattle.leaves.specs.Answers.{answerOf, packed, failedWord, roomWord}
+use Rattle.leaves.specs.Answers.{answerOf, packed, roomWord, unboundWord}
 use Rattle.leaves.specs.Record.{marking, recordLong, wordOf, markOf, maskOf, bitOf, held, Framed}
 use Rattle.leaves.specs.Visits.{visit, plan, out, noded, Entries, Steady, Roomy, Gives}
-use Rattle.leaves.proofs.AnswerWords.{out-done, out-failed, out-room}
+use Rattle.leaves.proofs.AnswerWords.{out-done, out-room, out-unbound}
 use Rattle.leaves.proofs.Asking.{Tagged}
 use Rattle.leaves.proofs.Kind.{counted, pattern-variable, pattern-con}
 use Rattle.leaves.proofs.Keeping.{build-leaves, steady-after, node-small, leaves-done}
 use Rattle.leaves.proofs.Holding.{framed-refl, framed-trans, framed-mark, held-mark, mark-marking, held-some, held-none}
 use Rattle.leaves.proofs.Children.{part-next, part-end, filled, filled-next, filled-row, one-more}
-use Rattle.leaves.proofs.Walking.{walk-end, walk-on, walk-stop, returned, failing}
+use Rattle.leaves.proofs.Walking.{walk-end, walk-on, walk-stop, returned}
 
 -- a new node of the eight words made
 module _ (made st w : List ℕ) (u r : ℕ) (s : Roomy w (markOf st)) (l : u < 4294967296) where
@@ -76,12 +76,12 @@ module _ (t : List ℕ) (n p : ℕ) (w st : List ℕ) (u : ℕ) (h : u ≡ 0 →
 
   -- a variable
   module _ (v : ℕ) (kind : kindOf t p ≡ 18) (ve : v ≡ argumentOf t p) (k r : ℕ) (l : u < 4294967296) where
-    at-variable : visit t n (build p k (held st)) w (markOf st) u ≡ plan t (n - 1) (given (held st v) (λ g. ret g (held st))) w (markOf st) (u - 1)
+    at-variable : visit t n (build p k (held st)) w (markOf st) u ≡ plan t (n - 1) (needed v (held st v) (λ g. ret g (held st))) w (markOf st) (u - 1)
     unfolding building
     at-variable = opened k ∙ rw (pattern-variable t p kind, ve)
 
     pub variable-built : Steady w (markOf st) (held st) → v < variables → bitOf (maskOf st) v ≡ 1 → {y : ℕ} → y ≡ wordOf st v → r ≡ packed y (u - 1) → Gives (visit t n (build p k (held st)) w (markOf st) u) st r st w
-    unfolding given
+    unfolding needed
     variable-built s small b ye e =
         let j : held st v ≡ some (wordOf st v) = held-some st v small b in
         let x : wordOf st v < 131072 = node-small s _ (s .bound v _ j) in
@@ -92,13 +92,13 @@ module _ (t : List ℕ) (n p : ℕ) (w st : List ℕ) (u : ℕ) (h : u ≡ 0 →
           frame = framed-refl st;
         }
 
-    pub variable-fails : (bitOf (maskOf st) v ≡ 1 → ⊥) → r ≡ failedWord (u - 1) → Gives (visit t n (build p k (held st)) w (markOf st) u) st r st w
-    unfolding given
-    variable-fails b e =
+    pub variable-unbound : v < variables → (bitOf (maskOf st) v ≡ 1 → ⊥) → r ≡ unboundWord v (u - 1) → Gives (visit t n (build p k (held st)) w (markOf st) u) st r st w
+    unfolding needed plan runPlan
+    variable-unbound small b e =
         record {
           is =
-              ap (λ r. out r st w) e ∙ out-failed st w (u - 1) (omega arith)
-              ∙ sym (at-variable ∙ rw (held-none st v b) (failing t (n - 1) w (markOf st) (u - 1)));
+              ap (λ r. out r st w) e ∙ out-unbound st w v (u - 1) (omega arith) (omega arith)
+              ∙ sym (at-variable ∙ rw (held-none st v b) refl);
           frame = framed-refl st;
         }
 

@@ -1,4 +1,5 @@
--- The answer of a visit in one word, and what it says.
+-- The answer of a visit in one word, and what it says. The word's upper half is a node below 2³¹; from there on it says failed,
+-- and from 3 × 2³⁰ on what cut the visit off. No store has so many nodes.
 use mathlib.Core.Bool.{Bool, true, false}
 use Prim.Native.Nat.{ℕ, _+_, _*_, _/_, _%_}
 use lib.Dec.{eqb, ltb}
@@ -18,18 +19,38 @@ nodeIn g = g / 4294967296
 abbrev pub unitsIn : ℕ → ℕ
 unitsIn g = g % 4294967296
 
+-- the least upper half of failed, and of a cut-off: the first 64 are for a variable to be built that has no binding, then comes
+-- one for each limit
+abbrev pub failedHalf : ℕ
+failedHalf = 2147483648
+
+abbrev pub cutHalf : ℕ
+cutHalf = 3221225472
+
+abbrev pub unitsHalf : ℕ
+unitsHalf = 3221225536
+
+abbrev pub roomHalf : ℕ
+roomHalf = 3221225537
+
+abbrev pub nestingHalf : ℕ
+nestingHalf = 3221225538
+
 -- the words of failed, and of each cut-off, with the units left
 abbrev pub failedWord : ℕ → ℕ
-failedWord u = 18446744069414584320 + u
+failedWord u = packed failedHalf u
+
+abbrev pub unboundWord : ℕ → ℕ → ℕ
+unboundWord v u = packed (cutHalf + v) u
 
 abbrev pub unitsWord : ℕ
-unitsWord = 18446744065119617024
+unitsWord = packed unitsHalf 0
 
 abbrev pub roomWord : ℕ → ℕ
-roomWord u = 18446744060824649728 + u
+roomWord u = packed roomHalf u
 
 abbrev pub nestingWord : ℕ → ℕ
-nestingWord u = 18446744056529682432 + u
+nestingWord u = packed nestingHalf u
 
 -- the word of a visit for which no nesting is left: units are tested first
 unfoldable pub stoppedWord : ℕ → ℕ
@@ -38,8 +59,8 @@ stoppedWord u = if eqb u 0 then unitsWord else nestingWord u
 -- the word read
 unfoldable pub answerOf : ℕ → Answer
 answerOf r =
-    if eqb (nodeIn r) 4294967295 then Failed (unitsIn r)
-    else if ltb (nodeIn r) 4294967292 then Done (nodeIn r) (unitsIn r)
+    if ltb (nodeIn r) failedHalf then Done (nodeIn r) (unitsIn r)
+    else if ltb (nodeIn r) cutHalf then Failed (unitsIn r)
     else Cut r
 
 -- success and failure in one

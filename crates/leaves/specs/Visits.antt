@@ -5,7 +5,7 @@ use mathlib.Core.Option.{some}
 use mathlib.Core.Logic.{_⊎_}
 use mathlib.Core.List.{List, [], _∷_}
 use Prim.Native.Nat.{ℕ, _+_, _-_, _%_, _≤_, _<_, min}
-use lib.Dec.{eqb, leb}
+use lib.Dec.{eqb, leb, ltb}
 use lib.ListN.{length}
 use Rattle.words.specs.Words.{wordAt, rows, putRow}
 use Rattle.words.specs.Tests.{if_then_else_}
@@ -15,12 +15,12 @@ use Rattle.meaning.specs.Bindings.{Bindings}
 use Rattle.meaning.specs.Table.{table, operands}
 use Rattle.meaning.specs.Plan.{ret}
 use Rattle.meaning.specs.Rules.{Visit, build, compare, match, Do, does, strategy, walk, zip}
-use Rattle.meaning.specs.Limits.{Limit, units, room, nesting, ended, lost, cut, run, runPlan, roomFor}
+use Rattle.meaning.specs.Limits.{Limit, units, room, nesting, unbound, ended, lost, cut, run, runPlan, roomFor}
 use Rattle.meaning.specs.Store.{children}
 use Rattle.leaves.specs.Noted.{on, stored, Ran, leftWords}
 use Rattle.leaves.specs.declared.answers.Answer.{Answer}
 use Rattle.leaves.specs.declared.answers.Answer.the-variants.{Done, Failed, Cut}
-use Rattle.leaves.specs.Answers.{answerOf, nodeIn, unitsIn}
+use Rattle.leaves.specs.Answers.{answerOf, nodeIn, unitsIn, unitsHalf, roomHalf}
 use Rattle.leaves.specs.Record.{recordLong, markOf, held, Framed}
 
 -- a node's child count, read as at most 6; its eight words
@@ -45,9 +45,13 @@ plan t n p w m u = runPlan stored (run stored (does (table t)) n) p (on w m) u
 abbrev pub ruled : List ℕ → ℕ → ℕ → ℕ → Bindings ℕ → List ℕ → ℕ → ℕ → Ran
 ruled t n e k b w m u = plan t n (strategy (table t .strategies e) k b) w m u
 
--- the limit that a cut-off's word names
+-- what a cut-off's word names: the variable that has no binding, or the limit
 unfoldable pub limitOf : ℕ → Limit
-limitOf c = if eqb (nodeIn c) 4294967294 then units else if eqb (nodeIn c) 4294967293 then room else nesting
+limitOf c =
+    if ltb (nodeIn c) unitsHalf then unbound (nodeIn c % 64)
+    else if eqb (nodeIn c) unitsHalf then units
+    else if eqb (nodeIn c) roomHalf then room
+    else nesting
 
 -- an answer with the record and the store at its return
 unfoldable pub meaning : Answer → List ℕ → List ℕ → Ran

@@ -1,8 +1,8 @@
-// A new node at the mark, and the builder: nodes after their children, left to right.
+// A new node at the mark, and the builder: nodes after their children, left to right. A variable without its binding ends the run.
 use crate::answers::Answer;
 use crate::answers::answer_of;
 use crate::answers::done;
-use crate::answers::failure;
+use crate::answers::no_binding;
 use crate::answers::no_nesting;
 use crate::answers::no_room;
 use crate::answers::no_units;
@@ -60,7 +60,7 @@ pub fn build(
         if bit(st[MASK], v) == 1 {
             return done(word_of(st, v), left);
         }
-        return failure(left);
+        return no_binding(v, left);
     }
     let n = operands(table, p);
     let mut made = [entry(table, p, 1), n, 0, 0, 0, 0, 0, 0];

@@ -19,16 +19,17 @@ use Rattle.checks.specs.Good.{goodEntry, goodNode}
 use Rattle.checks.specs.Checked.{checked, found, tableLengthFits, storeLengthFits, tableChecked, storeChecked}
 use Rattle.checks.proofs.Promises.{tablePasses, neverThree}
 use Rattle.meaning.specs.Bindings.{Bindings, has}
-use Rattle.meaning.specs.Beginning.{Given}
+use Rattle.meaning.specs.Beginning.{at-unbound, Begun, Given}
+use Rattle.meaning.specs.Plan.{keep, ret, fail, ask}
 use Rattle.meaning.specs.Free.{Closed}
 use Rattle.meaning.specs.Term.{Term}
 use Rattle.meaning.specs.Table.{SEQ, Table, table}
-use Rattle.meaning.specs.Rules.{apply}
+use Rattle.meaning.specs.Rules.{Visit, apply}
 use Rattle.meaning.specs.Derivation.{Out, quiet}
 use Rattle.meaning.specs.System.{Env, _∶_is_, _⊢_⇒_}
-use Rattle.meaning.specs.Limits.{Limit, units, room, nesting, ended, lost, cut, at as counted-at}
+use Rattle.meaning.specs.Limits.{Limit, units, room, nesting, unbound as without-binding, ended, lost, cut, at as counted-at}
 use Rattle.meaning.specs.Store.{Input, Accepted, Kept, Sound, Leaves, named, bindings, term, termOf, meant, value, ran}
-use Rattle.meaning.specs.Answer.{Returned, number, bindingWord, bindingWords, returned}
+use Rattle.meaning.specs.Answer.{Returned, number, placeOf, bindingWord, bindingWords, returned}
 use Rattle.meaning.specs.Demands.{Says, limits, startVisit, Agreed, started}
 use Rattle.meaning.proofs.Tests.{impossible}
 use Rattle.meaning.proofs.Checked.{Filled, node-of-good}
@@ -46,7 +47,7 @@ use Rattle.free.proofs.Promises.{neverThree as freeNeverThree}
 use Rattle.marshtrundle.specs.Refused.{sizesFit, startFits, refused}
 use Rattle.marshtrundle.specs.Run.{input, atReturn, refusing, runOf}
 use Rattle.marshtrundle.specs.Promises as promises
-use Rattle.marshtrundle.specs.Promises.{Runs, AsGiven, Ended, Told, SizesFit, EntriesGood, NodesGood, StartFits, Refusal, of-sizes, of-entry, of-node, of-start, InList, when-done, when-failed, when-refused, when-cut-off}
+use Rattle.marshtrundle.specs.Promises.{Runs, AsGiven, Ended, Told, SizesFit, EntriesGood, NodesGood, StartFits, Refusal, of-sizes, of-entry, of-node, of-start, InList, when-done, when-failed, when-refused, when-cut-off, when-unbound}
 use Rattle.marshtrundle.specs.declared.running.Outcome.{Outcome}
 use Rattle.marshtrundle.proofs.Accepting.{verdict, accepted-answer, accepted-back}
 use Rattle.marshtrundle.proofs.Accepting as accepting
@@ -86,13 +87,23 @@ module _ (i : Input) where
   turned-away e = rw e
 
 -- a run's own answers
-of-run : (i : Input) (r : Ran) → (returned i r .answer ≤ 1) ⊎ ((6 ≤ returned i r .answer) × (returned i r .answer ≤ 8))
+abbrev OfRun : ℕ → Type 0
+OfRun n = (n ≤ 1) ⊎ (((6 ≤ n) × (n ≤ 8)) ⊎ (n ≡ 12))
+
+of-run : (i : Input) (r : Ran) → OfRun (returned i r .answer)
 unfolding returned number
 of-run i (ended k b s u) = inl (omega arith)
 of-run i (lost w u) = inl (omega arith)
-of-run i (cut units w u) = inr (omega arith, omega arith)
-of-run i (cut room w u) = inr (omega arith, omega arith)
-of-run i (cut nesting w u) = inr (omega arith, omega arith)
+of-run i (cut units w u) = inr (inl (omega arith, omega arith))
+of-run i (cut room w u) = inr (inl (omega arith, omega arith))
+of-run i (cut nesting w u) = inr (inl (omega arith, omega arith))
+of-run i (cut (without-binding v) w u) = inr (inr refl)
+
+-- none from 2 to 5 is, and none above 12
+not-of-run : (n : ℕ) → 1 < n → (n < 6) ⊎ (12 < n) → OfRun n → ⊥
+not-of-run n l m =
+    ⊎-elim (λ h. omega arith)
+    (⊎-elim (λ h. ⊎-elim (λ k. omega (arith, h .0)) (λ k. omega (arith, h .1)) m) (λ h. ⊎-elim (λ k. omega arith) (λ k. omega arith) m))
 
 -- they are in the list, and none is a refusal's
 listed-ran : (i : Input) (r : Ran) → InList (returned i r .answer)
@@ -102,12 +113,13 @@ listed-ran i (lost w u) = when-failed
 listed-ran i (cut units w u) = when-cut-off 6 (omega arith) (omega arith)
 listed-ran i (cut room w u) = when-cut-off 7 (omega arith) (omega arith)
 listed-ran i (cut nesting w u) = when-cut-off 8 (omega arith) (omega arith)
+listed-ran i (cut (without-binding v) w u) = when-unbound
 
-refusal-not-ran : (n : ℕ) → Refusal n → (n ≤ 1) ⊎ ((6 ≤ n) × (n ≤ 8)) → ⊥
-refusal-not-ran n of-sizes z = ⊎-elim (λ l. omega arith) (λ l. omega (arith, l .0)) z
-refusal-not-ran n (of-entry m k l) z = ⊎-elim (λ l. omega arith) (λ l. omega (arith, l .1)) z
-refusal-not-ran n of-node z = ⊎-elim (λ l. omega arith) (λ l. omega (arith, l .0)) z
-refusal-not-ran n of-start z = ⊎-elim (λ l. omega arith) (λ l. omega (arith, l .0)) z
+refusal-not-ran : (n : ℕ) → Refusal n → OfRun n → ⊥
+refusal-not-ran n of-sizes = not-of-run 2 (omega arith) (inl (omega arith))
+refusal-not-ran n (of-entry m k l) = not-of-run m (omega arith) (inr k)
+refusal-not-ran n of-node = not-of-run 4 (omega arith) (inl (omega arith))
+refusal-not-ran n of-start = not-of-run 5 (omega arith) (inl (omega arith))
 
 refusal-not-three : (n : ℕ) → Refusal n → n ≢ 3
 refusal-not-three n of-sizes e = omega arith
@@ -126,8 +138,8 @@ module _ (i : Input) (o : Outcome) (s b : List ℕ) (p : Runs i o s b) where
   answer-of : {r : Returned} → atReturn o s b ≡ r → o .answer ≡ r .answer
   answer-of e = ap (λ (r : Returned). r .answer) e
 
-  ran-answer : Accepted i → (o .answer ≤ 1) ⊎ ((6 ≤ o .answer) × (o .answer ≤ 8))
-  ran-answer a = subst (λ n. (n ≤ 1) ⊎ ((6 ≤ n) × (n ≤ 8))) (sym (answer-of (came a))) (of-run i (ran quiet tt i))
+  ran-answer : Accepted i → OfRun (o .answer)
+  ran-answer a = subst OfRun (sym (answer-of (came a))) (of-run i (ran quiet tt i))
 
   refused-answer : eqb (verdict i .answer) 0 ≡ false → Refusal (o .answer)
   refused-answer e = subst Refusal (sym (answer-of (refused-came e))) (accepting.verdict-refusal i e)
@@ -143,22 +155,24 @@ module _ (i : Input) (o : Outcome) (s b : List ℕ) (p : Runs i o s b) where
 
   not-three : o .answer ≢ 3
   not-three h =
-      ⊎-elim (λ a. ⊎-elim (λ l. omega arith) (λ l. omega (arith, l .0)) (ran-answer a)) (λ e. refusal-not-three (o .answer) (refused-answer e) h)
-      (judged i)
+      ⊎-elim (λ a. not-of-run (o .answer) (omega arith) (inl (omega arith)) (ran-answer a)) (λ e. refusal-not-three (o .answer) (refused-answer e) h) (judged i)
 
--- a run's own answers have place 0
-ran-place : (i : Input) (r : Ran) → returned i r .place ≡ 0
-unfolding returned
-ran-place i (ended k b s u) = refl
-ran-place i (lost w u) = refl
-ran-place i (cut c w u) = refl
+-- a run's own answers below 12 have place 0
+ran-place : (i : Input) (r : Ran) → returned i r .answer < 12 → returned i r .place ≡ 0
+unfolding returned number placeOf
+ran-place i (ended k b s u) l = refl
+ran-place i (lost w u) l = refl
+ran-place i (cut units w u) l = refl
+ran-place i (cut room w u) l = refl
+ran-place i (cut nesting w u) l = refl
+ran-place i (cut (without-binding v) w u) l = absurd (omega arith)
 
 module _ (i : Input) (o : Outcome) (s b : List ℕ) (p : Runs i o s b) where
   -- a refusal's answer and place are the verdict's
-  by-verdict : (n k : ℕ) → 1 < n → (n < 6) ⊎ (8 < n) → ((o .answer ≡ n) × (o .place ≡ k)) ↔ (verdict i ≡ checked n k)
+  by-verdict : (n k : ℕ) → 1 < n → (n < 6) ⊎ (12 < n) → ((o .answer ≡ n) × (o .place ≡ k)) ↔ (verdict i ≡ checked n k)
   by-verdict n k l m = (
     λ e.
-        ⊎-elim (λ a. absurd (⊎-elim (λ h. omega (arith, e .0)) (λ h. ⊎-elim (λ z. omega (arith, e .0, h .0)) (λ z. omega (arith, e .0, h .1)) m) (ran-answer i o s b p a)))
+        ⊎-elim (λ a. absurd (not-of-run n l m (subst OfRun (e .0) (ran-answer i o s b p a))))
         (λ z. let w : atReturn o s b ≡ refusing i (verdict i) = refused-came i o s b p z in
         let x : verdict i .answer ≡ n = sym (ap (λ (r : Returned). r .answer) w) ∙ e .0 in
         let y : verdict i .place ≡ k = sym (ap (λ (r : Returned). r .place) w) ∙ e .1 in
@@ -184,9 +198,9 @@ module _ (i : Input) (o : Outcome) (s b : List ℕ) (p : Runs i o s b) where
     λ f. by-verdict 5 0 (omega arith) (inl (omega arith)) .1 (accepting.refused-start i 0 .1 (f .0, (f .1, (f .2, (refl, f .3))))) .0,
   )
 
-  unplaced : o .answer ≢ 4 → o .answer ≤ 12 → o .place ≡ 0
+  unplaced : o .answer ≢ 4 → o .answer < 12 → o .place ≡ 0
   unplaced m n =
-      ⊎-elim (λ a. ap (λ (r : Returned). r .place) (came i o s b p a) ∙ ran-place i (ran quiet tt i))
+      ⊎-elim (λ a. let e = came i o s b p a in ap (λ (r : Returned). r .place) e ∙ ran-place i (ran quiet tt i) (omega (arith, ap (λ (r : Returned). r .answer) e)))
       (λ z. let w : atReturn o s b ≡ refusing i (verdict i) = refused-came i o s b p z in
       let x : o .answer ≡ verdict i .answer = ap (λ (r : Returned). r .answer) w in
       ap (λ (r : Returned). r .place) w ∙ accepting.verdict-placed i (λ e. m (x ∙ e)) (omega (arith, x)))
@@ -354,29 +368,32 @@ module _ (i : Input) (a : Accepted i) where
         omega arith,
       )
   told-ran (lost w u) e = let n : u ≤ i .units = subst (λ (r : Ran). unitsLeft r ≤ i .units) e (units-left i) in (refl, omega arith)
-  told-ran (cut c w u) e = let n : u ≤ i .units = subst (λ (r : Ran). unitsLeft r ≤ i .units) e (units-left i) in (refl, omega arith)
+  told-ran (cut c w u) e = let n : u ≤ i .units = subst (λ (r : Ran). unitsLeft r ≤ i .units) e (units-left i) in (refl, refl, omega arith)
 
   came-told : (o : Outcome) (s b : List ℕ) → Runs i o s b → Told i (atReturn o s b) (value (ran quiet tt i))
   came-told o s b p = subst (λ (r : Returned). Told i r (value (ran quiet tt i))) (sym (came i o s b p a)) (told-ran (ran quiet tt i) refl)
 
--- a cut-off's number is its own
+-- a cut-off's number is above those of done and failed
 number-above : (c : Limit) → 6 ≤ number c
 unfolding number
 number-above units = omega arith
 number-above room = omega arith
 number-above nesting = omega arith
+number-above (without-binding v) = omega arith
 
-numbers : (c d : Limit) → number c ≡ number d → c ≡ d
-unfolding number
-numbers units units e = refl
-numbers units room e = absurd (omega arith)
-numbers units nesting e = absurd (omega arith)
-numbers room units e = absurd (omega arith)
-numbers room room e = refl
-numbers room nesting e = absurd (omega arith)
-numbers nesting units e = absurd (omega arith)
-numbers nesting room e = absurd (omega arith)
-numbers nesting nesting e = refl
+-- its number and its place are its own: this is what they name
+limit-at : ℕ → ℕ → Limit
+limit-at n p = if eqb n 6 then units else if eqb n 7 then room else if eqb n 8 then nesting else without-binding p
+
+limit-named : (c : Limit) → limit-at (number c) (placeOf c) ≡ c
+unfolding limit-at number placeOf
+limit-named units = refl
+limit-named room = refl
+limit-named nesting = refl
+limit-named (without-binding v) = refl
+
+one-limit : (c d : Limit) → number c ≡ number d → placeOf c ≡ placeOf d → c ≡ d
+one-limit c d e f = sym (limit-named c) ∙ (λ j. limit-at (e j) (f j)) ∙ limit-named d
 
 -- what comes back says one thing
 one-told : (i : Input) (x : Returned) (r r′ : Ended) → Told i x r → Told i x r′ → r ≡ r′
@@ -391,7 +408,7 @@ one-told i x (lost l u) (cut d l′ u′) h k = absurd (omega (arith, h .0, k .0
 one-told i x (cut d l u) (ended t c m u′) h k = absurd (omega (arith, h .0, k .0, number-above d))
 one-told i x (cut d l u) (lost l′ u′) h k = absurd (omega (arith, h .0, k .0, number-above d))
 one-told i x (cut d l u) (cut d′ l′ u′) h k =
-    let n : u ≡ u′ = omega (arith, h .1, k .1) in λ j. cut (numbers d d′ (sym (h .0) ∙ k .0) j) tt (n j)
+    let n : u ≡ u′ = omega (arith, h .2, k .2) in λ j. cut (one-limit d d′ (sym (h .0) ∙ k .0) (sym (h .1) ∙ k .1) j) tt (n j)
 
 module _ (i : Input) (a : Accepted i) (o : Outcome) (s b : List ℕ) (p : Runs i o s b) where
   -- what comes back says r exactly where the run over the words ends so
@@ -406,6 +423,24 @@ demand-2 i o s b a p r =
     let f = told-is i a o s b p r in
     let g = meant-demands.demand-2 (Unit {0}) quiet tt i a r in
     (λ h. g .0 (f .0 h), λ k. f .1 (g .1 k))
+
+-- what answers 12 says that a variable without its binding was met
+unbound-said : (T : Table) (g : Given) (q : Visit Term) (i : Input) (x : Returned) (r : Ended) → Told i x r → x .answer ≡ 12 → Says quiet tt T g q r
+    → (v : ℕ) × Begun T (ask keep q ret fail) (at-unbound v)
+unfolding number
+unbound-said T g q i x (ended t c m u) h e s = absurd (omega (arith, h .0, e))
+unbound-said T g q i x (lost l u) h e s = absurd (omega (arith, h .0, e))
+unbound-said T g q i x (cut units l u) h e s = absurd (omega (arith, h .0, e))
+unbound-said T g q i x (cut room l u) h e s = absurd (omega (arith, h .0, e))
+unbound-said T g q i x (cut nesting l u) h e s = absurd (omega (arith, h .0, e))
+unbound-said T g q i x (cut (without-binding v) l u) h e s = (v, s .0)
+
+pub unbound-underivable : promises.Unbound-underivable
+unbound-underivable i o s b a p e x d =
+    let r = value (ran quiet tt i) in
+    let h = came-told i a o s b p in
+    let (v, w) = unbound-said (table (i .table)) (limits i) (startVisit i) i (atReturn o s b) r h e (demand-2 i o s b a p r .0 h) in
+    meant-demands.unbound-underivable (table (i .table)) (startVisit i) v w x d
 
 -- ---- demand 3
 

@@ -7,7 +7,7 @@ use Prim.Native.Nat.{ℕ, zero, suc, _+_, _-_, _*_, _/_, _%_, _≤_, _<_}
 use native.Mathlib.Omega.{arith}
 use lib.Dec.{eqb}
 use lib.ListN.{length, getD}
-use borrow.Author.Tests.{eq-eqb, ne-eqb}
+use borrow.Author.Tests.{eq-eqb, ne-eqb, lt-ltb, le-ltb}
 use Rattle.checks.specs.Kinds.{variables}
 use Rattle.words.specs.Words.{rows, clearedFrom}
 use Rattle.words.specs.Tests.{if_then_else_}
@@ -20,17 +20,17 @@ use Rattle.checks.proofs.Promises.{tablePasses, storePasses}
 use Rattle.meaning.specs.Bindings.{Bindings}
 use Rattle.meaning.specs.Table.{Table, table}
 use Rattle.meaning.specs.Rules.{apply, does}
-use Rattle.meaning.specs.Limits.{Limit, units, room, nesting, ended, lost, cut, run}
+use Rattle.meaning.specs.Limits.{Limit, units, room, nesting, unbound, ended, lost, cut, run}
 use Rattle.meaning.specs.Derivation.{quiet}
 use Rattle.meaning.specs.Store.{Input, Accepted, named, bindings, ran, deepest}
-use Rattle.meaning.specs.Answer.{number, bindingWords, returned}
+use Rattle.meaning.specs.Answer.{number, placeOf, bindingWords, returned}
 use Rattle.meaning.specs.Demands.{Leaves}
 use Rattle.meaning.proofs.Tests.{impossible}
 use Rattle.meaning.proofs.Falling.{unitsLeft, units-fall}
 use Rattle.meaning.proofs.Demands.{over-the-words}
 use Rattle.leaves.specs.declared.answers.Answer.{Answer}
 use Rattle.leaves.specs.declared.answers.Answer.the-variants.{Done, Failed, Cut}
-use Rattle.leaves.specs.Answers.{packed, nodeIn, unitsIn, answerOf}
+use Rattle.leaves.specs.Answers.{packed, nodeIn, unitsIn, unitsHalf, roomHalf, answerOf}
 use Rattle.leaves.specs.Noted.{State, Ran, on, leftWords, stored}
 use Rattle.leaves.specs.Record.{markOf, held}
 use Rattle.leaves.specs.Visits.{visit, limitOf, meaning, out, Entries, Steady, Gives}
@@ -38,7 +38,7 @@ use Rattle.cycle.specs.Cycle.{Hinted, Ready}
 use Rattle.leaves.proofs.AnswerWords.{node-packed, units-packed, out-answer}
 use Rattle.marshtrundle.specs.Loaded.{Loaded, Opened}
 use Rattle.marshtrundle.specs.Refused.{refused}
-use Rattle.marshtrundle.specs.Run.{atReturn, refusing, runOf, cutNumber, numbers, wordsOf, Ends}
+use Rattle.marshtrundle.specs.Run.{atReturn, refusing, runOf, cutNumber, cutPlace, numbers, wordsOf, Ends}
 use Rattle.marshtrundle.specs.declared.running.Outcome.{Outcome}
 
 -- the units that a run has left are not more than it was given
@@ -148,9 +148,9 @@ module _ (c w st : List ℕ) (e k u : ℕ) (few : u < 4294967296) (got : ℕ) (g
     unfolding unitsLeft
     cut-left = subst (λ r. unitsLeft r ≤ u) is-cut few-left
 
-    pub cut-ends : (n : ℕ) → n ≡ cutNumber d → Ends ends k (markOf st) u (record { answer = n; place = 0; subject = k; mark = markOf st; units = u - unitsIn d }) st′ w′
+    pub cut-ends : (n p : ℕ) → n ≡ cutNumber d → p ≡ cutPlace d → Ends ends k (markOf st) u (record { answer = n; place = p; subject = k; mark = markOf st; units = u - unitsIn d }) st′ w′
     unfolding numbers wordsOf
-    cut-ends n z = record { numbers = rw (z, is-cut); words = rw is-cut; bound = λ y z b s f. impossible (let h = sym is-cut ∙ f in cc) }
+    cut-ends n p z y = record { numbers = rw (z, y, is-cut); words = rw is-cut; bound = λ y z b s f. impossible (let h = sym is-cut ∙ f in cc) }
 
 -- no limit's answer is 0
 limit-answer : (c : Limit) → 0 < number c
@@ -158,6 +158,7 @@ unfolding number
 limit-answer units = omega arith
 limit-answer room = omega arith
 limit-answer nesting = omega arith
+limit-answer (unbound v) = omega arith
 
 -- a run whose answer is 0 is done
 is-ended : (k m u : ℕ) (o : Ran) → numbers k m u o .answer ≡ 0 → (x v : ℕ) × (b : Bindings ℕ) × (s : State) × (o ≡ ended x b s v)
@@ -167,6 +168,7 @@ is-ended k m u (lost l v) e = absurd (omega arith)
 is-ended k m u (cut units l v) e = absurd (omega arith)
 is-ended k m u (cut room l v) e = absurd (omega arith)
 is-ended k m u (cut nesting l v) e = absurd (omega arith)
+is-ended k m u (cut (unbound y) l v) e = absurd (omega arith)
 
 -- the end of an accepted run: r are its numbers, st is the record and w the store's words
 module _ (i : Input) (a : Accepted i) (r : Outcome) (st w : List ℕ) (ends : Ends (ran quiet tt i) (i .subject) (i .mark) (i .units) r st w) where
@@ -196,7 +198,7 @@ module _ (i : Input) (a : Accepted i) (r : Outcome) (st w : List ℕ) (ends : En
   -- what comes back: the store is cleared from the mark on; the bindings are the record's where it is done, else as given
   come : (o : Ran) → ran quiet tt i ≡ o → (b′ : List ℕ) → (r .answer ≡ 0 → b′ ≡ bindingWords variables (held st)) → ((r .answer ≡ 0 → ⊥) → b′ ≡ i .bindings)
       → atReturn r (clearedFrom w (8 * r .mark)) b′ ≡ returned i o
-  unfolding numbers wordsOf returned number
+  unfolding numbers wordsOf returned number placeOf
   come (ended x b s v) e b′ y n =
       let p : r ≡ numbers (i .subject) (i .mark) (i .units) (ended x b s v) = ends .numbers ∙ ap (numbers (i .subject) (i .mark) (i .units)) e in
       let q : w ≡ s .words = ends .words ∙ ap wordsOf e in
@@ -230,16 +232,33 @@ module _ (i : Input) (r : Checked) (is : r ≡ refused (i .table) (i .store) (i 
 pub table-fits : (i : Input) → Accepted i → length (i .table) ≤ 32768
 table-fits i a = tablePasses (i .table) .0 (ap (λ (c : Checked). c .answer) (a .table)) .0 .most
 
--- the answer of a cut-off's word, by its upper half
+-- the answer of a cut-off's word and its place, by its upper half
 module _ (c : ℕ) where
-  pub cut-six : c / 4294967296 ≡ 4294967294 → 6 ≡ cutNumber c
+  pub cut-twelve : nodeIn c < unitsHalf → 12 ≡ cutNumber c
   unfolding limitOf number
-  cut-six e = sym (rw (eq-eqb (c / 4294967296) 4294967294 e))
+  cut-twelve l = sym (rw (lt-ltb (nodeIn c) unitsHalf l))
 
-  pub cut-seven : (c / 4294967296 ≡ 4294967294 → ⊥) → c / 4294967296 ≡ 4294967293 → 7 ≡ cutNumber c
+  pub cut-six : nodeIn c ≡ unitsHalf → 6 ≡ cutNumber c
   unfolding limitOf number
-  cut-seven n e = sym (rw (ne-eqb (c / 4294967296) 4294967294 n, eq-eqb (c / 4294967296) 4294967293 e))
+  cut-six e = sym (rw e)
 
-  pub cut-eight : (c / 4294967296 ≡ 4294967294 → ⊥) → (c / 4294967296 ≡ 4294967293 → ⊥) → 8 ≡ cutNumber c
+  pub cut-seven : nodeIn c ≡ roomHalf → 7 ≡ cutNumber c
   unfolding limitOf number
-  cut-eight n m = sym (rw (ne-eqb (c / 4294967296) 4294967294 n, ne-eqb (c / 4294967296) 4294967293 m))
+  cut-seven e = sym (rw e)
+
+  pub cut-eight : unitsHalf ≤ nodeIn c → (nodeIn c ≡ unitsHalf → ⊥) → (nodeIn c ≡ roomHalf → ⊥) → 8 ≡ cutNumber c
+  unfolding limitOf number
+  cut-eight l n m = sym (rw (le-ltb (nodeIn c) unitsHalf l, ne-eqb (nodeIn c) unitsHalf n, ne-eqb (nodeIn c) roomHalf m))
+
+  pub place-unbound : nodeIn c < unitsHalf → nodeIn c % 64 ≡ cutPlace c
+  unfolding limitOf placeOf
+  place-unbound l = sym (rw (lt-ltb (nodeIn c) unitsHalf l))
+
+  pub place-limit : unitsHalf ≤ nodeIn c → 0 ≡ cutPlace c
+  unfolding limitOf placeOf
+  place-limit l = sym (rw (le-ltb (nodeIn c) unitsHalf l) (go (eqb (nodeIn c) unitsHalf) (eqb (nodeIn c) roomHalf)))
+    where
+      go : (t s : Bool) → placeOf (if t then units else if s then room else nesting) ≡ 0
+      go true s = refl
+      go false true = refl
+      go false false = refl

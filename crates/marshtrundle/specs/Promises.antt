@@ -14,12 +14,12 @@ use Rattle.checks.specs.declared.Checked.{Checked}
 use Rattle.checks.specs.Checked.{checked, tableChecked, storeChecked}
 use Rattle.checks.specs.Promises.{AllGood, Lowest}
 use Rattle.meaning.specs.Term.{Term}
-use Rattle.meaning.specs.System.{Env, _∶_is_}
+use Rattle.meaning.specs.System.{Env, _∶_is_, _⊢_⇒_}
 use Rattle.meaning.specs.Table.{SEQ, table}
-use Rattle.meaning.specs.Derivation.{quiet}
+use Rattle.meaning.specs.Derivation.{Out, quiet}
 use Rattle.meaning.specs.Limits.{Res, ended, lost, cut, Counted}
 use Rattle.meaning.specs.Store.{Input, Accepted, term, meant, bindings, Kept}
-use Rattle.meaning.specs.Answer.{Returned, number}
+use Rattle.meaning.specs.Answer.{Returned, number, placeOf}
 use Rattle.meaning.specs.Small.{Case, cases}
 use Rattle.meaning.specs.Demands.{Says, limits, startVisit, At, Encloses, Agreed, started}
 use Rattle.collect.specs.Collected.{Afterwards}
@@ -51,6 +51,7 @@ pub data InList : ℕ → Type 0 where
   when-failed : InList 1
   when-refused : (n : ℕ) → Refusal n → InList n
   when-cut-off : (n : ℕ) → 5 < n → n < 9 → InList n
+  when-unbound : InList 12
 
 -- Demand 1: every answer is one of the list.
 abbrev pub Listed : Type 0
@@ -112,9 +113,9 @@ Refuses-start =
     (i : Input) (o : Outcome) (s b : List ℕ) → Runs i o s b
     → (o .answer ≡ 5) ↔ (SizesFit i × EntriesGood i × NodesGood i × (StartFits i → ⊥))
 
--- Every other answer has place 0.
+-- Every answer below 12 but 4 has place 0.
 abbrev pub No-place : Type 0
-No-place = (i : Input) (o : Outcome) (s b : List ℕ) → Runs i o s b → o .answer ≢ 4 → o .answer ≤ 12 → o .place ≡ 0
+No-place = (i : Input) (o : Outcome) (s b : List ℕ) → Runs i o s b → o .answer ≢ 4 → o .answer < 12 → o .place ≡ 0
 
 -- What is accepted is just what is not refused; and it is all of the above.
 abbrev pub Not-refused : Type 0
@@ -151,21 +152,26 @@ Clears = (i : Input) (o : Outcome) (s b : List ℕ) → Accepted i → Runs i o 
 abbrev pub Ended : Type 0
 Ended = Res Term Env (Counted (Unit {0})) (Unit {0})
 
--- what comes back says r: the answer, the term, its bindings and the mark are r's, and the units used, with those that r
--- leaves, are the units given
+-- what comes back says r: the answer, the term, its bindings and the mark are r's, of a cut-off the answer and the place, and the
+-- units used, with those that r leaves, are the units given
 abbrev pub Told : Input → Returned → Ended → Type 0
 Told i r (ended t c x u) =
     (r .answer ≡ 0) × (term (r .store) (r .subject) ≡ t) × (meant (r .store) (bindings (r .bindings)) ≡ c) × (r .mark ≡ x .mark)
     × (r .units + u ≡ i .units)
 Told i r (lost l u) = (r .answer ≡ 1) × (r .units + u ≡ i .units)
-Told i r (cut c l u) = (r .answer ≡ number c) × (r .units + u ≡ i .units)
+Told i r (cut c l u) = (r .answer ≡ number c) × (r .place ≡ placeOf c) × (r .units + u ≡ i .units)
 
 -- Demand 2: what is not refused answers r exactly when r is so: done and failed by a derivation that fits, each cut-off by a
--- beginning that fits and meets its own limit first.
+-- beginning that fits and meets its own limit first, 12 with its place by one that fits and ends at that variable.
 abbrev pub Demand-2 : Type 0
 Demand-2 =
     (i : Input) (o : Outcome) (s b : List ℕ) → Accepted i → Runs i o s b
     → (r : Ended) → Told i (atReturn o s b) r ↔ Says quiet tt (table (i .table)) (limits i) (startVisit i) r
+
+-- Where 12 is answered there is no derivation, whatever the limits.
+abbrev pub Unbound-underivable : Type 0
+Unbound-underivable =
+    (i : Input) (o : Outcome) (s b : List ℕ) → Accepted i → Runs i o s b → o .answer ≡ 12 → (x : Out Term Env) → table (i .table) ⊢ startVisit i ⇒ x → ⊥
 
 -- Demand 3: e runs x at the place π and f runs y at ρ, neither place inside the other; the question of free variables finds
 -- none in x and y. Two runs, one in each order, that both end in done or failed agree, whatever units each is given.

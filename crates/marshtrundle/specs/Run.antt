@@ -9,7 +9,7 @@ use Rattle.meaning.specs.Bindings.{Bindings}
 use Rattle.meaning.specs.Limits.{ended, lost, cut}
 use Rattle.meaning.specs.Derivation.{quiet}
 use Rattle.meaning.specs.Store.{Input, ran}
-use Rattle.meaning.specs.Answer.{Returned, number, returned}
+use Rattle.meaning.specs.Answer.{Returned, number, placeOf, returned}
 use Rattle.leaves.specs.Noted.{State, Ran}
 use Rattle.leaves.specs.Record.{held}
 use Rattle.leaves.specs.Visits.{limitOf}
@@ -34,15 +34,18 @@ runOf i =
     if eqb (refused (i .table) (i .store) (i .bindings) (i .mark) (i .start) (i .subject) .answer) 0 then returned i (ran quiet tt i)
     else refusing i (refused (i .table) (i .store) (i .bindings) (i .mark) (i .start) (i .subject))
 
--- the answer of a cut-off's word
+-- the answer of a cut-off's word, and its place
 abbrev pub cutNumber : ℕ → ℕ
 cutNumber c = number (limitOf c)
+
+abbrev pub cutPlace : ℕ → ℕ
+cutPlace c = placeOf (limitOf c)
 
 -- the five numbers of a run's end, k being the subject, m the mark and u the units that it was given
 unfoldable pub numbers : (k m u : ℕ) → Ran → Outcome
 numbers k m u (ended x b s v) = record { answer = 0; place = 0; subject = x; mark = s .mark; units = u - v }
 numbers k m u (lost l v) = record { answer = 1; place = 0; subject = k; mark = m; units = u - v }
-numbers k m u (cut c l v) = record { answer = number c; place = 0; subject = k; mark = m; units = u - v }
+numbers k m u (cut c l v) = record { answer = number c; place = placeOf c; subject = k; mark = m; units = u - v }
 
 -- the store's words at a run's end
 unfoldable pub wordsOf : Ran → List ℕ

@@ -19,7 +19,7 @@ ghost use Rattle.leaves.specs.Answers.{packed};
 ghost use Rattle.leaves.specs.Record.{markOf, held};
 ghost use Rattle.leaves.specs.Visits.{visit};
 ghost use Rattle.cycle.specs.Cycle.{Ready};
-ghost use Rattle.marshtrundle.specs.Run.{input, atReturn, runOf, cutNumber, Ends};
+ghost use Rattle.marshtrundle.specs.Run.{input, atReturn, runOf, cutNumber, cutPlace, Ends};
 
 // The five numbers that a run returns.
 pub struct Outcome {
@@ -30,11 +30,14 @@ pub struct Outcome {
     pub units: u32,
 }
 
-// The answer of a cut-off: 6 units, 7 room, 8 nesting.
+// The answer of a cut-off: 6 units, 7 room, 8 nesting, 12 a variable to be built that has no binding.
 pub fn cut_answer(c: u64) -> u32
     ensures { λ r. ⌜ r ≡ cutNumber c ⌝ }
 {
     let t = c / HALF;
+    if t < UNITS {
+        return 12;
+    }
     if t == UNITS {
         return 6;
     }
@@ -42,6 +45,17 @@ pub fn cut_answer(c: u64) -> u32
         return 7;
     }
     8
+}
+
+// Its place: that variable, else 0.
+pub fn cut_place(c: u64) -> u32
+    ensures { λ r. ⌜ r ≡ cutPlace c ⌝ }
+{
+    let t = c / HALF;
+    if t < UNITS {
+        return (t % 64) as u32;
+    }
+    0
 }
 
 // A run of accepted input, over a loaded table and an opened record. Where it is done the record holds the new mark and the new
@@ -77,7 +91,7 @@ pub(crate) fn run_accepted(
         },
         Answer::Cut(c) => Outcome {
             answer: cut_answer(c),
-            place: 0,
+            place: cut_place(c),
             subject,
             mark,
             units: units - (c % HALF) as u32,

@@ -3,7 +3,7 @@ use mathlib.Core.Bool.{Bool, true, false}
 use mathlib.Core.List.{List}
 use Prim.Native.Nat.{ℕ, zero, suc, _≤_}
 use native.Mathlib.Omega.{arith}
-use Rattle.meaning.specs.Plan.{Keep, Plan, ret, fail, miss, look, make, ask}
+use Rattle.meaning.specs.Plan.{Keep, Plan, ret, fail, miss, stuck, look, make, ask}
 use Rattle.meaning.specs.Limits.{Store, Res, ended, lost, cut, roomFor, settled, after, closed, runPlan, run}
 
 unfoldable pub unitsLeft : {H B S L : Type 0} → Res H B S L → ℕ
@@ -31,6 +31,7 @@ module _ {H B Q S L : Type 0} (M : Store H Q S L) where
   plan-falls ev z (ret h b) s u = omega arith
   plan-falls ev z fail s u = omega arith
   plan-falls ev z (miss p) s u = omega arith
+  plan-falls ev z (stuck v) s u = omega arith
   plan-falls ev z (look h k) s u = plan-falls ev z (k (M .con s h) (M .kids s h)) s u
   plan-falls ev z (make c hs k) s u = room-falls _ _ u _ (plan-falls ev z (k (M .new s c hs)) (M .put s c hs) u)
   plan-falls ev z (ask t q k p) s u = after-falls M t s u (ev q s u) _ _ (z q s u) (λ h b s′ v. plan-falls ev z (k h b) s′ v) (λ s′ v. plan-falls ev z p s′ v)

@@ -8,6 +8,7 @@ pub mod Deterministic
 pub mod Compare
 pub mod Paper
 pub mod Limits
+pub mod Unbound
 pub mod Falling
 pub mod Alike
 pub mod Checked

@@ -10,12 +10,12 @@ use lib.Dec.{leb}
 use borrow.Author.Tests.{leb-true, leb-false, le-leb, lt-leb}
 use Rattle.meaning.specs.Term.{Term}
 use Rattle.meaning.specs.Table.{Table}
-use Rattle.meaning.specs.Plan.{Keep, keep, drop, Plan, ret, fail, miss, look, make, ask}
+use Rattle.meaning.specs.Plan.{Keep, keep, drop, Plan, ret, fail, miss, stuck, look, make, ask}
 use Rattle.meaning.specs.Rules.{Visit, Do, does}
 use Rattle.meaning.specs.Derivation.{Out, done, failed, What, what, Fate, stays, goes, fails, in-flight, fate, Trace, over, missed, node, visit, staying, visits, depth, left, most, Notes, shut, noted, Values, terms, Der, d-ret, d-fail, d-miss, d-look, d-make, d-yes, d-no, trace as traceDer}
-use Rattle.meaning.specs.Limits.{Limit, units, room, nesting as nested, Res, ended, lost, cut, Counted, at, counting, roomFor, settled, after, closed, runPlan, run}
+use Rattle.meaning.specs.Limits.{Limit, units, room, nesting as nested, unbound, Res, ended, lost, cut, Counted, at, counting, roomFor, settled, after, closed, runPlan, run}
 use Rattle.meaning.specs.System.{Env, _⊢_⇒_, trace as traceOf}
-use Rattle.meaning.specs.Beginning.{Stop, before-visit, before-node, Begun, b-visit, b-node, b-look, b-make, b-in, b-yes, b-no, trace as traceBegun, level as levelBegun, Given, Fits, stop, Met}
+use Rattle.meaning.specs.Beginning.{Stop, before-visit, before-node, at-unbound, Begun, b-visit, b-node, b-unbound, b-look, b-make, b-in, b-yes, b-no, trace as traceBegun, level as levelBegun, Given, Fits, stop, Met}
 use Rattle.meaning.specs.Demands.{Rules-agree, whole as wholeOf, Says, Demand-2-values}
 
 -- ---- what a trace counts
@@ -83,6 +83,7 @@ module _ {H B Q : Type 0} (W : Values H Q) (R : Q → Plan H B Q) where
     g-miss : {p : ℕ} → Goes (miss p) (out failed)
     g-visit : {t : Keep} {q : Q} {k : H → B → Plan H B Q} {p : Plan H B Q} → Goes (ask t q k p) (stops before-visit)
     g-node : {c : ℕ} {hs : List H} {k : H → Plan H B Q} → Goes (make c hs k) (stops before-node)
+    g-unbound : {v : ℕ} → Goes (stuck v) (stops (at-unbound v))
     g-look : {h : H} {k : ℕ → List H → Plan H B Q} {e : End H B} → Goes (k (W .con h) (W .kids h)) e → Goes (look h k) e
     g-make : {c : ℕ} {hs : List H} {k : H → Plan H B Q} {e : End H B} → Goes (k (W .mk c hs)) e → Goes (make c hs k) e
     g-in : {t : Keep} {q : Q} {k : H → B → Plan H B Q} {p : Plan H B Q} {w : Stop} → Goes (R q) (stops w) → Goes (ask t q k p) (stops w)
@@ -97,6 +98,7 @@ module _ {H B Q : Type 0} {W : Values H Q} {R : Q → Plan H B Q} where
   trace (g-miss {p = p}) = missed p
   trace g-visit = over
   trace g-node = over
+  trace g-unbound = over
   trace (g-look s) = trace s
   trace (g-make s) = node (trace s)
   trace (g-in {q = q} s) = visit (W .name q) in-flight (trace s) over
@@ -109,6 +111,7 @@ module _ {H B Q : Type 0} {W : Values H Q} {R : Q → Plan H B Q} where
   level g-miss = 0
   level g-visit = 1
   level g-node = 0
+  level g-unbound = 0
   level (g-look s) = level s
   level (g-make s) = level s
   level (g-in s) = suc (level s)
@@ -125,6 +128,7 @@ meets-out : (size n m u u′ l x x′ : ℕ) (c : Limit) (v : ℕ) → x ≡ x�
 meets-out size n m u u′ l x x′ units v e f = f
 meets-out size n m u u′ l x x′ room v e f = omega arith
 meets-out size n m u u′ l x x′ nested v e f = (f .0, ap suc (f .1))
+meets-out size n m u u′ l x x′ (unbound y) v e f = tt
 
 module _ {N H B : Type 0} where
   -- the end that an answer says, and the units that it leaves
@@ -157,6 +161,7 @@ module _ {N H B : Type 0} where
     of-units : {l : N} {u : ℕ} → Of (cut units l u) (stops before-visit)
     of-room : {l : N} {u : ℕ} → Of (cut room l u) (stops before-node)
     of-nesting : {l : N} {u : ℕ} → Of (cut nested l u) (stops before-visit)
+    of-unbound : {v : ℕ} {l : N} {u : ℕ} → Of (cut (unbound v) l u) (stops (at-unbound v))
 
   of-end : (r : Answer N H B) → Of r (endOf r)
   of-end (ended h b m u) = of-ended
@@ -164,6 +169,7 @@ module _ {N H B : Type 0} where
   of-end (cut units l u) = of-units
   of-end (cut room l u) = of-room
   of-end (cut nested l u) = of-nesting
+  of-end (cut (unbound v) l u) = of-unbound
 
   -- nodes counted into the mark, or besides it
   meets-shift : (size n m m′ u u′ l x x′ : ℕ) (r : Answer N H B) → m + x ≡ m′ + x′ → Meets (given size n m u) r l x → Meets (given size n m′ u′) r l x′
@@ -172,12 +178,14 @@ module _ {N H B : Type 0} where
   meets-shift size n m m′ u u′ l x x′ (cut units _ v) e f = f
   meets-shift size n m m′ u u′ l x x′ (cut room _ v) e f = omega arith
   meets-shift size n m m′ u u′ l x x′ (cut nested _ v) e f = f
+  meets-shift size n m m′ u u′ l x x′ (cut (unbound y) _ v) e f = tt
 
   -- and back
   meets-in : (size n m u u′ l x x′ : ℕ) (r : Answer N H B) {w : Stop} → Of r (stops w) → x′ ≡ x → Meets (given size (suc n) m u′) r (suc l) x′ → Meets (given size n m u) r l x
   meets-in size n m u u′ l x x′ _ of-units e f = f
   meets-in size n m u u′ l x x′ _ of-room e f = omega arith
   meets-in size n m u u′ l x x′ _ of-nesting e f = (f .0, omega arith)
+  meets-in size n m u u′ l x x′ _ of-unbound e f = tt
 
 -- ---- every answer says what is so
 
@@ -292,6 +300,7 @@ module _ {H B Q : Type 0} (W : Values H Q) (R : Q → Plan H B Q) {N : Type 0} (
   right-plan n ev ih (ret h b) m ν u i = record { way = g-ret; fits = fits-over size n m u i; meets = omega arith; notes = refl }
   right-plan n ev ih fail m ν u i = record { way = g-fail; fits = fits-over size n m u i; meets = tt; notes = refl }
   right-plan n ev ih (miss p) m ν u i = record { way = g-miss; fits = fits-missed size n m u p i; meets = tt; notes = refl }
+  right-plan n ev ih (stuck v) m ν u i = record { way = g-unbound; fits = fits-over size n m u i; meets = tt; notes = refl }
   right-plan n ev ih (look h k) m ν u i = right-look n m ν u h k (runPlan (counting W Λ size) ev (k (W .con h) (W .kids h)) (at m ν) u) (right-plan n ev ih (k (W .con h) (W .kids h)) m ν u i)
   right-plan n ev ih (make c hs k) m ν u i = right-room n m ν u c hs k (leb size m) refl (runPlan (counting W Λ size) ev (k (W .mk c hs)) (at (suc m) ν) u) i (λ j. right-plan n ev ih (k (W .mk c hs)) (suc m) ν u j)
   right-plan n ev ih (ask t q k p) m ν u i =
@@ -357,6 +366,7 @@ module _ {H B Q : Type 0} (W : Values H Q) (R : Q → Plan H B Q) {N : Type 0} (
   after-cut t m ν r _ f g of-units e = rw (e, after)
   after-cut t m ν r _ f g of-room e = rw (e, after)
   after-cut t m ν r _ f g of-nesting e = rw (e, after)
+  after-cut t m ν r _ f g of-unbound e = rw (e, after)
 
   -- nor is it noted
   closed-cut : (q : Q) (r : Answer N H B) {w : Stop} → Of r (stops w) → closed (counting W Λ size) q r ≡ r
@@ -364,6 +374,7 @@ module _ {H B Q : Type 0} (W : Values H Q) (R : Q → Plan H B Q) {N : Type 0} (
   closed-cut q _ of-units = refl
   closed-cut q _ of-room = refl
   closed-cut q _ of-nesting = refl
+  closed-cut q _ of-unbound = refl
 
   -- what goes so, fits and meets what the answer says, is answered so
   answered : (n : ℕ) {p : Plan H B Q} {e : End H B} (s : Goes W R p e) (r : Answer N H B) → Of r e → (m : ℕ) (ν : N) (u : ℕ) → Fits (given size n m u) (trace s) (rest r)
@@ -375,6 +386,7 @@ module _ {H B Q : Type 0} (W : Values H Q) (R : Q → Plan H B Q) {N : Type 0} (
   answered n (g-visit {t = t} {q = q}) (cut _ l u′) of-units m ν u f x o = after-cut t m ν _ (cut units l u′) _ _ of-units (run-no-units n q m ν u (omega (arith, f .units)) ∙ (let z : 0 ≡ u′ = omega arith in λ i. cut units (sym o i) (z i)))
   answered n (g-visit {t = t} {q = q}) (cut _ l u′) of-nesting m ν u f x o = after-cut t m ν _ (cut nested l u′) _ _ of-nesting (run-too-deep n q m ν u (omega (arith, f .units)) (omega arith) ∙ (let z : u ≡ u′ = omega (arith, f .units) in λ i. cut nested (sym o i) (z i)))
   answered n g-node (cut _ l u′) of-room m ν u f x o = no-room m ν u _ (omega arith) ∙ (let z : u ≡ u′ = omega (arith, f .units) in λ i. cut room (sym o i) (z i))
+  answered n (g-unbound {v = v}) (cut _ l u′) of-unbound m ν u f x o = let z : u ≡ u′ = omega (arith, f .units) in λ i. cut (unbound v) (sym o i) (z i)
   answered n (g-look s) r a m ν u f x o = answered n s r a m ν u f x o
   answered n (g-make s) r a m ν u f x o =
       room-left m ν u _ (omega (arith, f .room))
@@ -454,6 +466,7 @@ module _ (agree : Rules-agree) (T : Table) where
   unfolding trace level traceBegun levelBegun
   goes-of-begun b-visit = (g-visit, refl, refl)
   goes-of-begun b-node = (g-node, refl, refl)
+  goes-of-begun b-unbound = (g-unbound, refl, refl)
   goes-of-begun (b-look b) = let s = goes-of-begun b in (g-look (s .0), s .1, s .2)
   goes-of-begun (b-make b) = let s = goes-of-begun b in (g-make (s .0), ap node (s .1), s .2)
   goes-of-begun (b-in {q = q} b) = let s = goes-of-begun b in (g-in (s .0), (λ i. visit (what q) in-flight (s .1 i) over), ap suc (s .2))
@@ -464,6 +477,7 @@ module _ (agree : Rules-agree) (T : Table) where
   unfolding trace level traceBegun levelBegun
   begun-of-goes g-visit = (b-visit, refl, refl)
   begun-of-goes g-node = (b-node, refl, refl)
+  begun-of-goes g-unbound = (b-unbound, refl, refl)
   begun-of-goes (g-look s) = let b = begun-of-goes s in (b-look (b .0), b .1, b .2)
   begun-of-goes (g-make s) = let b = begun-of-goes s in (b-make (b .0), ap node (b .1), b .2)
   begun-of-goes (g-in {q = q} s) = let b = begun-of-goes s in (b-in (b .0), (λ i. visit (what q) in-flight (b .1 i) over), ap suc (b .2))

@@ -9,8 +9,8 @@ use Prim.Native.Nat.{ℕ, zero, suc, _<_}
 use native.Mathlib.Omega.{arith}
 use Rattle.meaning.specs.Term.{Term, con, kids, mk}
 use Rattle.meaning.specs.Table.{Strategy, ID, FAIL, TEST, NOT, SEQ, CHOICE, LEFT, REC, CALL, PATH, CONG, ALL, ONE, SOME, MATCH, BUILD, SCOPE, WHERE, Pattern, PVAR, PCON, Table}
-use Rattle.meaning.specs.Plan.{Keep, keep, drop, ret, fail, miss, look, make, ask}
-use Rattle.meaning.specs.Rules.{Visit, apply, match, build, compare, Do, nth, put, zip, agree, when, given, again, walk, oneOf, someOf, strategy, variable, whenAt, matching, building, comparing, does}
+use Rattle.meaning.specs.Plan.{Keep, keep, drop, ret, fail, miss, stuck, look, make, ask}
+use Rattle.meaning.specs.Rules.{Visit, apply, match, build, compare, Do, nth, put, zip, agree, when, given, again, walk, oneOf, someOf, strategy, variable, whenAt, matching, needed, building, comparing, does}
 use Rattle.meaning.specs.Derivation.{Out, done, failed, What, entry, pattern, pair, what, Fate, stays, goes, fails, fate, Trace, over, missed, node, visit, terms, Der, d-ret, d-fail, d-miss, d-look, d-make, d-yes, d-no, trace as traceDer}
 use Rattle.meaning.specs.System
 use Rattle.meaning.specs.System.{Env, Task, Agree, renewed, _∶_is_, _∶_reads_, _⊢_⇒_, Each, Stopped, First, AllFail, Tried, ending, last, renewing, trace, each, stopped, first, allFail, tried}
@@ -77,7 +77,7 @@ module _ (T : Table) where
   last-runs failed z = ask-no z fail-ends
 
   mutual
-    unfolding trace each stopped first allFail tried strategy matching building comparing does walk oneOf someOf when given variable whenAt what fate
+    unfolding trace each stopped first allFail tried strategy matching building comparing does walk oneOf someOf when given needed variable whenAt what fate
 
     -- a derivation by rules is one by plans
     pub planned : {q : Visit Term} {o : Out Term Env} (r : T ⊢ q ⇒ o) → Runs (does T q) o (trace r)
@@ -120,9 +120,7 @@ module _ (T : Table) where
     planned (System.match-failed {t = t} e a rs) = rw e (look-ends (rw agree-yes (stopped-planned rs [] (λ gs b. ret t b))))
     planned (System.match-other e n) = rw e (look-ends (rw agree-no miss-ends))
     planned (System.build-bound e n) = rw e (rw n ret-ends)
-    planned (System.build-unbound e n) = rw e (rw n fail-ends)
     planned (System.build-con {c = c} e rs q) = rw (e, q) (each-planned rs [] (λ gs b. make c gs (λ n. ret n b)) (make-ends ret-ends))
-    planned (System.build-failed {c = c} e rs) = rw e (stopped-planned rs [] (λ gs b. make c gs (λ n. ret n b)))
     planned (System.compare-same {t = t} a rs) = look-ends (look-ends (rw agree-yes (each-planned rs [] (λ gs b. ret t b) ret-ends)))
     planned (System.compare-failed {t = t} a rs) = look-ends (look-ends (rw agree-yes (stopped-planned rs [] (λ gs b. ret t b))))
     planned (System.compare-other n) = look-ends (look-ends (rw agree-no fail-ends))
@@ -167,6 +165,7 @@ module _ (T : Table) where
   abbrev Tells : Claim → Do Term → Type 0
   Tells P (ret t b) = P (done t b) over
   Tells P fail = P failed over
+  Tells P (stuck v) = Unit {0}
   Tells P (miss p) = P failed (missed p)
   Tells P (look t k) = Tells P (k (con t) (kids t))
   Tells P (make c ts k) = Tells (λ o n. P o (node n)) (k (mk c ts))
@@ -330,11 +329,24 @@ module _ (T : Table) where
       (λ a. walk-tells (Derived (match p t b)) (zip match ps (kids t)) [] b (λ gs b′. ret t b′) (λ ts b′ rs. (System.match-con e a rs, refl)) (λ rs. (System.match-failed e a rs, refl)))
       (λ n. (System.match-other e n, refl))
 
+  -- BUILD does not fail
+  builds : {p : ℕ} {t : Term} {b : Env} → T ⊢ build p t b ⇒ failed → ⊥
+  builds = elim [ ]
+
+  all-build : (t : Term) (ps : List ℕ) {b : Env} → Stopped T (map (λ q. build q t) ps) b → ⊥
+  all-build t (p ∷ ps) (System.stopped-here r) = builds r
+  all-build t (p ∷ ps) (System.stopped-later r rs) = all-build t ps rs
+
+  needed-tells : (P : Claim) (v : ℕ) (x : Option Term) (k : Term → Do Term) → ((g : Term) → x ≡ some g → Tells P (k g)) → Tells P (needed v x k)
+  unfolding needed
+  needed-tells P v none k y = tt
+  needed-tells P v (some g) k y = y g refl
+
   -- the plan of a position met by BUILD tells what its rules derive
   building-tells : (p : ℕ) (s : Pattern) (t : Term) (b : Env) → T ∶ p reads s → Tells (Derived (build p t b)) (building s t b)
   unfolding building trace what fate
-  building-tells p (PVAR v) t b e = given-tells (Derived (build p t b)) (b v) _ (λ g n. (System.build-bound e n, refl)) (λ n. (System.build-unbound e n, refl))
-  building-tells p (PCON c ps) t b e = walk-tells (Derived (build p t b)) (map (λ q. build q t) ps) [] b _ (λ ts b′ rs. (System.build-con e rs refl, refl)) (λ rs. (System.build-failed e rs, refl))
+  building-tells p (PVAR v) t b e = needed-tells (Derived (build p t b)) v (b v) _ (λ g n. (System.build-bound e n, refl))
+  building-tells p (PCON c ps) t b e = walk-tells (Derived (build p t b)) (map (λ q. build q t) ps) [] b _ (λ ts b′ rs. (System.build-con e rs refl, refl)) (λ rs. absurd (all-build t ps rs))
 
   -- the plan of a pair compared tells what its rules derive
   comparing-tells : (g t : Term) (b : Env) → Tells (Derived (compare g t b)) (comparing g t b)

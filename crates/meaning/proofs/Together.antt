@@ -21,7 +21,7 @@ use Rattle.meaning.specs.System.{Env}
 use Rattle.meaning.specs.Store.{children, row, State, on, Left, rest, stored, term, Ran, Kept}
 use Rattle.meaning.proofs.Terms.{list-unlist}
 use Rattle.meaning.proofs.Limits.{Answer}
-use Rattle.meaning.proofs.Alike.{Holdable, Makeable, Worlds, LRel, l-nil, l-cons, BRel, QRel, PRel, q-apply, q-match, q-build, q-compare, p-ret, p-fail, p-miss, p-look, p-make, p-ask, p-test, p-does}
+use Rattle.meaning.proofs.Alike.{Holdable, Makeable, Worlds, LRel, l-nil, l-cons, BRel, QRel, PRel, q-apply, q-match, q-build, q-compare, p-ret, p-fail, p-miss, p-stuck, p-look, p-make, p-ask, p-test, p-does}
 use Rattle.meaning.proofs.Checked.{Filled}
 use Rattle.meaning.proofs.Words.{kept-refl, kept-trans, kept-filled, Below, below-none, below-more, map-below, children-below, new-kept, new-filled, new-constructor, new-children, term-node, kept-term}
 
@@ -179,6 +179,7 @@ module _ (size : ℕ) where
     alike-plan ev ev′ z {v} (p-ret n s) ν u = a-ended {v′ = v} (later-refl v) n s
     alike-plan ev ev′ z {v} p-fail ν u = a-lost (kept-refl (v .words) (v .mark))
     alike-plan ev ev′ z {v} (p-miss y) ν u = a-lost (kept-refl (v .words) (v .mark))
+    alike-plan ev ev′ z {v} (p-stuck y) ν u = a-cut (kept-refl (v .words) (v .mark))
     alike-plan ev ev′ z {v} (p-look {h = h} {g = t} {k = k} {k′ = k′} n f) ν u =
         subst (λ c. EndAlike v (runPlan (stored Λ) ev (k (constructorOf (v .words) h) (children (v .words) h)) (state v ν) u) (runPlan (counting terms Λ size) ev′ (k′ c (kids t)) (at (v .mark) ν) u)) (sym (names-constructor n))
         (alike-plan ev ev′ z (f (constructorOf (v .words) h) (children (v .words) h) (kids t) (names-holdable n) (names-children n)) ν u)

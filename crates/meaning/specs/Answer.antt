@@ -5,14 +5,22 @@ use Prim.Native.Nat.{ℕ, zero, suc, _-_, _*_}
 use Rattle.words.specs.Words.{clearedFrom}
 use Rattle.checks.specs.Kinds.{variables}
 use Rattle.meaning.specs.Bindings.{Bindings}
-use Rattle.meaning.specs.Limits.{Limit, units, room, nesting, ended, lost, cut}
+use Rattle.meaning.specs.Limits.{Limit, units, room, nesting, unbound, ended, lost, cut}
 use Rattle.meaning.specs.Store.{Input, Ran}
 
--- each limit's answer
+-- each cut-off's answer
 unfoldable pub number : Limit → ℕ
 number units = 6
 number room = 7
 number nesting = 8
+number (unbound v) = 12
+
+-- and its place: the variable that has no binding, else 0
+unfoldable pub placeOf : Limit → ℕ
+placeOf units = 0
+placeOf room = 0
+placeOf nesting = 0
+placeOf (unbound v) = v
 
 -- a binding's word, and the words of the first n variables
 unfoldable pub bindingWord : Option ℕ → ℕ
@@ -33,11 +41,11 @@ pub record Returned : Type 0 where
   pub bindings : List ℕ
 
 -- an answer that leaves subject, mark and bindings as given, w being the store's words and u the units left
-abbrev pub asGiven : Input → ℕ → List ℕ → ℕ → Returned
-asGiven i a w u = record { answer = a; place = 0; subject = i .subject; mark = i .mark; units = i .units - u; store = clearedFrom w (8 * i .mark); bindings = i .bindings }
+abbrev pub asGiven : Input → (answer place : ℕ) → List ℕ → ℕ → Returned
+asGiven i a p w u = record { answer = a; place = p; subject = i .subject; mark = i .mark; units = i .units - u; store = clearedFrom w (8 * i .mark); bindings = i .bindings }
 
 -- 0 with the new subject, mark and bindings; else as given. The units are those used, and from the mark on the store is zero
 unfoldable pub returned : {N : Type 0} → Input → Ran N → Returned
 returned i (ended k b s u) = record { answer = 0; place = 0; subject = k; mark = s .mark; units = i .units - u; store = clearedFrom (s .words) (8 * s .mark); bindings = bindingWords variables b }
-returned i (lost l u) = asGiven i 1 (l .words) u
-returned i (cut c l u) = asGiven i (number c) (l .words) u
+returned i (lost l u) = asGiven i 1 0 (l .words) u
+returned i (cut c l u) = asGiven i (number c) (placeOf c) (l .words) u

@@ -1,23 +1,26 @@
--- Counted beginnings: a run up to the visit or the node before which a limit stops it.
+-- Counted beginnings: a run up to the visit or the node before which a limit stops it, or up to a variable to be built that has
+-- no binding.
 use mathlib.Core.Path.{_≡_}
 use mathlib.Core.List.{List}
 use Prim.Native.Nat.{ℕ, suc, _+_, _≤_, _<_}
 use Rattle.meaning.specs.Term.{Term, con, kids, mk}
 use Rattle.meaning.specs.Table.{Table}
-use Rattle.meaning.specs.Plan.{Keep, keep, drop, look, make, ask}
+use Rattle.meaning.specs.Plan.{Keep, keep, drop, stuck, look, make, ask}
 use Rattle.meaning.specs.Rules.{Visit, Do, does}
 use Rattle.meaning.specs.Derivation.{done, failed, what, fate, fails, in-flight, Trace, over, node, visit, visits, depth, left, most}
-use Rattle.meaning.specs.Limits.{Limit, units, room, nesting as nested}
+use Rattle.meaning.specs.Limits.{Limit, units, room, nesting as nested, unbound}
 use Rattle.meaning.specs.System.{Env, _⊢_⇒_, trace as traceOf}
 
--- what a beginning is broken off before
+-- what a beginning is broken off before; or the variable without a binding at which it ends, whose own visit is counted
 pub data Stop : Type 0 where
   before-visit before-node : Stop
+  at-unbound : ℕ → Stop
 
 -- a plan begun: the visits that have ended are derivations, and the last one asked for may have begun
 pub data Begun (T : Table) : Do Term → Stop → Type 0 where
   b-visit : {t : Keep} {q : Visit Term} {k : Term → Env → Do Term} {p : Do Term} → Begun T (ask t q k p) before-visit
   b-node : {c : ℕ} {hs : List Term} {k : Term → Do Term} → Begun T (make c hs k) before-node
+  b-unbound : {v : ℕ} → Begun T (stuck v) (at-unbound v)
   b-look : {h : Term} {k : ℕ → List Term → Do Term} {w : Stop} → Begun T (k (con h) (kids h)) w → Begun T (look h k) w
   b-make : {c : ℕ} {hs : List Term} {k : Term → Do Term} {w : Stop} → Begun T (k (mk c hs)) w → Begun T (make c hs k) w
   b-in : {t : Keep} {q : Visit Term} {k : Term → Env → Do Term} {p : Do Term} {w : Stop} → Begun T (does T q) w → Begun T (ask t q k p) w
@@ -28,6 +31,7 @@ pub data Begun (T : Table) : Do Term → Stop → Type 0 where
 unfoldable pub trace : {T : Table} {p : Do Term} {w : Stop} → Begun T p w → Trace
 trace b-visit = over
 trace b-node = over
+trace b-unbound = over
 trace (b-look b) = trace b
 trace (b-make b) = node (trace b)
 trace (b-in {q = q} b) = visit (what q) in-flight (trace b) over
@@ -38,6 +42,7 @@ trace (b-no {q = q} r b) = visit (what q) fails (traceOf r) (trace b)
 unfoldable pub level : {T : Table} {p : Do Term} {w : Stop} → Begun T p w → ℕ
 level b-visit = 1
 level b-node = 0
+level b-unbound = 0
 level (b-look b) = level b
 level (b-make b) = level b
 level (b-in b) = suc (level b)
@@ -62,9 +67,12 @@ abbrev pub stop : Limit → Stop
 stop units = before-visit
 stop room = before-node
 stop nested = before-visit
+stop (unbound v) = at-unbound v
 
--- the limit is met first: all units are used; else the nesting would be exceeded; the mark equals the store's nodes
+-- the limit is met first: all units are used; else the nesting would be exceeded; the mark equals the store's nodes. At a
+-- variable without a binding no limit is met: that the beginning fits says that none was met before
 abbrev pub Met : Given → Limit → (level left rest : ℕ) → Type 0
 Met g units l n rest = rest ≡ 0
 Met g room l n rest = g .mark + n ≡ g .size
 Met g nested l n rest = (0 < rest) × (l ≡ suc (g .nesting))
+Met g (unbound v) l n rest = Unit {0}

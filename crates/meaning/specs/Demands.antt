@@ -12,7 +12,7 @@ use Rattle.meaning.specs.Rules.{Visit, apply, does, compare}
 use Rattle.meaning.specs.Derivation.{Out, done, failed, what, Fate, stays, fails, Trace, over, visit, left, Notes, noted, terms, Der, trace as traceDer}
 use Rattle.meaning.specs.Limits.{Res, ended, lost, cut, Counted, at, counting, run}
 use Rattle.meaning.specs.System.{Env, _∶_is_, _⊢_⇒_, trace}
-use Rattle.meaning.specs.Beginning.{Begun, Given, Fits, Met, stop, level, trace as traceBegun}
+use Rattle.meaning.specs.Beginning.{at-unbound, Begun, Given, Fits, Met, stop, level, trace as traceBegun}
 use Rattle.meaning.specs.Store.{Input, Accepted, ran, term, meant, bindings, value, deepest, Leaves}
 pub use Rattle.meaning.specs.Store.{Kept, Sound, Leaves}
 use Rattle.meaning.specs.Free.{Free, Closed}
@@ -31,8 +31,8 @@ Deterministic = (T : Table) (q : Visit Term) (o o′ : Out Term Env) (r : T ⊢ 
 abbrev pub whole : Visit Term → Fate → Trace → Trace
 whole q f t = visit (what q) f t over
 
--- what a run's answer says: done and failed are a derivation that fits, a cut-off is a beginning that fits and meets its limit;
--- what was noted is noted of what was done, n being the notes at the beginning
+-- what a run's answer says: done and failed are a derivation that fits, a cut-off is a beginning that fits and meets its limit,
+-- or ends at a variable without its binding; what was noted is noted of what was done, n being the notes at the beginning
 abbrev pub Says : {N : Type 0} → Notes N → N → Table → Given → Visit Term → Res Term Env (Counted N) N → Type 0
 Says Λ n T g q (ended t b s u) = (r : T ⊢ q ⇒ done t b) × Fits g (whole q stays (trace r)) u × (s .mark ≡ g .mark + left (whole q stays (trace r))) × (s .notes ≡ noted Λ (whole q stays (trace r)) n)
 Says Λ n T g q (lost l u) = (r : T ⊢ q ⇒ failed) × Fits g (whole q fails (trace r)) u × (l ≡ noted Λ (whole q fails (trace r)) n)
@@ -43,6 +43,10 @@ abbrev pub Demand-2-values : Type 1
 Demand-2-values =
     (N : Type 0) (Λ : Notes N) (n : N) (T : Table) (g : Given) (q : Visit Term) (r : Res Term Env (Counted N) N) → g .mark ≤ g .size
     → (run (counting terms Λ (g .size)) (does T) (g .nesting) q (at (g .mark) n) (g .units) ≡ r) ↔ Says Λ n T g q r
+
+-- What meets a variable without its binding has no derivation, whatever the limits.
+abbrev pub Unbound-underivable : Type 0
+Unbound-underivable = (T : Table) (q : Visit Term) (v : ℕ) → Begun T (ask keep q ret fail) (at-unbound v) → (o : Out Term Env) → T ⊢ q ⇒ o → ⊥
 
 -- what an accepted input gives a run, and what it starts with
 abbrev pub limits : Input → Given

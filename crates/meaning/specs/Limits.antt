@@ -3,11 +3,13 @@ use mathlib.Core.Bool.{Bool, true, false}
 use mathlib.Core.List.{List}
 use Prim.Native.Nat.{ℕ, zero, suc}
 use lib.Dec.{leb}
-use Rattle.meaning.specs.Plan.{Keep, keep, drop, Plan, ret, fail, miss, look, make, ask}
+use Rattle.meaning.specs.Plan.{Keep, keep, drop, Plan, ret, fail, miss, stuck, look, make, ask}
 use Rattle.meaning.specs.Derivation.{Values, Notes}
 
+-- what cuts a run off: a limit, or a variable to be built that has no binding
 pub data Limit : Type 0 where
   units room nesting : Limit
+  unbound : ℕ → Limit
 
 -- how a run ends, with the units left. S: the store's states; L: what a failure or a cut-off leaves of the store
 pub data Res (H B S L : Type 0) : Type 0 where
@@ -77,6 +79,7 @@ module _ {H B Q S L : Type 0} (M : Store H Q S L) where
   runPlan ev (ret h b) s u = ended h b s u
   runPlan ev fail s u = lost (M .left s) u
   runPlan ev (miss p) s u = lost (M .left (M .missed p s)) u
+  runPlan ev (stuck v) s u = cut (unbound v) (M .left s) u
   runPlan ev (look h k) s u = runPlan ev (k (M .con s h) (M .kids s h)) s u
   runPlan ev (make c hs k) s u = let r = runPlan ev (k (M .new s c hs)) (M .put s c hs) u in roomFor (M .full s c hs) (M .left s) u r
   runPlan ev (ask t q k p) s u = after M t s (ev q s u) (λ h b s′ u′. runPlan ev (k h b) s′ u′) (λ s′ u′. runPlan ev p s′ u′)

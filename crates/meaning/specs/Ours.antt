@@ -4,7 +4,8 @@ use mathlib.Core.List.{List, [], _∷_, _++_, map}
 use Prim.Native.Nat.{ℕ}
 use lib.ListN.{set}
 use Rattle.meaning.specs.Store.{row}
-use Rattle.meaning.specs.Small.{entry, free, bound, three, four, given, gives, Case, case, matchX, seen, expected}
+use Rattle.meaning.specs.Answer.{Returned}
+use Rattle.meaning.specs.Small.{entry, free, roomy, bound, three, four, given, gives, Case, case, matchX, seen, expected}
 
 -- the store above, but node 2 is 5(0, 0)
 unfoldable pub paired : List ℕ
@@ -13,6 +14,17 @@ paired = row 1 [] ++ row 2 [] ++ row 5 (0 ∷ 0 ∷ [])
 -- BUILD of the constant 7, whose pattern is entry e
 unfoldable pub build7 : ℕ → List ℕ
 build7 e = entry 15 0 (e ∷ []) ++ entry 19 7 []
+
+-- BUILD of variable 3, whose pattern is entry e; what comes back where it has no binding, with these units used
+unfoldable pub build-v3 : ℕ → List ℕ
+build-v3 e = entry 15 0 (e ∷ []) ++ entry 18 3 []
+
+unfoldable pub no-v3 : ℕ → Returned
+no-v3 u = record { answer = 12; place = 3; subject = 2; mark = 3; units = u; store = roomy three 8; bindings = free }
+
+-- BUILD of 9(7, v3): a node is made before the variable is met
+unfoldable pub build-pair : List ℕ
+build-pair = entry 15 0 (1 ∷ []) ++ entry 19 9 (2 ∷ 3 ∷ []) ++ entry 19 7 [] ++ entry 18 3 []
 
 -- MATCH x, MATCH y and their patterns as entries 1 to 4
 unfoldable pub two : List ℕ
@@ -52,6 +64,14 @@ ours =
     -- ONE: the leftmost child that succeeds, and no other
     ∷ case 12 (given (entry 12 0 (1 ∷ []) ++ entry 14 0 (2 ∷ []) ++ entry 19 2 []) three 8 2 99) (gives 0 3 4 5 (four (row 5 (0 ∷ 1 ∷ []))) 8 free)
     ∷ case 12 (given (entry 12 0 (1 ∷ []) ++ build7 2) three 8 2 99) (gives 0 4 5 3 (four (row 7 []) ++ row 5 (3 ∷ 1 ∷ [])) 8 free)
+    -- BUILD of a variable without its binding ends the run: its place is the variable; neither NOT nor LEFT catches it; its own
+    -- visit's units are tested first; a node made before it is given back, and may find no room before it is met
+    ∷ case 15 (given (build-v3 1) three 8 2 99) (no-v3 2)
+    ∷ case 15 (given (entry 3 0 (1 ∷ []) ++ build-v3 2) three 8 2 99) (no-v3 3)
+    ∷ case 15 (given (entry 6 0 (1 ∷ 3 ∷ []) ++ build-v3 2 ++ entry 0 0 []) three 8 2 99) (no-v3 3)
+    ∷ case 15 (given (build-v3 1) three 8 2 1) (gives 6 2 3 1 three 8 free)
+    ∷ case 15 (given build-pair three 8 2 99) (no-v3 4)
+    ∷ case 15 (given build-pair three 3 2 99) (gives 7 2 3 3 three 3 free)
     -- SCOPE: the other new bindings stay; one in the other
     ∷ case 16 (given (entry 16 2 (1 ∷ []) ++ matchX 1) three 8 2 99) (gives 0 2 3 3 three 8 (bound 0 2))
     ∷ case 16 (given scopes three 8 2 99) (gives 0 2 4 11 (four (row 5 (0 ∷ 1 ∷ []))) 8 free)

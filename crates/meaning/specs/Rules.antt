@@ -7,7 +7,7 @@ use lib.Dec.{eqb}
 use lib.ListN.{length}
 use Rattle.meaning.specs.Bindings.{Bindings, unbound, bind, masked}
 use Rattle.meaning.specs.Table.{Strategy, ID, FAIL, TEST, NOT, SEQ, CHOICE, LEFT, REC, CALL, PATH, CONG, ALL, ONE, SOME, MATCH, BUILD, SCOPE, WHERE, Pattern, PVAR, PCON, Table}
-use Rattle.meaning.specs.Plan.{keep, drop, Plan, ret, fail, miss, look, make, ask}
+use Rattle.meaning.specs.Plan.{keep, drop, Plan, ret, fail, miss, stuck, look, make, ask}
 
 -- a visit: an entry applied as a strategy, a pattern position met by MATCH or by BUILD, a pair of terms compared
 pub data Visit (H : Type 0) : Type 0 where
@@ -106,9 +106,14 @@ module _ {H : Type 0} where
   matching p (PVAR v) h b = variable p (b v) v h b
   matching p (PCON c ps) h b = look h (λ d hs. whenAt p (agree c ps d hs) (walk (zip match ps hs) [] b (λ gs b′. ret h b′)))
 
+  -- what BUILD needs of variable v: its term; where it has no binding the run ends
+  unfoldable pub needed : ℕ → Option H → (H → Do H) → Do H
+  needed v none k = stuck v
+  needed v (some g) k = k g
+
   -- a pattern position met by BUILD
   unfoldable pub building : Pattern → H → Bindings H → Do H
-  building (PVAR v) h b = given (b v) (λ g. ret g b)
+  building (PVAR v) h b = needed v (b v) (λ g. ret g b)
   building (PCON c ps) h b = walk (map (λ p. build p h) ps) [] b (λ gs b′. make c gs (λ n. ret n b′))
 
   -- a pair of terms compared

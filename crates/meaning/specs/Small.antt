@@ -77,7 +77,7 @@ cases =
     ∷ case 10 (given (entry 17 0 (1 ∷ []) ++ matchX 1) three 8 2 99) (gives 0 2 3 3 three 8 (bound 0 2))
     ∷ case 11 (given (entry 7 0 (1 ∷ []) ++ entry 8 0 (0 ∷ [])) three 8 2 7) (gives 6 2 3 7 three 8 free)
     ∷ case 11 (given (entry 7 0 (1 ∷ []) ++ entry 8 0 (0 ∷ [])) three 8 2 5000) (gives 8 2 3 4096 three 8 free)
-    ∷ case 12 (given (entry 15 0 (1 ∷ []) ++ entry 18 0 []) three 8 2 99) (gives 1 2 3 2 three 8 free)
+    ∷ case 12 (given (entry 15 0 (1 ∷ []) ++ entry 18 0 []) three 8 2 99) (gives 12 2 3 2 three 8 free)
     ∷ []
 
 -- what the checks say of a run, and what it returns

@@ -9,7 +9,7 @@ use Prim.Native.Nat.{ℕ, zero, suc, _+_, _*_, _/_, _%_, _≤_, _<_}
 use native.Mathlib.Omega.{arith}
 use lib.Dec.{eqb}
 use lib.ListN.{length, getD, List·getD-eq-default}
-use borrow.Author.Tests.{le-leb, lt-leb}
+use borrow.Author.Tests.{le-leb, lt-leb, ne-eqb}
 use Rattle.words.specs.Words.{wordAt, rows, clearedFrom}
 use Rattle.words.proofs.Tests.{below-or-from}
 use Rattle.words.proofs.Rows.{length-clearedFrom, take-clearedFrom, getD-clearedFrom-from}
@@ -42,7 +42,7 @@ use Rattle.whole_job.proofs.Answering.{returned-mark}
 refusal-alone : (a : ℕ) → Refusal a → shown a ≡ false
 unfolding shown
 refusal-alone a of-sizes = refl
-refusal-alone a (of-entry n l m) = rw (lt-leb n 1 (omega arith), le-leb 6 n (omega arith), lt-leb n 8 (omega arith))
+refusal-alone a (of-entry n l m) = rw (lt-leb n 1 (omega arith), le-leb 6 n (omega arith), lt-leb n 8 (omega arith), ne-eqb n 12 (λ e. omega arith))
 refusal-alone a of-node = refl
 refusal-alone a of-start = refl
 

@@ -105,6 +105,8 @@ const FAILED: u64 = 0xffff_ffff;
 const NO_UNITS: u64 = 0xffff_fffe;
 const NO_ROOM: u64 = 0xffff_fffd;
 const NO_NESTING: u64 = 0xffff_fffc;
+/// The first of 32, one for each variable that BUILD may find unbound.
+const UNBOUND: u64 = NO_NESTING - 32;
 
 #[inline(always)]
 fn done(term: u32, left: u32) -> u64 {
@@ -133,7 +135,7 @@ fn left_of(state: u64) -> u32 {
 
 #[inline(always)]
 fn is_done(state: u64) -> bool {
-    state < NO_NESTING << 32
+    state < UNBOUND << 32
 }
 
 #[inline(always)]
@@ -697,7 +699,7 @@ fn built(table: &Table, m: &mut Machine, pattern: u32, left: u32, deep: u32) -> 
 #[inline(always)]
 fn held(m: &Machine, variable: u32, left: u32) -> u64 {
     if m.mask >> (variable % 32) & 1 == 0 {
-        return failed(left);
+        return (UNBOUND + u64::from(variable % 32)) << 32 | u64::from(left);
     }
     done(m.bound[variable as usize % VARIABLES], left)
 }
@@ -898,13 +900,14 @@ fn run_by(
         }
         [0, 0, term_of(got), m.mark, used]
     } else {
-        let answer = match got >> 32 {
-            FAILED => 1,
-            NO_UNITS => 6,
-            NO_ROOM => 7,
-            _ => 8,
+        let (answer, place) = match got >> 32 {
+            FAILED => (1, 0),
+            NO_UNITS => (6, 0),
+            NO_ROOM => (7, 0),
+            NO_NESTING => (8, 0),
+            variable => (12, (variable - UNBOUND) as u32),
         };
-        [answer, 0, subject, mark, used]
+        [answer, place, subject, mark, used]
     };
     m.store[WIDTH * numbers[3] as usize..].fill(0);
     numbers

@@ -107,6 +107,11 @@ fn each_answer_has_its_status_and_its_words() {
             "answer 9: line 2: it has 1 numbers, expected 2 to 8",
         ),
         (
+            &["job 9 0 0 1", "e 15 0 1", "e 18 7", "n 1"],
+            12,
+            "answer 12: variable 7 is built and unbound",
+        ),
+        (
             &["job 9 0 0 1", "e 20 0", "n 1"],
             13,
             "entry 0: unknown kind or wrong number of operands: word 0 is 320",
@@ -453,6 +458,7 @@ fn explain_gives_reasons() {
             pair[2],
         ]),
     );
+    assert_eq!(ran.status, 12);
     assert!(
         ran.output.contains("!v3 on 5(1, 2) ") && ran.output.contains(": v3 is not bound"),
         "{}",

@@ -33,6 +33,10 @@ impl Answer {
                  longest: see 'Long lists' in docs/PASSES.md. Or a loop does not end."
             }
             9 => "Correct that line. docs/REFERENCE.md has the lines of a job.",
+            12 => {
+                "Bind that variable before it is built. A condition under test or not puts the bindings back, where where_ keeps them; a \
+                 scope hides them; and a branch that failed leaves none."
+            }
             13..=17 => "Correct that entry of the table, or let the crate's builders lay it out.",
             _ => "docs/REFERENCE.md says what this answer means.",
         }

@@ -28,6 +28,9 @@ pub enum Answer {
     OutOfRoom,
     /// 8: a visit would have been nested deeper than 4,096. Subject, mark and bindings are as given.
     TooDeep,
+    /// 12: a BUILD met this variable, and it is unbound. The strategy is wrong, and nothing in it caught that. Subject, mark and
+    /// bindings are as given.
+    Unbound(Var),
 }
 
 impl Answer {
@@ -43,6 +46,7 @@ impl Answer {
             6 => Answer::OutOfUnits,
             7 => Answer::OutOfRoom,
             8 => Answer::TooDeep,
+            12 => Answer::Unbound(Var::new(place).expect("the archive's place is a variable")),
             13 => Answer::BadEntry(place, Fault::Kind),
             14 => Answer::BadEntry(place, Fault::Argument),
             15 => Answer::BadEntry(place, Fault::Operand),
@@ -72,13 +76,15 @@ impl Answer {
             Answer::OutOfUnits => 6,
             Answer::OutOfRoom => 7,
             Answer::TooDeep => 8,
+            Answer::Unbound(_) => 12,
         }
     }
 
-    /// The number of the bad entry or node, and 0 in all other answers.
+    /// The number of the bad entry, of the bad node or of the unbound variable, and 0 in all other answers.
     pub fn place(self) -> u32 {
         match self {
             Answer::BadEntry(place, _) | Answer::BadNode(place) => place,
+            Answer::Unbound(var) => var.number(),
             Answer::Done
             | Answer::Failed
             | Answer::RefusedSizes
@@ -97,11 +103,11 @@ impl Answer {
         )
     }
 
-    /// True for answers 6 to 8: a limit was met.
+    /// True for answers 6, 7, 8 and 12: a limit was met, or a variable that was to be built is unbound. No strategy catches it.
     pub fn is_cut_off(self) -> bool {
         matches!(
             self,
-            Answer::OutOfUnits | Answer::OutOfRoom | Answer::TooDeep
+            Answer::OutOfUnits | Answer::OutOfRoom | Answer::TooDeep | Answer::Unbound(_)
         )
     }
 }
@@ -118,6 +124,7 @@ impl fmt::Display for Answer {
             Answer::OutOfUnits => f.write_str("all units are used"),
             Answer::OutOfRoom => f.write_str("the store has no room"),
             Answer::TooDeep => f.write_str("a visit is nested too deep"),
+            Answer::Unbound(var) => write!(f, "variable {} is built and unbound", var.number()),
         }
     }
 }
@@ -198,14 +205,14 @@ mod tests {
 
     #[test]
     fn every_answer_has_its_own_number() {
-        for number in (0..=2).chain(4..=8).chain(13..=17) {
+        for number in (0..=2).chain(4..=8).chain(12..=17) {
             assert_eq!(Answer::told(number, 0).number(), number);
         }
     }
 
     #[test]
     fn no_other_number_is_an_answer() {
-        for number in [3, 9, 10, 11, 12, 18, 27, u32::MAX] {
+        for number in [3, 9, 10, 11, 18, 27, u32::MAX] {
             assert!(std::panic::catch_unwind(|| Answer::told(number, 0)).is_err());
         }
     }

@@ -213,7 +213,8 @@ pub fn match_(pattern: Pattern) -> Strategy {
     Strategy::new(14, 0, vec![pattern.tree])
 }
 
-/// BUILD: makes the pattern's term from the bindings, and fails at an unbound variable.
+/// BUILD: makes the pattern's term from the bindings. An unbound variable ends the run with
+/// [`Answer::Unbound`](crate::Answer::Unbound): no strategy around it catches that.
 pub fn build(pattern: Pattern) -> Strategy {
     Strategy::new(15, 0, vec![pattern.tree])
 }

@@ -134,11 +134,37 @@ fn s11_an_endless_call() {
 }
 
 #[test]
-fn s12_an_unbound_variable_is_not_built() {
+fn s12_an_unbound_variable_ends_the_run() {
     assert_eq!(
         ran(build(var(X)), 2, 99, 9).0,
-        ends(Answer::Failed, 2, 3, 2)
+        ends(Answer::Unbound(X), 2, 3, 2)
     );
+}
+
+#[test]
+fn nothing_catches_an_unbound_variable() {
+    let wrong = || build(con(9, [con(7, []), var(Y)]));
+    for (caught, units) in [
+        (not(wrong()), 5),
+        (left(wrong(), id()), 5),
+        (choice(wrong(), id()), 5),
+        (test(wrong()), 5),
+        (one(wrong()), 5),
+        (some(wrong()), 5),
+        (scope([X, Y], wrong()), 5),
+        (left(not(wrong()), id()), 6),
+    ] {
+        let (end, after, bindings) = ran(caught, 2, 99, 9);
+        assert_eq!(end, ends(Answer::Unbound(Y), 2, 3, units));
+        assert_eq!((end.answer.number(), end.answer.place()), (12, 1));
+        assert!(end.answer.is_cut_off() && !end.answer.is_refusal());
+        assert_eq!(end.found(), Err(Answer::Unbound(Y)));
+        assert!(after.words()[24..].iter().all(|&word| word == 0));
+        assert_eq!(bindings, Bindings::new());
+    }
+    // Its own units are tested first, and so is the room of a node before it.
+    assert_eq!(ran(wrong(), 2, 3, 9).0, ends(Answer::OutOfUnits, 2, 3, 3));
+    assert_eq!(ran(wrong(), 2, 99, 3).0, ends(Answer::OutOfRoom, 2, 3, 3));
 }
 
 #[test]

@@ -42,6 +42,8 @@ pub const NO_ROOM: u32 = 7;
 pub const NO_NESTING: u32 = 8;
 /// 01: "Answer 9 [..] is for text that breaks these rules".
 pub const BAD_TEXT: u32 = 9;
+/// 02, wish 3: "12 with the variable as its place".
+pub const UNBOUND: u32 = 12;
 /// 02, wish 4: "unknown kind or wrong operand count".
 pub const BAD_KIND: u32 = 13;
 /// 02, wish 4: "argument out of range, or non-zero where none is named".
@@ -53,10 +55,13 @@ pub const BAD_SORT: u32 = 16;
 /// 02, wish 4: "a non-zero unused word".
 pub const BAD_WORD: u32 = 17;
 
-/// Whether an answer is that of a run that began: done, failed or cut off.
-/// Every other answer is a refusal.
+/// Whether an answer is that of a run that began: done, failed, cut off, or
+/// ended at an unbound variable. Every other answer is a refusal.
 pub fn ran(answer: u32) -> bool {
-    matches!(answer, DONE | FAILED | NO_UNITS | NO_ROOM | NO_NESTING)
+    matches!(
+        answer,
+        DONE | FAILED | NO_UNITS | NO_ROOM | NO_NESTING | UNBOUND
+    )
 }
 
 /// The twenty kinds by name, numbered as in 01's table.

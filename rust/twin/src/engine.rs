@@ -7,8 +7,8 @@
 
 use crate::checks::{
     bad_store_length, bad_table_length, kind, kind_of, lowest_bad_entry, lowest_bad_node, sort_of,
-    Sort, BAD_LENGTH, BAD_NODE, BAD_START, DONE, FAILED, NO_NESTING, NO_ROOM, NO_UNITS, VARIABLES,
-    WIDTH,
+    Sort, BAD_LENGTH, BAD_NODE, BAD_START, DONE, FAILED, NO_NESTING, NO_ROOM, NO_UNITS, UNBOUND,
+    VARIABLES, WIDTH,
 };
 
 /// The deepest nesting of a visit. 01: "if its nesting would exceed 4,096".
@@ -17,9 +17,10 @@ pub const NESTING: u32 = 4_096;
 /// 01: "A run returns five numbers: answer, place, subject, mark, units used."
 #[derive(Clone, Copy, Debug, PartialEq, Eq)]
 pub struct Outcome {
-    /// 0 to 8 without 3 by 01's table, and 13 to 17 by 02.
+    /// 0 to 8 without 3 by 01's table, and 12 and 13 to 17 by 02.
     pub answer: u32,
-    /// The lowest bad entry for answers 13 to 17, the lowest bad node for 4, else 0.
+    /// The lowest bad entry for answers 13 to 17, the lowest bad node for 4,
+    /// the variable for 12, else 0.
     pub place: u32,
     /// The new subject for answer 0, else as given.
     pub subject: u32,
@@ -69,20 +70,22 @@ pub trait Watcher {
 
 impl Watcher for () {}
 
-/// Which limit was met.
+/// What ends the whole run.
 #[derive(Clone, Copy)]
-enum Limit {
+enum Stop {
     Units,
     Room,
     Nesting,
+    /// 02, wish 3: BUILD met this variable, and it is unbound.
+    Unbound(u32),
 }
 
 /// How a strategy ends without a new state.
 ///
-/// 01: "A strategy gives a new state or fails"; a limit met is the third way.
+/// 01: "A strategy gives a new state or fails"; the third way ends the run.
 enum End {
     Failed,
-    CutOff(Limit),
+    CutOff(Stop),
 }
 
 /// A run under way.
@@ -120,7 +123,7 @@ impl<'a, W: Watcher> Machine<'a, W> {
     fn make(&mut self, words: [u32; WIDTH]) -> Result<u32, End> {
         let first = WIDTH * self.mark as usize;
         if first == self.store.len() {
-            return Err(End::CutOff(Limit::Room));
+            return Err(End::CutOff(Stop::Room));
         }
         self.store[first..first + WIDTH].copy_from_slice(&words);
         self.mark += 1;
@@ -135,10 +138,10 @@ impl<'a, W: Watcher> Machine<'a, W> {
     /// counted."
     fn visit(&mut self, nesting: u32) -> Result<(), End> {
         if self.used == self.units {
-            return Err(End::CutOff(Limit::Units));
+            return Err(End::CutOff(Stop::Units));
         }
         if nesting > NESTING {
-            return Err(End::CutOff(Limit::Nesting));
+            return Err(End::CutOff(Stop::Nesting));
         }
         self.used += 1;
         Ok(())
@@ -149,7 +152,8 @@ impl<'a, W: Watcher> Machine<'a, W> {
     /// 01: "a failure has no bindings of its own"; "Whenever an operand fails
     /// and the run goes on, [..] the mark returns to its value before that
     /// operand"; "Where an operand ends in 6, 7 or 8 nothing catches it, not
-    /// even NOT or LEFT."
+    /// even NOT or LEFT." 02 says the same of 12: "like 6, 7 and 8 caught by
+    /// nothing".
     fn attempt(&mut self, entry: u32, term: u32, nesting: u32) -> Result<Option<u32>, End> {
         let bindings = self.bindings;
         let mark = self.mark;
@@ -425,10 +429,12 @@ impl<'a, W: Watcher> Machine<'a, W> {
         let row = self.entry(pattern);
         self.watcher.visited(row[0] / 16, nesting);
         if row[0] / 16 == kind::PVAR {
-            // 01: "and fails at an unbound variable."; "A bound variable is
-            // never copied."
+            // 02, wish 3: "12 with the variable as its place, given exactly
+            // where a run meets such a variable before a limit". The limits of
+            // this visit were tested above. 01: "A bound variable is never
+            // copied."
             return match self.bindings[row[1] as usize] {
-                0 => Err(End::Failed),
+                0 => Err(End::CutOff(Stop::Unbound(row[1]))),
                 word => Ok(word - 1),
             };
         }
@@ -530,9 +536,11 @@ pub fn run_watched<W: Watcher>(
         // 01: "subject, mark, bindings as given"; the caller's bindings were
         // not touched.
         Err(End::Failed) => given(FAILED, 0, used),
-        Err(End::CutOff(Limit::Units)) => given(NO_UNITS, 0, used),
-        Err(End::CutOff(Limit::Room)) => given(NO_ROOM, 0, used),
-        Err(End::CutOff(Limit::Nesting)) => given(NO_NESTING, 0, used),
+        Err(End::CutOff(Stop::Units)) => given(NO_UNITS, 0, used),
+        Err(End::CutOff(Stop::Room)) => given(NO_ROOM, 0, used),
+        Err(End::CutOff(Stop::Nesting)) => given(NO_NESTING, 0, used),
+        // 02, wish 3: "leaving the same memory".
+        Err(End::CutOff(Stop::Unbound(variable))) => given(UNBOUND, variable, used),
     };
     // 01: "In answers 0, 1, 6, 7 and 8 nodes below the given mark are unchanged
     // and every word from the returned mark to the end is zero."

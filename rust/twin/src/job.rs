@@ -1,6 +1,6 @@
 //! The job program: one job's text in, one answer's text out.
 
-use crate::checks::{BAD_TEXT, DONE, FAILED, NO_NESTING, NO_ROOM, NO_UNITS, VARIABLES, WIDTH};
+use crate::checks::{ran, BAD_TEXT, VARIABLES, WIDTH};
 use crate::engine::{run, Outcome};
 
 /// 01: "for more than 60,000 bytes".
@@ -252,8 +252,9 @@ pub fn job(text: &[u8]) -> Vec<u8> {
     let mut output = Vec::new();
     write_answer(&mut output, outcome);
     // 01: "for 0, 1, 6, 7 and 8 also the `n` lines of the nodes below the
-    // returned mark and the `b` lines of the returned bindings."
-    if let DONE | FAILED | NO_UNITS | NO_ROOM | NO_NESTING = outcome.answer {
+    // returned mark and the `b` lines of the returned bindings." 02 says of 12:
+    // "printed in a job like them".
+    if ran(outcome.answer) {
         for node in store.chunks(WIDTH).take(outcome.mark as usize) {
             let mut numbers = vec![node[0]];
             numbers.extend_from_slice(&node[2..2 + node[1] as usize]);

@@ -1,6 +1,6 @@
 //! What the generated cases cover, counted.
 
-use crate::checks::{kind, ran, BAD_TEXT, DONE, FAILED, NO_ROOM};
+use crate::checks::{kind, ran, BAD_TEXT, DONE, FAILED, NO_ROOM, UNBOUND};
 use crate::engine::{run_watched, Watcher};
 use crate::free::free_variables;
 use crate::generate::{free_case, job_text, run_case};
@@ -141,6 +141,8 @@ pub fn of_runs(seed: u64, count: u64) -> String {
     let mut bindings_done = 0u64;
     let mut deepest_exact = 0u64;
     let mut exact_units = Answers::new();
+    let mut unbound_made = 0u64;
+    let mut unbound_low = 0u64;
     let mut exact_room = 0u64;
     for index in 0..count {
         let mut case = run_case(seed, index);
@@ -152,6 +154,7 @@ pub fn of_runs(seed: u64, count: u64) -> String {
         let before = case.bindings.clone();
         counts.seen = [false; 20];
         counts.deepest = 0;
+        let made = counts.nodes;
         let outcome = run_watched(
             &case.table,
             &mut case.store,
@@ -172,6 +175,10 @@ pub fn of_runs(seed: u64, count: u64) -> String {
             *row.entry(answer).or_default() += 1;
             let exact = u64::from(outcome.units == case.units);
             *exact_units.entry(answer).or_default() += exact;
+        }
+        if answer == UNBOUND {
+            unbound_made += u64::from(counts.nodes > made);
+            unbound_low += u64::from(outcome.place == 0);
         }
         if answer == DONE {
             *built.entry(span(outcome.mark - case.mark)).or_default() += 1;
@@ -195,10 +202,18 @@ pub fn of_runs(seed: u64, count: u64) -> String {
     say(
         text,
         format_args!(
-            "all given units used: done {}, failed {}, room {}",
+            "all given units used: done {}, failed {}, room {}, unbound {}",
             exact(DONE),
             exact(FAILED),
-            exact(NO_ROOM)
+            exact(NO_ROOM),
+            exact(UNBOUND)
+        ),
+    );
+    say(
+        text,
+        format_args!(
+            "unbound variables met by BUILD: after nodes were made {}, variable 0 {}",
+            unbound_made, unbound_low
         ),
     );
     say(text, format_args!("done runs by new nodes kept"));

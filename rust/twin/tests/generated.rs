@@ -38,7 +38,11 @@ fn what_comes_back() {
                 assert_eq!(store, case.store, "{}", case.label);
                 continue;
             }
-            assert_eq!(outcome.place, 0, "{}", case.label);
+            if outcome.answer == 12 {
+                assert!(outcome.place < 32, "{}", case.label);
+            } else {
+                assert_eq!(outcome.place, 0, "{}", case.label);
+            }
             assert!(outcome.units <= case.units, "{}", case.label);
             let below = 8 * case.mark as usize;
             assert_eq!(store[..below], case.store[..below], "{}", case.label);
@@ -79,7 +83,7 @@ fn units_decide_as_they_should() {
             let (outcome, store, bindings) = run_it(&case, case.units);
             let used = outcome.units;
             match outcome.answer {
-                0 | 1 | 7 => {
+                0 | 1 | 7 | 12 => {
                     // The same with the units that it used; one less is 6.
                     let again = run_it(&case, used);
                     assert_eq!(again, (outcome, store, bindings), "{}", case.label);

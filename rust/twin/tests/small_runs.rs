@@ -150,10 +150,11 @@ fn s11_a_loop_meets_its_limit() {
 }
 
 #[test]
-fn s12_building_an_unbound_variable_fails() {
+fn s12_building_an_unbound_variable_ends_the_run() {
+    // 02, wish 3: "S12 changes to 12, units 2."
     let build = table(&[(BUILD, 0, &[1]), (PVAR, 0, &[])]);
     let after = run_small(&build, small_store(), 2, 1_000);
-    unchanged(&after, &small_store(), 1, 2, 2);
+    unchanged(&after, &small_store(), 12, 2, 2);
 }
 
 #[test]

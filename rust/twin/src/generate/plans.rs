@@ -261,13 +261,14 @@ impl<'a> Plan<'a> {
     /// A pattern to build, mostly from variables that are bound by then.
     fn construction(&mut self, depth: u32) -> u32 {
         if depth == 0 || self.random.chance(45) {
-            if self.random.chance(25) {
+            let constants = if self.bound.is_empty() { 75 } else { 25 };
+            if self.random.chance(constants) {
                 let entry = self.open(kind::PCON);
                 let constructor = constant(self.random);
                 return self.close(entry, constructor, &[]);
             }
             let entry = self.open(kind::PVAR);
-            let name = if self.bound.is_empty() || self.random.chance(4) {
+            let name = if self.bound.is_empty() || self.random.chance(3) {
                 self.variable()
             } else {
                 let bound = &self.bound;
@@ -363,6 +364,39 @@ impl<'a> Plan<'a> {
                 _ => plan.leaf(kind::FAIL),
             },
         )
+    }
+
+    /// An effect, then a BUILD that names a variable that nothing binds, often
+    /// after a part that makes nodes; around it something that catches failures.
+    fn overlooked(&mut self, focus: u32) -> u32 {
+        let build = |plan: &mut Plan<'a>| {
+            let entry = plan.open(kind::BUILD);
+            let pattern = plan.open(kind::PCON);
+            let first = plan.construction(1);
+            let second = plan.open(kind::PVAR);
+            let name = plan.random.below(32);
+            plan.close(second, name, &[]);
+            let operands = match plan.random.below(3) {
+                0 => [second, first],
+                _ => [first, second],
+            };
+            plan.close(pattern, 3, &operands);
+            plan.close(entry, 0, &[pattern])
+        };
+        let both = |plan: &mut Plan<'a>| plan.both(kind::SEQ, |plan| plan.effect(focus), build);
+        match self.random.below(8) {
+            0 => self.over(kind::NOT, 0, both),
+            1 => self.over(kind::TEST, 0, both),
+            2 => self.over(kind::WHERE, 0, both),
+            3 => self.over(kind::ONE, 0, build),
+            4 => self.over(kind::SOME, 0, build),
+            5 => {
+                let mask = self.mask();
+                self.over(kind::SCOPE, mask, both)
+            }
+            6 => self.both(kind::CHOICE, both, |plan| plan.leaf(kind::ID)),
+            _ => self.both(kind::LEFT, both, |plan| plan.leaf(kind::ID)),
+        }
     }
 
     /// A strategy that catches an abandoned effect.
@@ -634,6 +668,7 @@ impl<'a> Plan<'a> {
             10, // an abandoned effect
             9,  // a traversal
             3,  // an entry that nothing uses, then a strategy
+            2,  // a BUILD whose variable is unbound, under a catcher
         ];
         match self.random.weighed(&weights) {
             0 => self.strategy(focus, 0),
@@ -702,6 +737,7 @@ impl<'a> Plan<'a> {
                 self.strategy(focus, 0);
                 here(self)
             }
+            21 => self.overlooked(focus),
             _ => self.leaf(kind::ID),
         }
     }

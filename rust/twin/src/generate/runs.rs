@@ -206,6 +206,8 @@ fn general(random: &mut Random) -> RunCase {
             6 => 85,
             1 if outcome.units < 5 => 80,
             1 => 30,
+            12 if outcome.units < 8 => 80,
+            12 => 30,
             0 if outcome.units < 8 => 80,
             0 if outcome.mark == nodes => 50,
             _ => 0,

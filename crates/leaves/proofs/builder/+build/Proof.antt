@@ -14,7 +14,7 @@ use Rattle.leaves.proofs.Keeping.{roomy}
 use Rattle.leaves.proofs.Holding.{framed-refl}
 use Rattle.leaves.proofs.Limited.{units-out, nesting-out}
 use Rattle.leaves.proofs.Patterns.{no-variable, operand-pattern}
-use Rattle.leaves.proofs.Building.{Built, variable-built, variable-fails, built-none, built-all, built-more, build-stops}
+use Rattle.leaves.proofs.Building.{Built, variable-built, variable-unbound, built-none, built-all, built-more, build-stops}
 use Prim.Native.Nat.{ℕ, _+_, _-_, _<_, _≤_}
 use borrow.Fn.Kinds.{In}
 use borrow.Fn.PlainCycle.{Measures, is, falls, and}
@@ -22,7 +22,7 @@ use Rattle.leaves.proofs.builder.build.Reads as build
 use Rattle.leaves.proofs.builder.build.Kinds as build-kinds
 use Rattle.leaves.proofs.builder.+build.Lts-build as build-lts
 use Rattle.leaves.proofs.answers.done.Reads as done-reads
-use Rattle.leaves.proofs.answers.failure.Reads as failure-reads
+use Rattle.leaves.proofs.answers.no_binding.Reads as no-binding-reads
 use Rattle.leaves.proofs.answers.no_nesting.Reads as no-nesting-reads
 use Rattle.leaves.proofs.answers.no_units.Reads as no-units-reads
 use Rattle.leaves.proofs.answers.answer_of.Reads as answer-of-reads
@@ -45,7 +45,7 @@ abbrev build-below : ℕ → In 3 build-kinds.ps
 build-below t = and 3 build-kinds.ps (falls 3 build-kinds.ps _<_ μ-build t) build.Pre
 
 abbrev build-calls : ℕ → build-lts.Claims
-build-calls t = (no-units-reads.Asked, no-units-reads.Learnt, no-nesting-reads.Asked, no-nesting-reads.Learnt, kind-reads.Asked, kind-reads.Learnt, entry-reads.Asked, entry-reads.Learnt, bit-reads.Asked, bit-reads.Learnt, word-of-reads.Asked, word-of-reads.Learnt, done-reads.Asked, done-reads.Learnt, failure-reads.Asked, failure-reads.Learnt, operands-reads.Asked, operands-reads.Learnt, build-below t, build.Post, answer-of-reads.Asked, answer-of-reads.Learnt, node-reads.Asked, node-reads.Learnt)
+build-calls t = (no-units-reads.Asked, no-units-reads.Learnt, no-nesting-reads.Asked, no-nesting-reads.Learnt, kind-reads.Asked, kind-reads.Learnt, entry-reads.Asked, entry-reads.Learnt, bit-reads.Asked, bit-reads.Learnt, word-of-reads.Asked, word-of-reads.Learnt, done-reads.Asked, done-reads.Learnt, no-binding-reads.Asked, no-binding-reads.Learnt, operands-reads.Asked, operands-reads.Learnt, build-below t, build.Post, answer-of-reads.Asked, answer-of-reads.Learnt, node-reads.Asked, node-reads.Learnt)
 
 abbrev build-Inv-loop : build-lts.InvT-loop
 build-Inv-loop table store₀ st₀ p left deep u₀ n made₀ i₀ store st u made i =
@@ -90,6 +90,9 @@ build-returns-3 t c =
     let start = at-if1 .before .before in
     λ k. variable-built _ _ _ _ _ _ (at-if1 .if1 .left) (at-if2 .if2 .left) _ (is-variable t (at-before .before)) (at-entry .entry .ensures) k _ (omega arith) (start .pre .1 .3) (small t (at-before .before)) (sym (at-bit .bit .ensures) ∙ at-if4 .if4 .taken) (at-word .word-of .ensures) (c .done .ensures)
 
+build-no-binding-requires : (t : ℕ) → build-lts.Need-no-binding-requires (build-calls t) (build-at t) build.Post build-Inv-loop build-μ-loop
+build-no-binding-requires t c κs = let v = small t (c .before .before .before) in omega arith
+
 build-returns-4 : (t : ℕ) → build-lts.Need-returns-4 (build-calls t) (build-at t) build.Post build-Inv-loop build-μ-loop
 build-returns-4 t c =
     let at-if4 = c .before in
@@ -98,7 +101,7 @@ build-returns-4 t c =
     let at-entry = at-before .before in
     let at-if2 = at-entry .before .before .before in
     let at-if1 = at-if2 .before in
-    λ k. variable-fails _ _ _ _ _ _ (at-if1 .if1 .left) (at-if2 .if2 .left) _ (is-variable t (at-before .before)) (at-entry .entry .ensures) k _ (omega arith) (λ e. at-if4 .if4 .left (at-bit .bit .ensures ∙ e)) (c .failure .ensures)
+    λ k. variable-unbound _ _ _ _ _ _ (at-if1 .if1 .left) (at-if2 .if2 .left) _ (is-variable t (at-before .before)) (at-entry .entry .ensures) k _ (omega arith) (small t (at-before .before)) (λ e. at-if4 .if4 .left (at-bit .bit .ensures ∙ e)) (c .no-binding .ensures)
 
 build-loop-holds : (t : ℕ) → build-lts.Need-loop-holds (build-calls t) (build-at t) build.Post build-Inv-loop build-μ-loop
 build-loop-holds t c =
@@ -185,7 +188,7 @@ pub +build-spec : {M : Type 1} → statement M
     build-Inv-loop build-μ-loop (λ c κs. search needs) (build-returns t) (λ c κs. search needs) (build-returns-2 t)
     (λ c. search needs) (λ c κs. search needs) (λ c κs. search needs) (λ c. search needs) (build-bit-requires t)
     (build-word-of-requires t) (λ c κs. search needs) (build-returns-3 t)
-    (λ c κs. search needs) (build-returns-4 t) (λ c κs. search needs) (λ c κs. search needs) (build-loop-holds t)
+    (build-no-binding-requires t) (build-returns-4 t) (λ c κs. search needs) (λ c κs. search needs) (build-loop-holds t)
     (build-add-entry t) (build-entry-requires-3 t) (λ c. search needs) (build-build-requires t) (λ c κs. search needs)
     (λ c. search needs) (λ c. search needs) (build-returns-5 t) (λ c. search needs) (λ c. search needs)
     (λ c. search needs) (build-array-write-made t) (λ c. search needs) (λ c. search needs) (build-loop-again t)

@@ -23,9 +23,9 @@ sub-t26 c =
     let start = at-apply .before .before .before .before .before .before in
     failed-left _ _ _ _ _ _ (start .fits .units .fits) _ _ (at-apply .before .done .ensures) _ _ (at-apply .apply .ensures) _ (at-answer-of .answer-of .ensures) _ (at-a .a2 .given .1)
 
-sub-t30 : tie.Need-sub-t30
-sub-t30 c =
-    let at-a = c .before .before in
+sub-t31 : tie.Need-sub-t31
+sub-t31 c =
+    let at-a = c .before .before .before in
     let at-answer-of = at-a .before .before in
     let at-apply = at-answer-of .before .before .before in
     let start = at-apply .before .before .before .before .before .before in
@@ -49,16 +49,16 @@ returns-2 c =
 
 returns-3 : tie.Need-returns-3
 returns-3 c =
-    let at-a = c .before .before in
+    let at-a = c .before .before .before in
     let at-answer-of = at-a .before .before in
     let at-apply = at-answer-of .before .before .before in
     let start = at-apply .before .before .before .before .before .before in
-    cut-ends _ _ _ _ _ _ (start .fits .units .fits) _ _ (at-apply .before .done .ensures) _ _ (at-apply .apply .ensures) _ (at-answer-of .answer-of .ensures) _ (at-a .a3 .given .1) _ (c .cut-answer .ensures)
+    cut-ends _ _ _ _ _ _ (start .fits .units .fits) _ _ (at-apply .before .done .ensures) _ _ (at-apply .apply .ensures) _ (at-answer-of .answer-of .ensures) _ (at-a .a3 .given .1) _ _ (c .before .cut-answer .ensures) (c .cut-place .ensures)
 
 pub run-accepted-spec : {M : Type 1} → statement M
 run-accepted-spec =
     tie.close
     (tie.spec
     (λ c. search needs) (λ c κs. search needs) apply-requires (λ c κs. search needs) (λ c. search needs) (λ c. search needs)
-    sub-t25 (λ c. search needs) sub-t26 (λ c. search needs) (λ c κs. search needs) (λ c. search needs) sub-t30
+    sub-t25 (λ c. search needs) sub-t26 (λ c. search needs) (λ c κs. search needs) (λ c κs. search needs) (λ c. search needs) sub-t31
     (λ c. search needs) returns (λ c. search needs) returns-2 (λ c. search needs) returns-3)
