@@ -156,6 +156,51 @@ static void refusals(void)
     refused(MT_BAD_START, 0, 3, 3, "a subject at the mark");
 }
 
+/* 1 and 2 have no children, 5 has two, and no other constructor is declared. */
+static const uint32_t signature[6] = {MT_UNDECLARED, 0, 0, MT_UNDECLARED, MT_UNDECLARED, 2};
+
+static void signed_runs(void)
+{
+    static const uint32_t zeros[32];
+    static const uint32_t longer[MT_CONSTRUCTORS + 1];
+    uint32_t other[6];
+    size_t i;
+    fresh();
+    mt_run_signed(table, 64, store, 32, bindings, 32, 3, 0, 2, 10, signature, 6, numbers);
+    hold(is(numbers, MT_DONE, 0, 3, 4, 10), "signed: the numbers");
+    hold(same(store, after, 32) && same(bindings, zeros, 32), "signed: the store and the bindings");
+    fresh();
+    mt_run_signed(table, 64, store, 32, bindings, 32, 3, 0, 2, 9, signature, 6, numbers);
+    hold(is(numbers, MT_OUT_OF_UNITS, 0, 2, 3, 9), "signed: 9 units");
+    fresh();
+    for (i = 0; i < 6; i++)
+        other[i] = signature[i];
+    other[5] = 3;
+    mt_run_signed(table, 64, store, 32, bindings, 32, 3, 0, 2, 10, other, 6, numbers);
+    refused(MT_DISOBEYING_ENTRY, 4, 2, 3, "signed: the pair has three children");
+    mt_run_signed(table, 64, store, 32, bindings, 32, 3, 0, 2, 10, signature, 5, numbers);
+    refused(MT_DISOBEYING_ENTRY, 4, 2, 3, "signed: the pair is beyond the list");
+    mt_run_signed(table, 64, store, 32, bindings, 32, 3, 0, 2, 10, NULL, 0, numbers);
+    refused(MT_DISOBEYING_ENTRY, 4, 2, 3, "signed: an empty signature");
+    other[5] = 2;
+    other[2] = MT_UNDECLARED;
+    mt_run_signed(table, 64, store, 32, bindings, 32, 3, 0, 2, 10, other, 6, numbers);
+    refused(MT_DISOBEYING_NODE, 1, 2, 3, "signed: node 1 is not declared");
+    mt_run_signed(table, 64, store, 32, bindings, 32, 4, 0, 2, 10, other, 6, numbers);
+    refused(MT_BAD_NODE, 3, 2, 4, "signed: 4 before 11");
+    mt_run_signed(table, 64, store, 32, bindings, 32, 3, 6, 2, 10, other, 6, numbers);
+    refused(MT_DISOBEYING_NODE, 1, 2, 3, "signed: 11 before 5");
+    mt_run_signed(table, 64, store, 32, bindings, 32, 3, 6, 2, 10, signature, 6, numbers);
+    refused(MT_BAD_START, 0, 2, 3, "signed: a start that is a pattern");
+    other[0] = 8;
+    mt_run_signed(table, 64, store, 32, bindings, 32, 3, 0, 2, 10, other, 6, numbers);
+    refused(MT_BAD_SIZES, 0, 2, 3, "signed: a word above 7");
+    mt_run_signed(table, 64, store, 32, bindings, 32, 3, 0, 2, 10, longer, MT_CONSTRUCTORS + 1, numbers);
+    refused(MT_BAD_SIZES, 0, 2, 3, "signed: too long a list");
+    mt_run_signed(NULL, 0, NULL, 0, NULL, 0, 0, 0, 0, 0, NULL, 0, numbers);
+    hold(is(numbers, MT_BAD_SIZES, 0, 0, 0, 0), "signed: null everywhere");
+}
+
 /* The nodes 1 and 2 and the pair swapped: the node 5(0, 1), which nothing names, is gone. */
 static const uint32_t collected[32] = {1, 0, 0, 0, 0, 0, 0, 0, 2, 0, 0, 0, 0, 0, 0, 0, 5, 2, 1, 0, 0, 0, 0, 0};
 
@@ -245,6 +290,7 @@ int main(void)
 {
     the_job();
     refusals();
+    signed_runs();
     collection();
     empty_slices();
     if (wrong > 0 || held == 0)

@@ -18,9 +18,13 @@
  * THREADS. There is no global state. Calls in several threads may run at the same time if none writes what another uses.
  * Several runs may share one table.
  *
+ * THE SIGNATURE of mt_run_signed. One word for each constructor from 0 on: the child count that it is declared with, or
+ * MT_UNDECLARED. At most 65,536 words. A constructor beyond the list is undeclared. An empty signature (null with length 0) is
+ * not no signature: with it every constructor is undeclared.
+ *
  * THE WORK LIST of mt_collect. A word for each node of the store, or more. It may hold anything, and is zero afterwards.
  *
- * THE STACK. Give a thread that calls mt_run MT_STACK bytes (2 MiB). A run nests at most 4,096 visits, and each form of
+ * THE STACK. Give a thread that calls mt_run or mt_run_signed MT_STACK bytes (2 MiB). A run nests at most 4,096 visits, and each form of
  * visit takes its own number of bytes. The deepest, CONG, takes 1.9 MiB in all; in this is a copy of the table,
  * 128 KiB whatever the table's size. It is measured, not proved: the Rust crate's tests run 4,096 levels of each form on a
  * thread of exactly 2 MiB. The other functions take less than 64 KiB. On a smaller stack a deep run ends in the thread's
@@ -83,6 +87,10 @@ extern "C" {
 #define MT_VARIABLES 32
 #define MT_STACK 2097152
 
+/* The most words of a signature, and the word of a constructor that is not declared. */
+#define MT_CONSTRUCTORS 65536
+#define MT_UNDECLARED 7
+
 /* Word 0 of an entry. */
 #define MT_ENTRY(kind, operands) (16u * (uint32_t)(kind) + (uint32_t)(operands))
 
@@ -110,8 +118,8 @@ enum mt_kind {
 };
 
 /*
- * The answers. They are asked in the order 2, 13 to 17, 4, 5, then comes the run.
- * In answers 2, 4, 5 and 13 to 17 nothing is written but the numbers.
+ * The answers. They are asked in the order 2, 13 to 17, 4, 10, 11, 5, then comes the run.
+ * In answers 2, 4, 5, 10, 11 and 13 to 17 nothing is written but the numbers.
  * In answers 0, 1, 6, 7, 8 and 12 the nodes below the given mark are unchanged, and every store word from the returned mark
  * to the end is zero. In answers 1, 6, 7, 8 and 12 the bindings are as given. No strategy catches 6, 7, 8 or 12.
  */
@@ -119,13 +127,18 @@ enum mt_answer {
     MT_DONE = 0,         /* new subject, mark and bindings */
     MT_FAILED = 1,       /* the strategy failed */
     MT_BAD_SIZES = 2,    /* the table is empty, over 32,768 words or no multiple of 8; the store is over 1,048,576 words or
-                            no multiple of 8; the bindings are not 32 words; the mark exceeds the store's nodes */
+                            no multiple of 8; the bindings are not 32 words; the mark exceeds the store's nodes; the
+                            signature is over 65,536 words or has a word above 7 */
     MT_BAD_NODE = 4,     /* a node below the mark is malformed; the place is the lowest such node */
     MT_BAD_START = 5,    /* the start is outside the table or a pattern; the subject is not below the mark; a binding
                             word exceeds the mark */
     MT_OUT_OF_UNITS = 6, /* all units were used */
     MT_OUT_OF_ROOM = 7,  /* a node was to be made and the mark equals the store's nodes */
     MT_TOO_DEEP = 8,     /* a visit would have been nested deeper than 4,096 */
+    /* 10 and 11 are given by mt_run_signed alone. */
+    MT_DISOBEYING_ENTRY = 10, /* a CONG or a PCON, used or not, whose constructor is not declared with its count; the place is
+                                 the lowest such entry */
+    MT_DISOBEYING_NODE = 11,  /* the same of a node below the mark, reachable or not; the place is the lowest such node */
     MT_UNBOUND = 12,     /* a BUILD met a variable that is unbound; the place is the variable. The strategy is wrong: this is no
                             failure, and no malformed table */
     /* 13 to 17: an entry is malformed, and the place is the lowest such entry. Of its faults the first in this order is given;
@@ -141,7 +154,7 @@ enum mt_answer {
 /* Where each number stands in `numbers`. */
 enum mt_number {
     MT_ANSWER = 0,  /* one of enum mt_answer */
-    MT_PLACE = 1,   /* the bad entry in answers 13 to 17, the bad node in 4, the variable in 12, and 0 otherwise */
+    MT_PLACE = 1,   /* the bad entry in answers 10 and 13 to 17, the bad node in 4 and 11, the variable in 12, and 0 otherwise */
     MT_SUBJECT = 2, /* mt_run, mt_collect: the new subject in answer 0, and the given one otherwise */
     MT_MARK = 3,    /* mt_run, mt_collect: the new mark in answer 0, and the given one otherwise */
     MT_UNITS = 4,   /* mt_run: the visits counted; 0 where nothing was run */
@@ -152,6 +165,10 @@ enum mt_number {
 void marshtrundle_run(const uint32_t *table, size_t table_words, uint32_t *store, size_t store_words,
                       uint32_t *bindings, size_t bindings_words, uint32_t mark, uint32_t start, uint32_t subject,
                       uint32_t units, uint32_t numbers[5]);
+void marshtrundle_run_signed(const uint32_t *table, size_t table_words, uint32_t *store, size_t store_words,
+                             uint32_t *bindings, size_t bindings_words, uint32_t mark, uint32_t start,
+                             uint32_t subject, uint32_t units, const uint32_t *signature, size_t signature_words,
+                             uint32_t numbers[5]);
 void marshtrundle_collect(uint32_t *store, size_t store_words, uint32_t *bindings, size_t bindings_words,
                           uint32_t *work, size_t work_words, uint32_t mark, uint32_t subject, uint32_t numbers[4]);
 void marshtrundle_free_variables(const uint32_t *table, size_t table_words, uint32_t entry, uint32_t numbers[3]);
@@ -171,6 +188,23 @@ static inline void mt_run(const uint32_t *table, size_t table_words, uint32_t *s
     marshtrundle_run(table ? table : &none[0], table ? table_words : 0, store ? store : &none[1],
                      store ? store_words : 0, bindings ? bindings : &none[2], bindings ? bindings_words : 0, mark,
                      start, subject, units, numbers);
+}
+
+/*
+ * Runs as mt_run does, with a signature: every CONG and every PCON of the table and every node below the mark must have a
+ * declared constructor with its declared count, or the call is refused with 10 or 11. Every node below the mark that comes
+ * back obeys the signature too.
+ */
+static inline void mt_run_signed(const uint32_t *table, size_t table_words, uint32_t *store, size_t store_words,
+                                 uint32_t *bindings, size_t bindings_words, uint32_t mark, uint32_t start,
+                                 uint32_t subject, uint32_t units, const uint32_t *signature, size_t signature_words,
+                                 uint32_t numbers[5])
+{
+    uint32_t none[4] = {0, 0, 0, 0};
+    marshtrundle_run_signed(table ? table : &none[0], table ? table_words : 0, store ? store : &none[1],
+                            store ? store_words : 0, bindings ? bindings : &none[2], bindings ? bindings_words : 0,
+                            mark, start, subject, units, signature ? signature : &none[3],
+                            signature ? signature_words : 0, numbers);
 }
 
 /*

@@ -22,6 +22,8 @@ LIST = {
     7: ("MT_OUT_OF_ROOM", "OutOfRoom", "NO_ROOM", "number room"),
     8: ("MT_TOO_DEEP", "TooDeep", "NO_NESTING", "number nesting"),
     9: (None, None, "BAD_TEXT", "answered"),  # of the job program alone
+    10: ("MT_DISOBEYING_ENTRY", "DisobeyingEntry", "SIGNED_ENTRY", "found"),
+    11: ("MT_DISOBEYING_NODE", "DisobeyingNode", "SIGNED_NODE", "found"),
     12: ("MT_UNBOUND", "Unbound", "UNBOUND", "number unbound"),
     13: ("MT_BAD_KIND", "Kind", "BAD_KIND", "of-count"),
     14: ("MT_BAD_ARGUMENT", "Argument", "BAD_ARGUMENT", "of-argument"),
@@ -49,7 +51,7 @@ def specs():
     found = {("number " + name, int(n)) for name, n in pairs(answer, r"(?m)^number \(?(\w+)(?: \w+\))? = (\d+)$")}
     found |= {("returned", int(n)) for n in re.findall(r"\banswer = (\d+);", answer)}
     found |= pairs(answer, r"\b(asGiven) i (\d+) ")
-    for path in ("crates/checks/specs/Checked.antt", "crates/marshtrundle/specs/Refused.antt"):
+    for path in ("crates/checks/specs/Checked.antt", "crates/checks/specs/Signature.antt", "crates/marshtrundle/specs/Refused.antt"):
         found |= pairs((ROOT / path).read_text(), r"\b(checked|found) (\d+) ")
     found |= pairs((ROOT / "crates/checks/specs/Plain.antt").read_text(), r"\b(of-\w+) : .*Faulty (\d+)")
     found |= pairs((ROOT / "crates/whole_job/specs/Whole.antt").read_text(), r"\b(answered) (\d+) ")

@@ -1,6 +1,6 @@
 """cases DIR TWIN: writes DIR/stdin, the cases that the program vectors executes, and DIR/stdout, what it must write.
 
-The cases of checks.py, free.py, runs.py, collects.py and jobs.py come with the answers of model.py. After those of a call stands a sample of
+The cases of checks.py, free.py, runs.py, signed.py, collects.py and jobs.py come with the answers of model.py. After those of a call stands a sample of
 what the program TWIN of rust/twin generates, with its own answers; last the jobs of examples/, with the answers stored there.
 A further call has a module here with a function write, and a line in CALLS.
 """
@@ -17,6 +17,7 @@ import free
 import jobs
 import lend
 import runs
+import signed
 
 SEED = "20261115"
 EXAMPLES = pathlib.Path(__file__).resolve().parent.parent.parent / "examples"
@@ -56,6 +57,31 @@ def run_sample(twin):
         lend.add("r", case, answer + b"\n")
 
 
+def signed_sample(twin):
+    """A call is a line `l MARK START SUBJECT UNITS SLICES (SLICE LENGTH FILL).. PATCHES (SLICE WORD VALUE).. LABEL`; slice 3 is the
+    signature, which stands behind the table here. A long store is shown by a sum modulo 2^64.
+    """
+    for case, answer in sample(twin, "signed", 300):
+        _, mark, start, subject, units, count, *words, label = case.split()
+        numbers = list(map(int, words))
+        slices = {numbers[i]: numbers[i + 1:i + 3] for i in range(0, 3 * int(count), 3)}
+        rest = numbers[3 * int(count) + 1:]
+        triples = list(zip(rest[::3], rest[1::3], rest[2::3]))
+        (at, zero), (store, above), (bindings, none), (length, fill) = (slices[k] for k in range(4))
+        # Only the words from the mark on may begin as another word than 0: here as the greatest.
+        assert zero == none == 0
+        patches = [(1, i, above) for i in range(8 * int(mark), store)] if above not in (0, 2**32 - 1) else []
+        patches += [(0, at + w, v) if k == 3 else (k, w, v) for k, w, v in triples]
+        body = [at + length, store, bindings, int(mark), int(start), int(subject), int(units), 16 + (above == 2**32 - 1), 0, at, fill, len(patches)]
+        body += [x for p in patches for x in p]
+        text = (" ".join(map(str, body)) + " ").encode() + label
+        if store > 512:
+            head, _, h = answer.rpartition(b" ")
+            answer = head + b" %d" % (int(h) % 2**32)
+        if len(text) <= 131072:
+            lend.add("g", text, answer + b"\n")
+
+
 def job_sample(twin):
     for case, answer in sample(twin, "jobs", 600):
         lend.add("j", case, jobs.framed(answer))
@@ -63,7 +89,7 @@ def job_sample(twin):
         lend.add("j", path.read_bytes(), jobs.framed(path.with_suffix(".answer").read_bytes()))
 
 
-CALLS = ((checks.write, None), (free.write, free_sample), (runs.write, run_sample), (collects.write, None), (jobs.write, job_sample))
+CALLS = ((checks.write, None), (free.write, free_sample), (runs.write, run_sample), (signed.write, signed_sample), (collects.write, None), (jobs.write, job_sample))
 
 
 def write(folder, twin):

@@ -1,6 +1,6 @@
 """A model of document 01, with what document 02 changes in it, written from their texts and sharing nothing with the crates: the
-two checks, the question of free variables, the run, the collection, and the job text. What the executed cases must answer comes
-from it.
+two checks, the question of free variables, the run, also with a signature, the collection, and the job text. What the executed
+cases must answer comes from it.
 """
 import re
 
@@ -120,13 +120,33 @@ def free_variables(t, e):
 
 # The run. A state is a term and a dictionary of bindings; a failure is None.
 
-def refusal(t, s, b, mark, start, subject):
-    """The answer and the place; 0 where nothing is refused."""
-    if not table_fits(t) or not store_fits(s, mark) or len(b) != 32:
+def signature_fits(signature):
+    return len(signature) <= 65536 and all(w <= 7 for w in signature)
+
+
+def declared(signature, con, count):
+    """7 declares nothing, and is no count."""
+    return con < len(signature) and signature[con] == count < 7
+
+
+def disobeying(t, s, mark, signature):
+    """10 with the lowest CONG or PCON, then 11 with the lowest node below the mark, that does not obey; or 0."""
+    for e in range(len(t) // 8):
+        kind, count = divmod(t[8 * e], 16)
+        if kind in (CONG, PCON) and not declared(signature, t[8 * e + 1], count):
+            return 10, e
+    return next(((11, k) for k in range(mark) if not declared(signature, *s[8 * k:8 * k + 2])), (0, 0))
+
+
+def refusal(t, s, b, mark, start, subject, signature=None):
+    """The answer and the place; 0 where nothing is refused. No signature is None, and not an empty one."""
+    if not table_fits(t) or not store_fits(s, mark) or len(b) != 32 or signature is not None and not signature_fits(signature):
         return 2, 0
     bad = bad_entry(t)
     if bad == (0, 0):
         bad = bad_node(s, mark)
+    if bad == (0, 0) and signature is not None:
+        bad = disobeying(t, s, mark, signature)
     if bad == (0, 0) and (not is_start(t, start) or subject >= mark or any(w > mark for w in b)):
         bad = 5, 0
     return bad
@@ -277,9 +297,9 @@ class Run:
         return self.make(word[1], [self.build(q, b, n + 1) for q in word[2:2 + word[0] % 16]])
 
 
-def run(t, s, b, mark, start, subject, units):
+def run(t, s, b, mark, start, subject, units, signature=None):
     """The five numbers, the store and the bindings at return."""
-    bad = refusal(t, s, b, mark, start, subject)
+    bad = refusal(t, s, b, mark, start, subject, signature)
     if bad[0]:
         return [*bad, subject, mark, 0], s, b
     r = Run(t, s, mark, units)

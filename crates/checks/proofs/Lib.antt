@@ -2,3 +2,4 @@
 pub mod Tables
 pub mod Good
 pub mod Promises
+pub mod Obeying

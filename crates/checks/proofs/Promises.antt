@@ -24,14 +24,14 @@ use Rattle.checks.proofs.Good.{not-fact, faulty-within, fault-plain, go
 
 module _ (good : ℕ → Bool) (n : ℕ) where
   -- The search finds nothing where all are good.
-  none-good : rejected good 0 n ≡ none ↔ AllGood good n
+  pub none-good : rejected good 0 n ≡ none ↔ AllGood good n
   none-good = (
     λ e k l. rejected-none good 0 n .0 e k (omega arith) (omega arith),
     λ h. rejected-none good 0 n .1 (λ k l m. h k (omega arith)),
   )
 
   -- The search finds the lowest that is not good.
-  some-lowest : (p : ℕ) → rejected good 0 n ≡ some p ↔ Lowest good n p
+  pub some-lowest : (p : ℕ) → rejected good 0 n ≡ some p ↔ Lowest good n p
   some-lowest p = (
     λ e.
         let f : First good 0 n p = rejected-some good 0 n p .0 e in

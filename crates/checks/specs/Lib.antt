@@ -3,4 +3,5 @@ pub mod Kinds
 pub mod Good
 pub mod Plain
 pub mod Checked
+pub mod Signature
 pub mod Promises

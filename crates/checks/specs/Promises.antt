@@ -10,6 +10,7 @@ use Rattle.checks.specs.declared.Checked.{Checked}
 use Rattle.checks.specs.Good.{fault, goodEntry, goodNode}
 use Rattle.checks.specs.Plain.{TableLength, StoreLength, Entry, Faulty, Node}
 use Rattle.checks.specs.Checked.{checked, tableChecked, storeChecked}
+use Rattle.checks.specs.Signature.{signatureFits, entryObeys, nodeObeys, entriesChecked, nodesChecked, Signature, EntryObeys, NodeObeys}
 
 -- every number below n is good
 abbrev pub AllGood : (ℕ → Bool) → ℕ → Type 0
@@ -85,3 +86,29 @@ entryPlain = (t : List ℕ) (e : ℕ) → goodEntry t e ≡ true ↔ Entry t e
 -- a good node is the plain facts
 abbrev pub nodePlain : Type 0
 nodePlain = (s : List ℕ) (k : ℕ) → goodNode s k ≡ true ↔ Node s k
+
+-- ---- a signature
+
+-- a signature that fits, an entry and a node that obey it are the plain facts
+abbrev pub signaturePlain : Type 0
+signaturePlain = (g : List ℕ) → signatureFits g ≡ true ↔ Signature g
+
+abbrev pub entryObeysPlain : Type 0
+entryObeysPlain = (g t : List ℕ) (e : ℕ) → entryObeys g t e ≡ true ↔ EntryObeys g t e
+
+abbrev pub nodeObeysPlain : Type 0
+nodeObeysPlain = (g s : List ℕ) (k : ℕ) → nodeObeys g s k ≡ true ↔ NodeObeys g s k
+
+-- answer 0: every entry obeys; 10 with its place: the lowest that does not
+abbrev pub entriesPass : Type 0
+entriesPass = (g t : List ℕ) → (entriesChecked g t .answer ≡ 0) ↔ AllGood (entryObeys g t) (rows t)
+
+abbrev pub entriesReject : Type 0
+entriesReject = (g t : List ℕ) (p : ℕ) → (entriesChecked g t ≡ checked 10 p) ↔ Lowest (entryObeys g t) (rows t) p
+
+-- answer 0: every node below the mark obeys; 11 with its place: the lowest that does not
+abbrev pub nodesPass : Type 0
+nodesPass = (g s : List ℕ) (mark : ℕ) → (nodesChecked g s mark .answer ≡ 0) ↔ AllGood (nodeObeys g s) mark
+
+abbrev pub nodesReject : Type 0
+nodesReject = (g s : List ℕ) (mark p : ℕ) → (nodesChecked g s mark ≡ checked 11 p) ↔ Lowest (nodeObeys g s) mark p

@@ -8,6 +8,7 @@ pub mod entries;
 pub mod kinds;
 pub mod nodes;
 pub mod rows;
+pub mod signature;
 
 // An answer from document 01's list, and its place: 0 and 0 where nothing is wrong.
 pub struct Checked {

@@ -39,7 +39,7 @@ inside t e l h = go (leb (length t) (8 * e + 0)) refl
     go false q = omega (arith, leb-false (length t) (8 * e + 0) q)
 
 -- every pattern of the table can be made
-makeable : (t : List ℕ) → Entries t → Makeable (table t)
+makeable : (t : List ℕ) → Entries t → Makeable Holdable (table t)
 unfolding table
 makeable t n e a ps q = go (kindOf t e - 18) refl q
   where

@@ -5,4 +5,5 @@ pub mod Fetching
 pub mod Hinting
 pub mod Whole
 pub mod Promises
+pub mod Signed
 pub mod Small

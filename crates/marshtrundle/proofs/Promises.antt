@@ -45,7 +45,7 @@ use Rattle.free.specs.Answered.{Answered}
 use Rattle.free.proofs.Smallest.{below-32}
 use Rattle.free.proofs.Promises.{neverThree as freeNeverThree}
 use Rattle.marshtrundle.specs.Refused.{sizesFit, startFits, refused}
-use Rattle.marshtrundle.specs.Run.{input, atReturn, refusing, runOf}
+use Rattle.marshtrundle.specs.Run.{input, atReturn, refusing, runWith, runOf}
 use Rattle.marshtrundle.specs.Promises as promises
 use Rattle.marshtrundle.specs.Promises.{Runs, AsGiven, Ended, Told, SizesFit, EntriesGood, NodesGood, StartFits, Refusal, of-sizes, of-entry, of-node, of-start, InList, when-done, when-failed, when-refused, when-cut-off, when-unbound}
 use Rattle.marshtrundle.specs.declared.running.Outcome.{Outcome}
@@ -70,8 +70,8 @@ agreeing i o o′ s s′ b b′ p q =
 
 module _ (i : Input) where
   -- the run of an accepted input
-  runs : Accepted i → runOf i ≡ returned i (ran quiet tt i)
-  unfolding runOf
+  pub runs : Accepted i → runOf i ≡ returned i (ran quiet tt i)
+  unfolding runWith
   runs a = rw (accepted-back (i .table) (i .store) (i .bindings) (i .mark) (i .start) (i .subject) (i .units) a)
 
   -- an input is accepted, or its verdict is not 0
@@ -83,7 +83,7 @@ module _ (i : Input) where
       go false e = inr e
 
   turned-away : eqb (verdict i .answer) 0 ≡ false → runOf i ≡ refusing i (verdict i)
-  unfolding runOf
+  unfolding runWith
   turned-away e = rw e
 
 -- a run's own answers
@@ -129,7 +129,7 @@ refusal-not-three n of-start e = omega arith
 
 module _ (i : Input) (o : Outcome) (s b : List ℕ) (p : Runs i o s b) where
   -- what comes back from a run, and from a refusal
-  came : Accepted i → atReturn o s b ≡ returned i (ran quiet tt i)
+  pub came : Accepted i → atReturn o s b ≡ returned i (ran quiet tt i)
   came a = p ∙ runs i a
 
   refused-came : eqb (verdict i .answer) 0 ≡ false → atReturn o s b ≡ refusing i (verdict i)
@@ -186,16 +186,16 @@ module _ (i : Input) (o : Outcome) (s b : List ℕ) (p : Runs i o s b) where
 
   sizes-answer : (o .answer ≡ 2) ↔ (SizesFit i → ⊥)
   sizes-answer = (
-    λ e. accepting.refused-sizes i (o .place) .0 (by-verdict 2 (o .place) (omega arith) (inl (omega arith)) .0 (e, refl)) .1,
-    λ n. by-verdict 2 0 (omega arith) (inl (omega arith)) .1 (accepting.refused-sizes i 0 .1 (refl, n)) .0,
+    λ e. accepting.plain-sizes i (o .place) .0 (by-verdict 2 (o .place) (omega arith) (inl (omega arith)) .0 (e, refl)) .1,
+    λ n. by-verdict 2 0 (omega arith) (inl (omega arith)) .1 (accepting.plain-sizes i 0 .1 (refl, n)) .0,
   )
 
   start-answer : (o .answer ≡ 5) ↔ (SizesFit i × EntriesGood i × NodesGood i × (StartFits i → ⊥))
   start-answer = (
     λ e.
-        let f = accepting.refused-start i (o .place) .0 (by-verdict 5 (o .place) (omega arith) (inl (omega arith)) .0 (e, refl)) in
+        let f = accepting.plain-start i (o .place) .0 (by-verdict 5 (o .place) (omega arith) (inl (omega arith)) .0 (e, refl)) in
         (f .0, f .1 .0, f .1 .1 .0, f .1 .1 .1 .1),
-    λ f. by-verdict 5 0 (omega arith) (inl (omega arith)) .1 (accepting.refused-start i 0 .1 (f .0, (f .1, (f .2, (refl, f .3))))) .0,
+    λ f. by-verdict 5 0 (omega arith) (inl (omega arith)) .1 (accepting.plain-start i 0 .1 (f .0, (f .1, (f .2, (refl, f .3))))) .0,
   )
 
   unplaced : o .answer ≢ 4 → o .answer < 12 → o .place ≡ 0
@@ -212,13 +212,13 @@ refuses-sizes = sizes-answer
 pub refuses-entry : promises.Refuses-entry
 refuses-entry i o s b n k l p =
     let v = by-verdict i o s b p n k (omega arith) (inr (omega arith)) in
-    let w = accepting.refused-entry i n k l in
+    let w = accepting.plain-entry i n k l in
     (λ e. let f = w .0 (v .0 e) in (f .0, f .1 .0, f .1 .1), λ f. v .1 (w .1 (f .0, (f .1, f .2))))
 
 pub refuses-node : promises.Refuses-node
 refuses-node i o s b k p =
     let v = by-verdict i o s b p 4 k (omega arith) (inl (omega arith)) in
-    let w = accepting.refused-node i k in
+    let w = accepting.plain-node i k in
     (λ e. let f = w .0 (v .0 e) in (f .0, f .1 .0, f .1 .1), λ f. v .1 (w .1 (f .0, (f .1, f .2))))
 
 pub refuses-start : promises.Refuses-start
@@ -250,7 +250,7 @@ refuses = malformed
 -- ---- what is given back
 
 module _ (i : Input) (o : Outcome) (s b : List ℕ) where
-  as-given : {a p u : ℕ} {w : List ℕ} → atReturn o s b ≡ record { answer = a; place = p; subject = i .subject; mark = i .mark; units = u; store = w; bindings = i .bindings } → AsGiven i o b
+  pub as-given : {a p u : ℕ} {w : List ℕ} → atReturn o s b ≡ record { answer = a; place = p; subject = i .subject; mark = i .mark; units = u; store = w; bindings = i .bindings } → AsGiven i o b
   as-given e = record {
     subject = ap (λ (r : Returned). r .subject) e;
     mark = ap (λ (r : Returned). r .mark) e;
@@ -276,7 +276,7 @@ gives-back i o s b p n =
 -- ---- the store
 
 -- zeros from a place on leave the nodes below it
-cleared-kept : (w : List ℕ) (m n : ℕ) → m ≤ n → Kept w m (clearedFrom w (8 * n))
+pub cleared-kept : (w : List ℕ) (m n : ℕ) → m ≤ n → Kept w m (clearedFrom w (8 * n))
 cleared-kept w m n l = record { long = length-clearedFrom w (8 * n); same = take-clearedFrom w (8 * m) (8 * n) (omega arith) }
 
 returned-kept : (i : Input) (r : Ran) → Leaves (i .store) (i .mark) r → Kept (i .store) (i .mark) (returned i r .store)
@@ -285,9 +285,12 @@ returned-kept i (ended k b s u) l = kept-trans (omega arith) (l .1) (cleared-kep
 returned-kept i (lost w u) l = kept-trans (omega arith) l (cleared-kept (w .words) (i .mark) (i .mark) (omega arith))
 returned-kept i (cut c w u) l = kept-trans (omega arith) l (cleared-kept (w .words) (i .mark) (i .mark) (omega arith))
 
+pub ran-kept : (i : Input) → Accepted i → Kept (i .store) (i .mark) (returned i (ran quiet tt i) .store)
+ran-kept i a = returned-kept i (ran quiet tt i) (meant-demands.over-the-words (Unit {0}) quiet tt i a .1)
+
 pub keeps : promises.Keeps
 keeps i o s b p =
-    ⊎-elim (λ a. subst (Kept (i .store) (i .mark)) (sym (ap (λ (r : Returned). r .store) (came i o s b p a))) (returned-kept i (ran quiet tt i) (meant-demands.over-the-words (Unit {0}) quiet tt i a .1)))
+    ⊎-elim (λ a. subst (Kept (i .store) (i .mark)) (sym (ap (λ (r : Returned). r .store) (came i o s b p a))) (ran-kept i a))
     (λ e. subst (Kept (i .store) (i .mark)) (sym (ap (λ (r : Returned). r .store) (refused-came i o s b p e))) (kept-refl (i .store) (i .mark)))
     (judged i)
 

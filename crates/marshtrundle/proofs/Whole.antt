@@ -37,8 +37,8 @@ use Rattle.leaves.specs.Visits.{visit, limitOf, meaning, out, Entries, Steady, 
 use Rattle.cycle.specs.Cycle.{Hinted, Ready}
 use Rattle.leaves.proofs.AnswerWords.{node-packed, units-packed, out-answer}
 use Rattle.marshtrundle.specs.Loaded.{Loaded, Opened}
-use Rattle.marshtrundle.specs.Refused.{refused}
-use Rattle.marshtrundle.specs.Run.{atReturn, refusing, runOf, cutNumber, cutPlace, numbers, wordsOf, Ends}
+use Rattle.marshtrundle.specs.Refused.{refusedWith}
+use Rattle.marshtrundle.specs.Run.{atReturn, refusing, runWith, cutNumber, cutPlace, numbers, wordsOf, Ends}
 use Rattle.marshtrundle.specs.declared.running.Outcome.{Outcome}
 
 -- the units that a run has left are not more than it was given
@@ -219,14 +219,14 @@ module _ (i : Input) (a : Accepted i) (r : Outcome) (st w : List ℕ) (ends : En
   comes-back b′ y n = come (ran quiet tt i) refl b′ y n
 
 -- a refusal, and none
-module _ (i : Input) (r : Checked) (is : r ≡ refused (i .table) (i .store) (i .bindings) (i .mark) (i .start) (i .subject)) where
-  pub run-refused : (r .answer ≡ 0 → ⊥) → refusing i r ≡ runOf i
-  unfolding runOf
-  run-refused n = rw is (sym (rw (ne-eqb (refused (i .table) (i .store) (i .bindings) (i .mark) (i .start) (i .subject) .answer) 0 (λ z. n (ap (λ (c : Checked). c .answer) is ∙ z)))))
+module _ (g : Option (List ℕ)) (i : Input) (r : Checked) (is : r ≡ refusedWith g (i .table) (i .store) (i .bindings) (i .mark) (i .start) (i .subject)) where
+  pub run-refused : (r .answer ≡ 0 → ⊥) → refusing i r ≡ runWith g i
+  unfolding runWith
+  run-refused n = rw is (sym (rw (ne-eqb (refusedWith g (i .table) (i .store) (i .bindings) (i .mark) (i .start) (i .subject) .answer) 0 (λ z. n (ap (λ (c : Checked). c .answer) is ∙ z)))))
 
-  pub run-ran : r .answer ≡ 0 → returned i (ran quiet tt i) ≡ runOf i
-  unfolding runOf
-  run-ran z = sym (rw (eq-eqb (refused (i .table) (i .store) (i .bindings) (i .mark) (i .start) (i .subject) .answer) 0 (sym (ap (λ (c : Checked). c .answer) is) ∙ z)))
+  pub run-ran : r .answer ≡ 0 → returned i (ran quiet tt i) ≡ runWith g i
+  unfolding runWith
+  run-ran z = sym (rw (eq-eqb (refusedWith g (i .table) (i .store) (i .bindings) (i .mark) (i .start) (i .subject) .answer) 0 (sym (ap (λ (c : Checked). c .answer) is) ∙ z)))
 
 -- the lengths that a run's copies need
 pub table-fits : (i : Input) → Accepted i → length (i .table) ≤ 32768

@@ -5,3 +5,4 @@ pub mod Loaded
 pub mod Run
 pub mod Exported
 pub mod Promises
+pub mod Signed

@@ -1,6 +1,8 @@
--- What a run refuses, in document 01's order: 2 for a length or the mark, 13 to 17 with the lowest bad entry, 4 with the lowest
--- bad node below the mark, 5 for a bad start.
-use mathlib.Core.Bool.{Bool, _&&_}
+-- What a run refuses, in the order of documents 01 and 02: 2 for a length, the mark or a signature, 13 to 17 with the lowest bad
+-- entry, 4 with the lowest bad node below the mark, 10 with the lowest entry and 11 with the lowest node that do not obey a lent
+-- signature, 5 for a bad start.
+use mathlib.Core.Bool.{Bool, true, false, _&&_}
+use mathlib.Core.Option.{Option, none, some}
 use mathlib.Core.List.{List}
 use Prim.Native.Nat.{ℕ}
 use lib.Dec.{leb, ltb, eqb}
@@ -11,6 +13,7 @@ use Rattle.checks.specs.Kinds.{sortOf, same, variables}
 use Rattle.checks.specs.Good.{kindOf}
 use Rattle.checks.specs.Checked.{checked, tableLengthFits, storeLengthFits, tableChecked, storeChecked, boundBelow}
 unfoldable pub use Rattle.checks.specs.Checked.{boundBelow}
+use Rattle.checks.specs.Signature.{signatureFits, entriesChecked, nodesChecked}
 use Rattle.checks.specs.declared.Checked.{Checked}
 use Rattle.checks.specs.declared.kinds.Sort.the-variants.{Strategy}
 
@@ -26,8 +29,32 @@ startFits t b mark start subject = ltb start (rows t) && (same (sortOf (kindOf t
 abbrev pub orElse : Checked → Checked → Checked
 orElse c d = if eqb (c .answer) 0 then d else c
 
--- the refusal, or 0 with place 0
-unfoldable pub refused : List ℕ → List ℕ → List ℕ → ℕ → ℕ → ℕ → Checked
-refused t s b mark start subject =
-    if sizesFit t s b mark then orElse (tableChecked t) (orElse (storeChecked s mark) (if startFits t b mark start subject then checked 0 0 else checked 5 0))
+-- the signature that a call is lent: a flag says whether there is one, never its length
+abbrev pub lentIf : Bool → List ℕ → Option (List ℕ)
+lentIf true g = some g
+lentIf false g = none
+
+-- a lent signature fits
+abbrev pub lentFits : Option (List ℕ) → Bool
+lentFits none = true
+lentFits (some g) = signatureFits g
+
+-- every entry obeys a lent signature, and every node below the mark
+abbrev pub obeyedBy : Option (List ℕ) → List ℕ → List ℕ → ℕ → Checked
+obeyedBy none t s mark = checked 0 0
+obeyedBy (some g) t s mark = orElse (entriesChecked g t) (nodesChecked g s mark)
+
+-- what is refused before the start is looked at, with the signature g where one is lent; every call that runs begins with it
+unfoldable pub wordsRefused : (g : Option (List ℕ)) (t s b : List ℕ) (mark : ℕ) → Checked
+wordsRefused g t s b mark =
+    if sizesFit t s b mark && lentFits g then orElse (tableChecked t) (orElse (storeChecked s mark) (obeyedBy g t s mark))
     else checked 2 0
+
+-- the refusal, or 0 with place 0, with the signature g where one is lent
+unfoldable pub refusedWith : (g : Option (List ℕ)) (t s b : List ℕ) (mark start subject : ℕ) → Checked
+refusedWith g t s b mark start subject =
+    orElse (wordsRefused g t s b mark) (if startFits t b mark start subject then checked 0 0 else checked 5 0)
+
+-- the refusal where no signature is lent
+abbrev pub refused : (t s b : List ℕ) (mark start subject : ℕ) → Checked
+refused t s b mark start subject = refusedWith none t s b mark start subject

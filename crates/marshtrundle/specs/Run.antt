@@ -1,5 +1,6 @@
 -- What a run returns, for every input: the five numbers and every word of the store and of the bindings.
 use mathlib.Core.Path.{_≡_}
+use mathlib.Core.Option.{Option, none}
 use mathlib.Core.List.{List}
 use Prim.Native.Nat.{ℕ, _-_}
 use lib.Dec.{eqb}
@@ -13,7 +14,7 @@ use Rattle.meaning.specs.Answer.{Returned, number, placeOf, returned}
 use Rattle.leaves.specs.Noted.{State, Ran}
 use Rattle.leaves.specs.Record.{held}
 use Rattle.leaves.specs.Visits.{limitOf}
-use Rattle.marshtrundle.specs.Refused.{refused}
+use Rattle.marshtrundle.specs.Refused.{refusedWith}
 use Rattle.marshtrundle.specs.declared.running.Outcome.{Outcome}
 
 -- what is handed over
@@ -28,11 +29,15 @@ atReturn r s b = record { answer = r .answer; place = r .place; subject = r .sub
 abbrev pub refusing : Input → Checked → Returned
 refusing i c = record { answer = c .answer; place = c .place; subject = i .subject; mark = i .mark; units = 0; store = i .store; bindings = i .bindings }
 
--- refused, or run
-unfoldable pub runOf : Input → Returned
-runOf i =
-    if eqb (refused (i .table) (i .store) (i .bindings) (i .mark) (i .start) (i .subject) .answer) 0 then returned i (ran quiet tt i)
-    else refusing i (refused (i .table) (i .store) (i .bindings) (i .mark) (i .start) (i .subject))
+-- refused, or run, with the signature g where one is lent
+unfoldable pub runWith : Option (List ℕ) → Input → Returned
+runWith g i =
+    if eqb (refusedWith g (i .table) (i .store) (i .bindings) (i .mark) (i .start) (i .subject) .answer) 0 then returned i (ran quiet tt i)
+    else refusing i (refusedWith g (i .table) (i .store) (i .bindings) (i .mark) (i .start) (i .subject))
+
+-- the run where no signature is lent
+abbrev pub runOf : Input → Returned
+runOf i = runWith none i
 
 -- the answer of a cut-off's word, and its place
 abbrev pub cutNumber : ℕ → ℕ

@@ -1,15 +1,17 @@
 // What a program in C or Rust calls, from the archive. A slice is a pointer and a number of words. The numbers that come
 // back go into an array that the caller lends. The contracts are those of the functions called, over that array.
 use crate::running::run;
+use crate::running::run_signed;
 use checks::entries::check_table;
 use checks::nodes::check_store;
 use collect::collect;
 use free::free_variables;
 ghost use mathlib.Core.Path.{_≡_};
+ghost use mathlib.Core.Option.{some};
 ghost use Rattle.checks.specs.Checked.{tableChecked, storeChecked};
 ghost use Rattle.collect.specs.Collected.{lent, atEnd, collectedOf};
 ghost use Rattle.free.specs.Answered.{Answered};
-ghost use Rattle.marshtrundle.specs.Run.{input, atReturn, runOf};
+ghost use Rattle.marshtrundle.specs.Run.{input, atReturn, runWith, runOf};
 ghost use Rattle.marshtrundle.specs.Exported.{two, three, four, five};
 
 // The run: answer, place, subject, mark and units used.
@@ -28,6 +30,40 @@ pub extern "C" fn marshtrundle_run(
 {
     let r = run(table, store, bindings, mark, start, subject, units);
     *numbers = [r.answer, r.place, r.subject, r.mark, r.units];
+}
+
+// The run with a signature: the same five numbers.
+#[no_mangle]
+pub extern "C" fn marshtrundle_run_signed(
+    table: &[u32],
+    store: &mut [u32],
+    bindings: &mut [u32],
+    mark: u32,
+    start: u32,
+    subject: u32,
+    units: u32,
+    signature: &[u32],
+    numbers: &mut [u32; 5],
+)
+    ensures { λ _. ⌜ atReturn (five (now (numbers .exit))) (now (store .exit)) (now (bindings .exit)) ≡ runWith (some (now (signature .entry))) (input (now (table .entry)) (now (store .entry)) (now (bindings .entry)) mark start subject units) ⌝ }
+{
+    let ended = run_signed(
+        table,
+        store,
+        bindings,
+        mark,
+        start,
+        subject,
+        units,
+        signature,
+    );
+    *numbers = [
+        ended.answer,
+        ended.place,
+        ended.subject,
+        ended.mark,
+        ended.units,
+    ];
 }
 
 // The collection: answer, place, subject and mark.

@@ -1,4 +1,4 @@
-// What a run refuses, in document 01's order: 2, 13 to 17, 4, 5. Nothing is written here.
+// What a run refuses, in the order of documents 01 and 02: 2, 13 to 17, 4, 10, 11, 5. Nothing is written here.
 use checks::Checked;
 use checks::bindings::bindings_below;
 use checks::entries::check_table;
@@ -8,9 +8,14 @@ use checks::kinds::Sort;
 use checks::kinds::sort_of;
 use checks::nodes::check_store;
 use checks::nodes::store_length_fits;
+use checks::signature::check_entries;
+use checks::signature::check_nodes;
+use checks::signature::signature_fits;
 use leaves::record::VARIABLES;
 ghost use mathlib.Core.Path.{_≡_};
-ghost use Rattle.marshtrundle.specs.Refused.{sizesFit, startFits, refused};
+ghost use Prim.Native.Nat.{_≤_};
+ghost use lib.ListN.{length};
+ghost use Rattle.marshtrundle.specs.Refused.{sizesFit, startFits, lentIf, lentFits, obeyedBy, wordsRefused, refusedWith};
 
 // The lengths, and the mark within the store.
 fn sizes_fit(table: &[u32], store: &[u32], bindings: &[u32], mark: u32) -> bool
@@ -45,18 +50,53 @@ fn start_fits(table: &[u32], bindings: &[u32], mark: u32, start: u32, subject: u
     bindings_below(bindings, mark)
 }
 
-// The refusal, or 0 with place 0.
-pub fn refusal(
+// A lent signature fits; where none is lent there is nothing to fit.
+fn lent_fits(signed: bool, signature: &[u32]) -> bool
+    ensures { λ r. ⌜ r ≡ lentFits (lentIf signed (now (signature .entry))) ⌝ }
+{
+    if !signed {
+        return true;
+    }
+    signature_fits(signature)
+}
+
+// The entries and the nodes below the mark obey a lent signature: 10 or 11 with the lowest that does not.
+fn obeyed(table: &[u32], store: &[u32], mark: u32, signed: bool, signature: &[u32]) -> Checked
+    requires { ⌜ length (now table) ≤ 32768 ⌝ }
+    ensures { λ r. ⌜ r ≡ obeyedBy (lentIf signed (now (signature .entry))) (now (table .entry)) (now (store .entry)) mark ⌝ }
+{
+    if !signed {
+        return Checked {
+            answer: 0,
+            place: 0,
+        };
+    }
+    let entry = check_entries(signature, table);
+    if entry.answer != 0 {
+        return entry;
+    }
+    check_nodes(signature, store, mark)
+}
+
+// What every call that runs refuses before it looks at its start. The signature is looked at only where `signed` says that one is
+// lent.
+pub fn words_refusal(
     table: &[u32],
     store: &[u32],
     bindings: &[u32],
     mark: u32,
-    start: u32,
-    subject: u32,
+    signed: bool,
+    signature: &[u32],
 ) -> Checked
-    ensures { λ r. ⌜ r ≡ refused (now (table .entry)) (now (store .entry)) (now (bindings .entry)) mark start subject ⌝ }
+    ensures { λ r. ⌜ r ≡ wordsRefused (lentIf signed (now (signature .entry))) (now (table .entry)) (now (store .entry)) (now (bindings .entry)) mark ⌝ }
 {
     if !sizes_fit(table, store, bindings, mark) {
+        return Checked {
+            answer: 2,
+            place: 0,
+        };
+    }
+    if !lent_fits(signed, signature) {
         return Checked {
             answer: 2,
             place: 0,
@@ -69,6 +109,26 @@ pub fn refusal(
     let node = check_store(store, mark);
     if node.answer != 0 {
         return node;
+    }
+    obeyed(table, store, mark, signed, signature)
+}
+
+// The refusal, or 0 with place 0.
+pub fn refusal(
+    table: &[u32],
+    store: &[u32],
+    bindings: &[u32],
+    mark: u32,
+    start: u32,
+    subject: u32,
+    signed: bool,
+    signature: &[u32],
+) -> Checked
+    ensures { λ r. ⌜ r ≡ refusedWith (lentIf signed (now (signature .entry))) (now (table .entry)) (now (store .entry)) (now (bindings .entry)) mark start subject ⌝ }
+{
+    let words = words_refusal(table, store, bindings, mark, signed, signature);
+    if words.answer != 0 {
+        return words;
     }
     if !start_fits(table, bindings, mark, start, subject) {
         return Checked {

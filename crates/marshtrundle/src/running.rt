@@ -14,12 +14,14 @@ use leaves::record::MARK;
 use leaves::record::RECORD;
 use words::clear_from;
 ghost use mathlib.Core.Path.{_≡_};
+ghost use mathlib.Core.Option.{some};
 ghost use Rattle.meaning.specs.Rules.{apply as applied};
 ghost use Rattle.leaves.specs.Answers.{packed};
 ghost use Rattle.leaves.specs.Record.{markOf, held};
 ghost use Rattle.leaves.specs.Visits.{visit};
 ghost use Rattle.cycle.specs.Cycle.{Ready};
-ghost use Rattle.marshtrundle.specs.Run.{input, atReturn, runOf, cutNumber, cutPlace, Ends};
+ghost use Rattle.marshtrundle.specs.Refused.{lentIf};
+ghost use Rattle.marshtrundle.specs.Run.{input, atReturn, runWith, runOf, cutNumber, cutPlace, Ends};
 
 // The five numbers that a run returns.
 pub struct Outcome {
@@ -100,8 +102,8 @@ pub(crate) fn run_accepted(
 }
 
 // Refused by number, with nothing written, or run. The bindings are written where the run is done; from the returned mark on the
-// store is zero.
-pub fn run(
+// store is zero. The signature is looked at only where `signed` says that one is lent.
+fn run_lent(
     table: &[u32],
     store: &mut [u32],
     bindings: &mut [u32],
@@ -109,10 +111,21 @@ pub fn run(
     start: u32,
     subject: u32,
     units: u32,
+    signed: bool,
+    signature: &[u32],
 ) -> Outcome
-    ensures { λ r. ⌜ atReturn r (now (store .exit)) (now (bindings .exit)) ≡ runOf (input (now (table .entry)) (now (store .entry)) (now (bindings .entry)) mark start subject units) ⌝ }
+    ensures { λ r. ⌜ atReturn r (now (store .exit)) (now (bindings .exit)) ≡ runWith (lentIf signed (now (signature .entry))) (input (now (table .entry)) (now (store .entry)) (now (bindings .entry)) mark start subject units) ⌝ }
 {
-    let refused = refusal(table, store, bindings, mark, start, subject);
+    let refused = refusal(
+        table,
+        store,
+        bindings,
+        mark,
+        start,
+        subject,
+        signed,
+        signature,
+    );
     if refused.answer != 0 {
         return Outcome {
             answer: refused.answer,
@@ -131,4 +144,55 @@ pub fn run(
     }
     closed(bindings, st);
     r
+}
+
+// The run. No signature is lent.
+pub fn run(
+    table: &[u32],
+    store: &mut [u32],
+    bindings: &mut [u32],
+    mark: u32,
+    start: u32,
+    subject: u32,
+    units: u32,
+) -> Outcome
+    ensures { λ r. ⌜ atReturn r (now (store .exit)) (now (bindings .exit)) ≡ runOf (input (now (table .entry)) (now (store .entry)) (now (bindings .entry)) mark start subject units) ⌝ }
+{
+    run_lent(
+        table,
+        store,
+        bindings,
+        mark,
+        start,
+        subject,
+        units,
+        false,
+        &table[..0],
+    )
+}
+
+// The run with a signature, which may be empty: then every constructor is beyond the list.
+pub fn run_signed(
+    table: &[u32],
+    store: &mut [u32],
+    bindings: &mut [u32],
+    mark: u32,
+    start: u32,
+    subject: u32,
+    units: u32,
+    signature: &[u32],
+) -> Outcome
+    ensures { λ r. ⌜ atReturn r (now (store .exit)) (now (bindings .exit)) ≡ runWith (some (now (signature .entry))) (input (now (table .entry)) (now (store .entry)) (now (bindings .entry)) mark start subject units) ⌝ }
+{
+    run_lent(
+        table,
+        store,
+        bindings,
+        mark,
+        start,
+        subject,
+        units,
+        true,
+        signature,
+    )
 }

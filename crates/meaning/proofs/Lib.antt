@@ -21,6 +21,8 @@ pub mod Orderings
 pub mod Orders
 pub mod Demands
 pub mod Lower
+pub mod Simulates
+pub mod Above
 pub mod Twenty
 pub mod Small
 pub mod Ours

@@ -61,6 +61,7 @@ module _ (size : ℕ) where
   -- the worlds of the rules' parametricity: stores, the later ones having more nodes
   abbrev pub stores : Worlds ℕ Term
   stores = record {
+    Had = Holdable;
     World = Stored size;
     Ext = λ v w. Later v w;
     ext-refl = λ v. later-refl v;
@@ -214,7 +215,7 @@ module _ (size : ℕ) where
     alike-closed e (a-cut p) = a-cut p
 
     -- at every nesting
-    pub together : (T : Table) → Makeable T → (n : ℕ) → Together (run (stored Λ) (does T) n) (run (counting terms Λ size) (does T) n)
+    pub together : (T : Table) → Makeable Holdable T → (n : ℕ) → Together (run (stored Λ) (does T) n) (run (counting terms Λ size) (does T) n)
     unfolding run
     together T o zero v q q′ ν zero r = a-cut (kept-refl (v .words) (v .mark))
     together T o zero v q q′ ν (suc u) r = a-cut (kept-refl (v .words) (v .mark))

@@ -16,6 +16,7 @@ pub mod Answer
 pub mod Free
 pub mod Demands
 pub mod Lower
+pub mod Above
 pub mod Orderings
 pub mod Small
 pub mod Ours

@@ -12,8 +12,30 @@ use collect::collect;
 use free::free_variables;
 use libc::STDOUT_FILENO;
 use marshtrundle::running::run;
+use marshtrundle::running::run_signed;
 use whole_job::answer_job;
 use words::clear_from;
+
+// A run with the signature that stands behind the first `at` words, which are the table: whether there are so many.
+fn call_signed(given: Given, words: &[u32], store: &mut [u32], bindings: &mut [u32]) -> bool {
+    let n = given.words;
+    let at = n[9] as usize;
+    if words.len() < at {
+        return false;
+    }
+    let r = run_signed(
+        &words[..at],
+        store,
+        bindings,
+        n[3],
+        n[4],
+        n[5],
+        n[6],
+        &words[at..],
+    );
+    show_run(r, store, bindings);
+    true
+}
 
 // Makes the call of a tag on the words lent, and prints what it gives back: whether the tag has a call.
 fn call(tag: u8, given: Given, table: &mut [u32], store: &mut [u32], bindings: &mut [u32]) -> bool {
@@ -34,6 +56,9 @@ fn call(tag: u8, given: Given, table: &mut [u32], store: &mut [u32], bindings: &
         let r = run(table, store, bindings, n[3], n[4], n[5], n[6]);
         show_run(r, store, bindings);
         return true;
+    }
+    if tag == b'g' {
+        return call_signed(given, table, store, bindings);
     }
     if tag == b'c' {
         let r = collect(store, bindings, table, n[3], n[5]);

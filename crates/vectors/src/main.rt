@@ -89,11 +89,12 @@ fn next_case(text: &mut [u8], table: &mut [u32], store: &mut [u32], bindings: &m
     read_case(line[0], &mut text[..n], table, store, bindings)
 }
 
-// The cases of standard input, in arrays that are one row longer than the longest that is not refused. Nothing says that the
+// The cases of standard input, in arrays that are one row longer than the longest that is not refused; behind a table there is
+// room for a signature. Nothing says that the
 // input ends, so the turns are counted down from a number that no run uses up.
 fn answer_all(
     text: &mut [u8; 131072],
-    table: &mut [u32; 32776],
+    table: &mut [u32; 98320],
     store: &mut [u32; 1048584],
     bindings: &mut [u32; 40],
 ) {
@@ -105,7 +106,7 @@ fn answer_all(
 
 fn main() {
     let mut text = [0u8; 131072];
-    let mut table = [0u32; 32776];
+    let mut table = [0u32; 98320];
     let mut store = [0u32; 1048584];
     let mut bindings = [0u32; 40];
     answer_all(&mut text, &mut table, &mut store, &mut bindings);

@@ -8,9 +8,11 @@
 //     2  the nodes below the mark are a chain: each is the one child of the next
 //     4  the nodes below the mark have six children each, those just below them; the first six have none
 //     8  entries 2 and 3, 4 and 5 and so on are each a REC and its body, a CALL of the REC before
+//     16 every table word from ARGUMENT on is SECOND
 //
 // Where HEAD is not 0, each entry but the last is HEAD, ARGUMENT, the next entry, SECOND. Then each WORD of SLICE (0 table,
-// 1 store, 2 bindings) is set to its VALUE. A collection takes no table: its work list is lent in the table's place.
+// 1 store, 2 bindings) is set to its VALUE. A collection takes no table: its work list is lent in the table's place. A run with a
+// signature has it behind the table: the table has ARGUMENT words, and the rest is the signature.
 ghost use Prim.Native.Nat.{_+_, _*_, _≤_};
 ghost use lib.ListN.{length};
 use crate::numbers::number;
@@ -86,10 +88,10 @@ fn fill_six(store: &mut [u32], n: u32)
 }
 
 // Sets every word from `from` on.
-fn spoil(store: &mut [u32], from: usize) {
+fn spoil(words: &mut [u32], from: usize, word: u32) {
     let mut i = from;
-    while i < store.len() {
-        store[i] = 4294967295;
+    while i < words.len() {
+        words[i] = word;
         i += 1;
     }
 }
@@ -97,7 +99,14 @@ fn spoil(store: &mut [u32], from: usize) {
 // Sets the words from the mark on, if the case asks for it.
 fn past(store: &mut [u32], fill: u32, mark: u32) {
     if fill % 2 == 1 {
-        spoil(store, 8 * (mark as usize));
+        spoil(store, 8 * (mark as usize), 4294967295);
+    }
+}
+
+// Sets the words behind the table, if the case asks for it.
+fn behind(table: &mut [u32], fill: u32, from: u32, word: u32) {
+    if fill / 16 % 2 == 1 {
+        spoil(table, from as usize, word);
     }
 }
 
@@ -206,5 +215,6 @@ pub fn make(
     six(store, n[7], n[3]);
     recs(table, n[7]);
     entries(table, n[8], n[9], n[10]);
+    behind(table, n[7], n[9], n[10]);
     patch(text, given.next, n[11], table, store, bindings)
 }

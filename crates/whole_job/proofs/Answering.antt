@@ -17,7 +17,7 @@ use Rattle.meaning.specs.Answer.{Returned, returned}
 use Rattle.meaning.proofs.Demands.{over-the-words}
 use Rattle.leaves.specs.Noted.{Ran}
 use Rattle.marshtrundle.specs.Refused.{refused}
-use Rattle.marshtrundle.specs.Run.{atReturn, refusing, runOf}
+use Rattle.marshtrundle.specs.Run.{atReturn, refusing, runWith, runOf}
 use Rattle.marshtrundle.specs.declared.running.Outcome.{Outcome as Five}
 use Rattle.marshtrundle.proofs.Accepting.{accepted-answer}
 use Rattle.job.specs.declared.Heading.{Heading}
@@ -44,7 +44,7 @@ module _ (i : Input) (n : ℕ) (given : i .mark ≤ n) (holds : rows (i .store) 
   returned-mark (cut c w u) l = given
 
   pub mark-most : runOf i .mark ≤ n
-  unfolding runOf
+  unfolding runWith
   mark-most = go (eqb (verdict .answer) 0) refl
     where
       verdict : Checked

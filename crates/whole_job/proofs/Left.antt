@@ -26,7 +26,7 @@ use Rattle.meaning.proofs.Words.{kept-filled}
 use Rattle.meaning.proofs.Demands.{over-the-words}
 use Rattle.leaves.specs.Noted.{Ran}
 use Rattle.marshtrundle.specs.Refused.{refused}
-use Rattle.marshtrundle.specs.Run.{runOf}
+use Rattle.marshtrundle.specs.Run.{runWith, runOf}
 use Rattle.marshtrundle.specs.declared.running.Outcome.{Outcome as Five}
 use Rattle.marshtrundle.proofs.Accepting.{accepted-answer, accepted-back}
 use Rattle.marshtrundle.proofs.Copying.{length-words, word-of}
@@ -77,7 +77,7 @@ module _ (i : Input) where
   run-not-three = never-three .run i five (runOf i .store) (runOf i .bindings) refl
 
   pub run-shown : Accepted i → runOf i ≡ returned i (ran quiet tt i)
-  unfolding runOf
+  unfolding runWith
   run-shown a = rw (not-refused a)
 
 -- ---- the nodes

@@ -13,10 +13,10 @@ use Rattle.words.specs.Tests.{if_then_else_}
 use Rattle.words.specs.Words.{rows}
 use Rattle.checks.specs.declared.Checked.{Checked}
 use Rattle.checks.specs.Checked.{checked, tableLengthFits, storeLengthFits}
-use Rattle.marshtrundle.specs.Refused.{sizesFit, refused}
+use Rattle.marshtrundle.specs.Refused.{sizesFit, orElse, wordsRefused, refusedWith, refused}
 use Rattle.meaning.specs.Store.{Input}
 use Rattle.meaning.specs.Answer.{Returned}
-use Rattle.marshtrundle.specs.Run.{runOf}
+use Rattle.marshtrundle.specs.Run.{runWith}
 use Rattle.job.specs.declared.Heading.{Heading}
 use Rattle.job.specs.Lines.{Line}
 use Rattle.job.specs.Job.{Reading, headed, with, Meant, bad, good, meant}
@@ -81,18 +81,18 @@ tooLong s l = rw (lt-ltb 60000 (length s) l)
 
 -- Sizes that do not fit are refused before all else.
 refused-sizes : (t s b : List ℕ) (mark start subject : ℕ) → rows s < mark → refused t s b mark start subject ≡ checked 2 0
-unfolding refused sizesFit
+unfolding refusedWith wordsRefused sizesFit
 refused-sizes t s b mark start subject l =
-    rw (lt-leb mark (rows s) l) (go (tableLengthFits (length t)) (storeLengthFits (length s)) (eqb (length b) 32) _)
+    rw (lt-leb mark (rows s) l) (go (tableLengthFits (length t)) (storeLengthFits (length s)) (eqb (length b) 32) _ _)
   where
-    go : (x y z : Bool) (c : Checked) → (if x && (y && (z && false)) then c else checked 2 0) ≡ checked 2 0
-    go true true true c = refl
-    go true true false c = refl
-    go true false z c = refl
-    go false y z c = refl
+    go : (x y z : Bool) (c d : Checked) → orElse (if (x && (y && (z && false))) && true then c else checked 2 0) d ≡ checked 2 0
+    go true true true c d = refl
+    go true true false c d = refl
+    go true false z c d = refl
+    go false y z c d = refl
 
 pub noRoom : promises.NoRoom
-unfolding runOf shown
+unfolding runWith shown
 noRoom s g e l =
     let i : Input = handed g in
     let c = refused-sizes (i .table) (i .store) (i .bindings) (i .mark) (i .start) (i .subject) (omega (arith, nodes-handed s g e)) in

@@ -20,6 +20,21 @@ extern "C" {
         units: u32,
         numbers: *mut u32,
     );
+    fn marshtrundle_run_signed(
+        table: *const u32,
+        table_words: usize,
+        store: *mut u32,
+        store_words: usize,
+        bindings: *mut u32,
+        bindings_words: usize,
+        mark: u32,
+        start: u32,
+        subject: u32,
+        units: u32,
+        signature: *const u32,
+        signature_words: usize,
+        numbers: *mut u32,
+    );
     fn marshtrundle_collect(
         store: *mut u32,
         store_words: usize,
@@ -71,6 +86,41 @@ pub fn run(
             start,
             subject,
             units,
+            numbers.as_mut_ptr(),
+        );
+    }
+    numbers
+}
+
+/// The run with a signature: answer, place, subject, mark and units used.
+#[allow(clippy::too_many_arguments)]
+pub fn run_signed(
+    table: &[u32],
+    store: &mut [u32],
+    bindings: &mut [u32],
+    mark: u32,
+    start: u32,
+    subject: u32,
+    units: u32,
+    signature: &[u32],
+) -> [u32; 5] {
+    let mut numbers = [0; 5];
+    // The four slices are borrowed for the call, two of them alone; `numbers`
+    // is a local of five words.
+    unsafe {
+        marshtrundle_run_signed(
+            table.as_ptr(),
+            table.len(),
+            store.as_mut_ptr(),
+            store.len(),
+            bindings.as_mut_ptr(),
+            bindings.len(),
+            mark,
+            start,
+            subject,
+            units,
+            signature.as_ptr(),
+            signature.len(),
             numbers.as_mut_ptr(),
         );
     }

@@ -33,6 +33,8 @@ impl Answer {
                  longest: see 'Long lists' in docs/PASSES.md. Or a loop does not end."
             }
             9 => "Correct that line. docs/REFERENCE.md has the lines of a job.",
+            10 => "Write that constructor with the number of children that it is declared with, or declare it.",
+            11 => "The node was made with another number of children than is declared, or its constructor is not declared.",
             12 => {
                 "Bind that variable before it is built. A condition under test or not puts the bindings back, where where_ keeps them; a \
                  scope hides them; and a branch that failed leaves none."

@@ -19,6 +19,12 @@ pub enum Answer {
     BadEntry(u32, Fault),
     /// 4: this node is the lowest bad node below the mark. Nothing was written.
     BadNode(u32),
+    /// 10: this entry, used or not, is the lowest CONG or PCON whose constructor the signature does not declare with its count.
+    /// Nothing was written. [`run_signed`](crate::run_signed) alone gives it.
+    DisobeyingEntry(u32),
+    /// 11: this node, reachable or not, is the lowest below the mark whose constructor the signature does not declare with its
+    /// count. Nothing was written. [`run_signed`](crate::run_signed) alone gives it.
+    DisobeyingNode(u32),
     /// 5: the start is outside the table or a pattern, the subject is not below the mark, or a binding names no node below
     /// the mark. Nothing was written.
     BadStart,
@@ -46,6 +52,8 @@ impl Answer {
             6 => Answer::OutOfUnits,
             7 => Answer::OutOfRoom,
             8 => Answer::TooDeep,
+            10 => Answer::DisobeyingEntry(place),
+            11 => Answer::DisobeyingNode(place),
             12 => Answer::Unbound(Var::new(place).expect("the archive's place is a variable")),
             13 => Answer::BadEntry(place, Fault::Kind),
             14 => Answer::BadEntry(place, Fault::Argument),
@@ -72,6 +80,8 @@ impl Answer {
             Answer::RefusedSizes => 2,
             Answer::BadEntry(_, fault) => fault.number(),
             Answer::BadNode(_) => 4,
+            Answer::DisobeyingEntry(_) => 10,
+            Answer::DisobeyingNode(_) => 11,
             Answer::BadStart => 5,
             Answer::OutOfUnits => 6,
             Answer::OutOfRoom => 7,
@@ -83,7 +93,10 @@ impl Answer {
     /// The number of the bad entry, of the bad node or of the unbound variable, and 0 in all other answers.
     pub fn place(self) -> u32 {
         match self {
-            Answer::BadEntry(place, _) | Answer::BadNode(place) => place,
+            Answer::BadEntry(place, _)
+            | Answer::BadNode(place)
+            | Answer::DisobeyingEntry(place)
+            | Answer::DisobeyingNode(place) => place,
             Answer::Unbound(var) => var.number(),
             Answer::Done
             | Answer::Failed
@@ -95,11 +108,16 @@ impl Answer {
         }
     }
 
-    /// True for answers 2, 4, 5 and 13 to 17: the input is malformed and nothing was run.
+    /// True for answers 2, 4, 5, 10, 11 and 13 to 17: the input is malformed and nothing was run.
     pub fn is_refusal(self) -> bool {
         matches!(
             self,
-            Answer::RefusedSizes | Answer::BadEntry(..) | Answer::BadNode(_) | Answer::BadStart
+            Answer::RefusedSizes
+                | Answer::BadEntry(..)
+                | Answer::BadNode(_)
+                | Answer::DisobeyingEntry(_)
+                | Answer::DisobeyingNode(_)
+                | Answer::BadStart
         )
     }
 
@@ -120,6 +138,8 @@ impl fmt::Display for Answer {
             Answer::RefusedSizes => f.write_str("a length or the mark is bad"),
             Answer::BadEntry(e, fault) => write!(f, "entry {e} is bad: {fault}"),
             Answer::BadNode(k) => write!(f, "node {k} is bad"),
+            Answer::DisobeyingEntry(e) => write!(f, "entry {e} does not obey the signature"),
+            Answer::DisobeyingNode(k) => write!(f, "node {k} does not obey the signature"),
             Answer::BadStart => f.write_str("the start, the subject or a binding is bad"),
             Answer::OutOfUnits => f.write_str("all units are used"),
             Answer::OutOfRoom => f.write_str("the store has no room"),
@@ -171,6 +191,17 @@ pub enum BuildError {
     NoSuchChild(Node),
     /// The store would have this many nodes; 131,072 are allowed.
     TooManyNodes(usize),
+    /// A constructor is written with this many children, and it is declared with another count, or not at all.
+    WrongCount {
+        /// The constructor.
+        constructor: u16,
+        /// The children or operands that it is written with.
+        count: usize,
+        /// The count that it is declared with, if it is declared.
+        declared: Option<usize>,
+    },
+    /// A constructor is declared a second time with another count.
+    DeclaredTwice(u16),
 }
 
 impl fmt::Display for BuildError {
@@ -193,6 +224,25 @@ impl fmt::Display for BuildError {
             BuildError::TooManyChildren(n) => write!(f, "{n} children; at most 6 are allowed"),
             BuildError::NoSuchChild(node) => write!(f, "node {} is not there", node.number()),
             BuildError::TooManyNodes(n) => write!(f, "{n} nodes; at most 131072 are allowed"),
+            BuildError::WrongCount {
+                constructor,
+                count,
+                declared: Some(declared),
+            } => write!(
+                f,
+                "constructor {constructor} with {count} children; it is declared with {declared}"
+            ),
+            BuildError::WrongCount {
+                constructor,
+                count,
+                declared: None,
+            } => write!(
+                f,
+                "constructor {constructor} with {count} children; it is not declared"
+            ),
+            BuildError::DeclaredTwice(c) => {
+                write!(f, "constructor {c} is declared with two counts")
+            }
         }
     }
 }
@@ -205,14 +255,14 @@ mod tests {
 
     #[test]
     fn every_answer_has_its_own_number() {
-        for number in (0..=2).chain(4..=8).chain(12..=17) {
+        for number in (0..=2).chain(4..=8).chain(10..=17) {
             assert_eq!(Answer::told(number, 0).number(), number);
         }
     }
 
     #[test]
     fn no_other_number_is_an_answer() {
-        for number in [3, 9, 10, 11, 18, 27, u32::MAX] {
+        for number in [3, 9, 18, 27, u32::MAX] {
             assert!(std::panic::catch_unwind(|| Answer::told(number, 0)).is_err());
         }
     }

@@ -1,4 +1,4 @@
-//! The five functions of the archive, as safe functions over slices of words. This is the only module with `unsafe` in it.
+//! The six functions of the archive, as safe functions over slices of words. This is the only module with `unsafe` in it.
 //!
 //! The archive asks one thing of its caller: each pointer is aligned and valid for its words, and what is lent for writing
 //! overlaps nothing else. Rust's references give this, empty slices too. So every word and every number is allowed here.
@@ -15,6 +15,21 @@ extern "C" {
         start: u32,
         subject: u32,
         units: u32,
+        numbers: *mut u32,
+    );
+    fn marshtrundle_run_signed(
+        table: *const u32,
+        table_words: usize,
+        store: *mut u32,
+        store_words: usize,
+        bindings: *mut u32,
+        bindings_words: usize,
+        mark: u32,
+        start: u32,
+        subject: u32,
+        units: u32,
+        signature: *const u32,
+        signature_words: usize,
         numbers: *mut u32,
     );
     fn marshtrundle_collect(
@@ -65,6 +80,40 @@ pub fn run(
             start,
             subject,
             units,
+            numbers.as_mut_ptr(),
+        );
+    }
+    numbers
+}
+
+/// The run with a signature: answer, place, subject, mark and units used. An empty signature declares nothing.
+#[allow(clippy::too_many_arguments)]
+pub fn run_signed(
+    table: &[u32],
+    store: &mut [u32],
+    bindings: &mut [u32],
+    mark: u32,
+    start: u32,
+    subject: u32,
+    units: u32,
+    signature: &[u32],
+) -> [u32; 5] {
+    let mut numbers = [0; 5];
+    // SAFETY: as in `run`. The signature is only read.
+    unsafe {
+        marshtrundle_run_signed(
+            table.as_ptr(),
+            table.len(),
+            store.as_mut_ptr(),
+            store.len(),
+            bindings.as_mut_ptr(),
+            bindings.len(),
+            mark,
+            start,
+            subject,
+            units,
+            signature.as_ptr(),
+            signature.len(),
             numbers.as_mut_ptr(),
         );
     }

@@ -109,7 +109,9 @@
 //! - [`pipeline`] runs named passes one after the other, gives room back between them, and reports.
 //! - [`job`] reads and writes jobs, each one run as text.
 //! - [`show`] shows terms, strategies and tables by names, as text and as graphs, and what differs in two terms.
-//! - [`words`] has the library's five functions over plain slices of words.
+//! - [`Signature`] declares the child count of each constructor. The builders refuse what does not obey it, and [`run_signed`]
+//!   refuses a table or a store that does not.
+//! - [`words`] has the library's six functions over plain slices of words.
 //!
 //! # What is promised
 //!
@@ -141,6 +143,7 @@ mod outcome;
 pub mod pipeline;
 mod rules;
 pub mod show;
+mod signature;
 mod store;
 pub mod strategy;
 mod table;
@@ -149,6 +152,7 @@ mod traversals;
 pub use answer::{Answer, BuildError, Outcome};
 pub use bindings::{Bindings, Var, VarSet, VARS};
 pub use fault::{EntryFault, Fault};
+pub use signature::Signature;
 pub use store::{Node, Store, Term};
 pub use strategy::{Pattern, Strategy};
 pub use table::{Entry, Table, TableBuilder};
@@ -158,7 +162,7 @@ pub use table::{Entry, Table, TableBuilder};
 #[doc = include_str!("../README.md")]
 mod readme {}
 
-/// The library's five functions over plain slices of words, for callers that keep their own tables and stores.
+/// The library's six functions over plain slices of words, for callers that keep their own tables and stores.
 ///
 /// They take any words of any length, and give the numbers of document 01 back.
 ///
@@ -168,7 +172,7 @@ mod readme {}
 /// assert_eq!(words::run(&[0; 8], &mut [0; 8], &mut [0; 32], 1, 0, 0, 1), [0, 0, 0, 1, 1]);
 /// ```
 pub mod words {
-    pub use crate::archive::{check_store, check_table, collect, free_variables, run};
+    pub use crate::archive::{check_store, check_table, collect, free_variables, run, run_signed};
 }
 
 /// The stack in bytes that is enough for every run: 2 MiB.
@@ -196,7 +200,7 @@ pub fn run(
     units: u32,
 ) -> Outcome {
     let (words, mark) = store.parts();
-    let [answer, place, subject, new_mark, units] = archive::run(
+    let numbers = archive::run(
         table.words(),
         words,
         bindings.words_mut(),
@@ -205,6 +209,53 @@ pub fn run(
         subject.number(),
         units,
     );
+    ended(numbers, mark)
+}
+
+/// Runs as [`run`] does, with a signature. A CONG or a PCON of the table, used or not, and a node below the mark, reachable or
+/// not, that does not obey it is refused: [`Answer::DisobeyingEntry`] or [`Answer::DisobeyingNode`]. Every node below the mark
+/// that comes back obeys it too.
+///
+/// ```
+/// # fn main() -> Result<(), Box<dyn std::error::Error>> {
+/// use marshtrundle::strategy::*;
+/// use marshtrundle::{run_signed, Answer, Bindings, Entry, Signature, Store, Table, VARS};
+/// let [f, x, ..] = VARS;
+/// let mut store = Store::new();
+/// let name = store.node(1, &[])?;
+/// let call = store.node(9, &[name, name, name])?;
+/// let table = Table::of(&match_(con(9, [var(f), var(x)])))?;
+/// let signature = Signature::of(&[(1, 0), (9, 3)])?;
+/// let end = run_signed(&table, &mut store, &mut Bindings::new(), &signature, Entry::FIRST, call, 10);
+/// assert_eq!(end.answer, Answer::DisobeyingEntry(1));
+/// # Ok(())
+/// # }
+/// ```
+pub fn run_signed(
+    table: &Table,
+    store: &mut Store,
+    bindings: &mut Bindings,
+    signature: &Signature,
+    start: Entry,
+    subject: Node,
+    units: u32,
+) -> Outcome {
+    let (words, mark) = store.parts();
+    let numbers = archive::run_signed(
+        table.words(),
+        words,
+        bindings.words_mut(),
+        *mark,
+        start.number(),
+        subject.number(),
+        units,
+        signature.words(),
+    );
+    ended(numbers, mark)
+}
+
+/// A run's five numbers as its outcome. The store gets the mark that comes back.
+fn ended([answer, place, subject, new_mark, units]: [u32; 5], mark: &mut u32) -> Outcome {
     *mark = new_mark;
     Outcome {
         answer: Answer::told(answer, place),

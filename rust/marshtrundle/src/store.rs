@@ -2,6 +2,7 @@
 use crate::answer::{Answer, BuildError};
 use crate::archive;
 use crate::bindings::Bindings;
+use crate::signature::Signature;
 use crate::NODES;
 use std::collections::{BTreeSet, HashMap};
 use std::fmt;
@@ -41,6 +42,7 @@ impl Node {
 pub struct Store {
     words: Vec<u32>,
     mark: u32,
+    signature: Option<Signature>,
 }
 
 impl Store {
@@ -54,7 +56,15 @@ impl Store {
         Store {
             words: words.into(),
             mark,
+            signature: None,
         }
+    }
+
+    /// Sees to it that [`Store::node`] makes only nodes that obey this signature. It looks at no node that is there already, and
+    /// no run looks at it: [`run_signed`](crate::run_signed) is lent one of its own.
+    pub fn declare(&mut self, signature: &Signature) -> &mut Store {
+        self.signature = Some(signature.clone());
+        self
     }
 
     /// The store's words, eight to a node.
@@ -80,6 +90,9 @@ impl Store {
     pub fn node(&mut self, constructor: u16, children: &[Node]) -> Result<Node, BuildError> {
         if children.len() > 6 {
             return Err(BuildError::TooManyChildren(children.len()));
+        }
+        if let Some(signature) = &self.signature {
+            signature.obeyed(constructor, children.len())?;
         }
         if let Some(&child) = children.iter().find(|child| child.0 >= self.mark) {
             return Err(BuildError::NoSuchChild(child));

@@ -19,6 +19,8 @@ pub use crate::traversals::{
 
 pub(crate) const REC: u32 = 7;
 pub(crate) const CALL: u32 = 8;
+pub(crate) const CONG: u32 = 10;
+pub(crate) const PCON: u32 = 19;
 
 /// The names of the kinds.
 pub(crate) const KIND_NAMES: [&str; 20] = [

@@ -2,7 +2,8 @@
 use crate::answer::{Answer, BuildError};
 use crate::archive;
 use crate::fault::{self, EntryFault};
-use crate::strategy::{Strategy, Tie, Tree, CALL, REC};
+use crate::signature::Signature;
+use crate::strategy::{Strategy, Tie, Tree, CALL, CONG, PCON, REC};
 use crate::ENTRIES;
 use std::collections::{BTreeMap, HashMap, VecDeque};
 use std::sync::Arc;
@@ -46,7 +47,7 @@ impl Table {
     /// # }
     /// ```
     pub fn of(strategy: &Strategy) -> Result<Table, BuildError> {
-        layout(&[(None, strategy)])
+        layout(&[(None, strategy)], None)
     }
 
     /// The table with these words. They may be anything: [`Table::check`] and a run say what is wrong.
@@ -110,12 +111,19 @@ impl Table {
 #[derive(Clone, Debug, Default)]
 pub struct TableBuilder {
     strategies: Vec<(String, Strategy)>,
+    signature: Option<Signature>,
 }
 
 impl TableBuilder {
     /// A builder without strategies.
     pub fn new() -> TableBuilder {
         TableBuilder::default()
+    }
+
+    /// Sees to it that [`TableBuilder::build`] refuses a congruence and a constructor's pattern that do not obey this signature.
+    pub fn declare(&mut self, signature: &Signature) -> &mut TableBuilder {
+        self.signature = Some(signature.clone());
+        self
     }
 
     /// Adds a strategy that a run can start at.
@@ -137,7 +145,7 @@ impl TableBuilder {
             .iter()
             .map(|(name, strategy)| (Some(name.as_str()), strategy))
             .collect();
-        layout(&roots)
+        layout(&roots, self.signature.as_ref())
     }
 }
 
@@ -234,7 +242,10 @@ impl Shapes {
     }
 }
 
-fn layout(roots: &[(Option<&str>, &Strategy)]) -> Result<Table, BuildError> {
+fn layout(
+    roots: &[(Option<&str>, &Strategy)],
+    signature: Option<&Signature>,
+) -> Result<Table, BuildError> {
     let mut shapes = Shapes::default();
     let mut places = vec![];
     for (_, strategy) in roots {
@@ -245,6 +256,13 @@ fn layout(roots: &[(Option<&str>, &Strategy)]) -> Result<Table, BuildError> {
     }
     if shapes.list.len() > ENTRIES {
         return Err(BuildError::TooManyEntries(shapes.list.len()));
+    }
+    if let Some(signature) = signature {
+        let named = |shape: &&Shape| matches!(shape.kind, CONG | PCON);
+        for shape in shapes.list.iter().filter(named) {
+            // Both take a `u16` as their constructor.
+            signature.obeyed(shape.argument as u16, shape.operands.len())?;
+        }
     }
     let order = shapes.order(&places);
     let mut numbers = vec![0; shapes.list.len()];

@@ -24,6 +24,13 @@ pub const CHILDREN: u32 = 6;
 /// The greatest constructor. 01: "the constructor (0 to 65,535)".
 pub const CONSTRUCTOR: u32 = 65_535;
 
+/// The most words of a signature. 02, wish 2: "over 65,536 words".
+pub const SIGNATURE_WORDS: usize = 65_536;
+
+/// The greatest word of a signature. 02, wish 2: "the declared count or 7 for
+/// undeclared".
+pub const UNDECLARED: u32 = 7;
+
 /// The answer of a sound table or store, and of a done run.
 pub const DONE: u32 = 0;
 /// 01: "failed".
@@ -42,6 +49,10 @@ pub const NO_ROOM: u32 = 7;
 pub const NO_NESTING: u32 = 8;
 /// 01: "Answer 9 [..] is for text that breaks these rules".
 pub const BAD_TEXT: u32 = 9;
+/// 02, wish 2: "10 with the lowest entry" that disagrees with the signature.
+pub const SIGNED_ENTRY: u32 = 10;
+/// 02, wish 2: "11 with the lowest node" that disagrees with the signature.
+pub const SIGNED_NODE: u32 = 11;
 /// 02, wish 3: "12 with the variable as its place".
 pub const UNBOUND: u32 = 12;
 /// 02, wish 4: "unknown kind or wrong operand count".
@@ -293,4 +304,44 @@ pub fn check_store(store: &[u32], mark: u32) -> (u32, u32) {
         Some(node) => (BAD_NODE, node),
         None => (DONE, 0),
     }
+}
+
+/// Whether a signature is bad.
+///
+/// 02, wish 2: "a count word above 7, or over 65,536 words, gives 2".
+pub fn bad_signature(signature: &[u32]) -> bool {
+    signature.len() > SIGNATURE_WORDS || signature.iter().any(|&word| word > UNDECLARED)
+}
+
+/// Whether a constructor with so many children, at most 6, obeys a signature.
+///
+/// 02, wish 2: what "disagrees, or whose constructor is undeclared or beyond the
+/// list, is refused". The word of an undeclared constructor is 7, which is no
+/// count.
+fn obeys(signature: &[u32], constructor: u32, count: u32) -> bool {
+    signature.get(constructor as usize) == Some(&count)
+}
+
+/// The lowest entry of a good table that disobeys a signature.
+///
+/// 02, wish 2: "A CONG, a PCON [..] that disagrees"; used or not.
+pub fn lowest_disobeying_entry(table: &[u32], signature: &[u32]) -> Option<u32> {
+    let disobeys = |row: &[u32]| {
+        matches!(row[0] / 16, kind::CONG | kind::PCON) && !obeys(signature, row[1], row[0] % 16)
+    };
+    table
+        .chunks(WIDTH)
+        .position(disobeys)
+        .map(|entry| entry as u32)
+}
+
+/// The lowest node below the mark of a good store that disobeys a signature.
+///
+/// 02, wish 2: "or a stored node that disagrees"; reachable or not.
+pub fn lowest_disobeying_node(store: &[u32], mark: u32, signature: &[u32]) -> Option<u32> {
+    store
+        .chunks(WIDTH)
+        .take(mark as usize)
+        .position(|row| !obeys(signature, row[0], row[1]))
+        .map(|node| node as u32)
 }

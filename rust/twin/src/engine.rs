@@ -6,10 +6,9 @@
 //! bindings and the mark back, and that happens in one function, `attempt`.
 
 use crate::checks::{
-    bad_store_length, bad_table_length, kind, kind_of, lowest_bad_entry, lowest_bad_node, sort_of,
-    Sort, BAD_LENGTH, BAD_NODE, BAD_START, DONE, FAILED, NO_NESTING, NO_ROOM, NO_UNITS, UNBOUND,
-    VARIABLES, WIDTH,
+    kind, kind_of, DONE, FAILED, NO_NESTING, NO_ROOM, NO_UNITS, UNBOUND, VARIABLES, WIDTH,
 };
+use crate::refusals::{refusal, Input};
 
 /// The deepest nesting of a visit. 01: "if its nesting would exceed 4,096".
 pub const NESTING: u32 = 4_096;
@@ -17,10 +16,10 @@ pub const NESTING: u32 = 4_096;
 /// 01: "A run returns five numbers: answer, place, subject, mark, units used."
 #[derive(Clone, Copy, Debug, PartialEq, Eq)]
 pub struct Outcome {
-    /// 0 to 8 without 3 by 01's table, and 12 and 13 to 17 by 02.
+    /// 0 to 8 without 3 by 01's table, and 10 to 17 by 02.
     pub answer: u32,
-    /// The lowest bad entry for answers 13 to 17, the lowest bad node for 4,
-    /// the variable for 12, else 0.
+    /// The lowest bad entry for answers 10 and 13 to 17, the lowest bad node for
+    /// 4 and 11, the variable for 12, else 0.
     pub place: u32,
     /// The new subject for answer 0, else as given.
     pub subject: u32,
@@ -28,6 +27,17 @@ pub struct Outcome {
     pub mark: u32,
     /// The visits counted; 0 for a refusal.
     pub units: u32,
+}
+
+impl std::fmt::Display for Outcome {
+    /// The five numbers, one space between.
+    fn fmt(&self, to: &mut std::fmt::Formatter) -> std::fmt::Result {
+        write!(
+            to,
+            "{} {} {} {} {}",
+            self.answer, self.place, self.subject, self.mark, self.units
+        )
+    }
 }
 
 /// How a visit that applies an entry ends.
@@ -451,6 +461,15 @@ impl<'a, W: Watcher> Machine<'a, W> {
     }
 }
 
+/// What a caller may lend to a run besides table, store and bindings.
+#[derive(Clone, Copy, Default)]
+pub struct Lent<'a> {
+    /// 02, wish 2: "one word per constructor, the declared count or 7 for
+    /// undeclared." `None` is no signature; an empty one refuses every
+    /// constructor.
+    pub signature: Option<&'a [u32]>,
+}
+
 /// Runs a strategy of the table on a term of the store.
 ///
 /// Answers, places and what is written are those of 01's chapter "What comes
@@ -479,6 +498,58 @@ pub fn run_watched<W: Watcher>(
     units: u32,
     watcher: &mut W,
 ) -> Outcome {
+    let lent = Lent::default();
+    run_lent(
+        table, store, bindings, mark, start, subject, units, lent, watcher,
+    )
+}
+
+/// Runs as [`run`] does, with something lent and a watcher looking on.
+#[allow(clippy::too_many_arguments)]
+pub fn run_lent<W: Watcher>(
+    table: &[u32],
+    store: &mut [u32],
+    bindings: &mut [u32],
+    mark: u32,
+    start: u32,
+    subject: u32,
+    units: u32,
+    lent: Lent,
+    watcher: &mut W,
+) -> Outcome {
+    let refused = refusal(&Input {
+        table,
+        store,
+        bindings,
+        mark,
+        start,
+        subjects: &[subject],
+        signature: lent.signature,
+    });
+    if let Some((answer, place)) = refused {
+        return Outcome {
+            answer,
+            place,
+            subject,
+            mark,
+            units: 0,
+        };
+    }
+    run_accepted(table, store, bindings, mark, start, subject, units, watcher)
+}
+
+/// Runs an input that nothing refuses.
+#[allow(clippy::too_many_arguments)]
+fn run_accepted<W: Watcher>(
+    table: &[u32],
+    store: &mut [u32],
+    bindings: &mut [u32],
+    mark: u32,
+    start: u32,
+    subject: u32,
+    units: u32,
+    watcher: &mut W,
+) -> Outcome {
     // 01: "Subject and mark come back as given in all answers but 0."
     let given = |answer, place, units| Outcome {
         answer,
@@ -487,27 +558,6 @@ pub fn run_watched<W: Watcher>(
         mark,
         units,
     };
-    // 01: "Order: 2, 3, 4, 5, then the run."; 02, wish 4: 13 to 17 "where 3
-    // stood".
-    // 01: "the bindings aren't 32 words".
-    if bad_table_length(table) || bad_store_length(store, mark) || bindings.len() != VARIABLES {
-        return given(BAD_LENGTH, 0, 0);
-    }
-    if let Some((answer, entry)) = lowest_bad_entry(table) {
-        return given(answer, entry, 0);
-    }
-    if let Some(node) = lowest_bad_node(store, mark) {
-        return given(BAD_NODE, node, 0);
-    }
-    // 01: "Answer 5: the start is outside the table or a pattern; the subject
-    // isn't below the mark; a binding word exceeds the mark."
-    let bad_start = start as usize >= table.len() / WIDTH
-        || sort_of(kind_of(table, start)) != Some(Sort::Strategy);
-    let bad_binding = bindings.iter().any(|&word| word > mark);
-    if bad_start || subject >= mark || bad_binding {
-        return given(BAD_START, 0, 0);
-    }
-
     let mut own = [0; VARIABLES];
     own.copy_from_slice(bindings);
     let mut machine = Machine {

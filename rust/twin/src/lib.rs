@@ -4,10 +4,10 @@
 //! with it, and it takes the plainest way: recursive functions over the words.
 //! Each piece quotes the sentence of 01 or 02 that it carries out.
 //!
-//! The files in reading order: `checks` (the table check, the store check),
-//! `free` (free variables), `engine` (the run), `collect` (the collection), `job`
-//! (the job program), then `text` (cases as lines), `random`, `generate` and
-//! `statistics`.
+//! The files in reading order: `checks` (the table check, the store check, the
+//! signature), `refusals` (their order), `free` (free variables), `engine` (the
+//! run), `collect` (the collection), `job` (the job program), then `text` and
+//! `calls` (cases as lines), `random`, `generate` and `statistics`.
 //!
 //! A run may go 4,096 visits deep, and each visit is a call. So runs belong on
 //! a thread with a big stack: see [`with_big_stack`].
@@ -15,6 +15,7 @@
 #![forbid(unsafe_code)]
 #![warn(missing_docs)]
 
+pub mod calls;
 pub mod checks;
 pub mod collect;
 pub mod engine;
@@ -22,12 +23,13 @@ pub mod free;
 pub mod generate;
 pub mod job;
 pub mod random;
+pub mod refusals;
 pub mod statistics;
 pub mod text;
 
 pub use checks::{check_store, check_table};
 pub use collect::{collect, Collected};
-pub use engine::{run, Outcome};
+pub use engine::{run, run_lent, Lent, Outcome};
 pub use free::free_variables;
 pub use job::job;
 

@@ -1,22 +1,26 @@
 //! The program `twin`: makes cases, answers them and counts them.
 //!
-//! `twin generate run|free|jobs SEED COUNT` writes cases.
-//! `twin answer run|free|jobs` reads cases and writes answers.
+//! `twin generate KIND SEED COUNT` writes cases.
+//! `twin answer KIND` reads cases and writes answers.
 //! `twin job` reads one job's text and writes its answer.
-//! `twin statistics run|free|jobs SEED COUNT` counts what the cases cover.
+//! `twin statistics KIND SEED COUNT` counts what the cases cover.
+//!
+//! The kinds: `run`, `free`, `jobs`, and `signed` for a call that 02 adds.
 
 #![forbid(unsafe_code)]
 
 use std::io::{self, BufRead, BufWriter, Read, Write};
 use std::process::ExitCode;
-use twin::generate::{free_case, job_text, run_case};
+use twin::calls::CallCase;
+use twin::generate::{call_cases, free_case, job_text, run_case};
 use twin::text::{push_framed, take_framed, FreeCase, RunCase};
 
 /// How the program is used.
-const USAGE: &str = "usage: twin generate run|free|jobs SEED COUNT
-       twin answer run|free|jobs
+const USAGE: &str = "usage: twin generate KIND SEED COUNT
+       twin answer KIND
        twin job
-       twin statistics run|free|jobs SEED COUNT";
+       twin statistics KIND SEED COUNT
+where KIND is run, free, jobs or signed";
 
 /// Writes COUNT cases of a kind.
 fn generate(kind: &str, seed: u64, count: u64) -> Result<(), String> {
@@ -30,7 +34,10 @@ fn generate(kind: &str, seed: u64, count: u64) -> Result<(), String> {
                 push_framed(&mut framed, &job_text(seed, index));
                 framed
             }
-            _ => return Err(USAGE.to_string()),
+            _ => match call_cases(kind) {
+                Some(case) => case(seed, index).line().into_bytes(),
+                None => return Err(USAGE.to_string()),
+            },
         };
         output.write_all(&bytes).map_err(|e| e.to_string())?;
         if kind != "jobs" {
@@ -40,21 +47,20 @@ fn generate(kind: &str, seed: u64, count: u64) -> Result<(), String> {
     output.flush().map_err(|e| e.to_string())
 }
 
+/// Answers a case that is one line.
+fn answer_line(kind: &str, line: &str) -> Result<String, String> {
+    match kind {
+        "run" => Ok(RunCase::parse(line)?.answer()),
+        "free" => Ok(FreeCase::parse(line)?.answer()),
+        _ if call_cases(kind).is_some() => Ok(CallCase::parse(line)?.answer()),
+        _ => Err(USAGE.to_string()),
+    }
+}
+
 /// Answers all cases on standard input.
 fn answer(kind: &str) -> Result<(), String> {
     let mut output = BufWriter::new(io::stdout());
     match kind {
-        "run" | "free" => {
-            for line in io::stdin().lock().lines() {
-                let line = line.map_err(|e| e.to_string())?;
-                let answer = if kind == "run" {
-                    RunCase::parse(&line)?.answer()
-                } else {
-                    FreeCase::parse(&line)?.answer()
-                };
-                writeln!(output, "{}", answer).map_err(|e| e.to_string())?;
-            }
-        }
         "jobs" => {
             let bytes = read_all()?;
             let mut stream = &bytes[..];
@@ -64,7 +70,13 @@ fn answer(kind: &str) -> Result<(), String> {
                 output.write_all(&framed).map_err(|e| e.to_string())?;
             }
         }
-        _ => return Err(USAGE.to_string()),
+        _ => {
+            for line in io::stdin().lock().lines() {
+                let line = line.map_err(|e| e.to_string())?;
+                let answer = answer_line(kind, &line)?;
+                writeln!(output, "{}", answer).map_err(|e| e.to_string())?;
+            }
+        }
     }
     output.flush().map_err(|e| e.to_string())
 }
@@ -91,7 +103,10 @@ fn statistics(kind: &str, seed: u64, count: u64) -> Result<(), String> {
         "run" => twin::statistics::of_runs(seed, count),
         "free" => twin::statistics::of_frees(seed, count),
         "jobs" => twin::statistics::of_jobs(seed, count),
-        _ => return Err(USAGE.to_string()),
+        _ => match call_cases(kind) {
+            Some(case) => twin::statistics::of_calls(case, seed, count),
+            None => return Err(USAGE.to_string()),
+        },
     };
     print!("{}", report);
     Ok(())

@@ -1,5 +1,6 @@
 //! What the generated cases cover, counted.
 
+use crate::calls::{Call, CallCase};
 use crate::checks::{kind, ran, BAD_TEXT, DONE, FAILED, NO_ROOM, UNBOUND};
 use crate::engine::{run_watched, Watcher};
 use crate::free::free_variables;
@@ -326,5 +327,42 @@ pub fn of_jobs(seed: u64, count: u64) -> String {
             say(text, format_args!("  {}: {}", name, number));
         }
     }
+    report
+}
+
+/// The numbers at the beginning of an answer's line, after its label.
+fn numbers_of(line: &str) -> Vec<u64> {
+    line.split(' ')
+        .skip(1)
+        .map_while(|field| field.parse().ok())
+        .collect()
+}
+
+/// Counts over so many cases of a call. Call it on a big stack.
+pub fn of_calls(make: fn(u64, u64) -> CallCase, seed: u64, count: u64) -> String {
+    let mut answers = Answers::new();
+    let mut empty = 0u64;
+    let mut made = 0u64;
+    for index in 0..count {
+        let case = make(seed, index);
+        let (call, mark) = (case.call, case.run.mark);
+        empty += u64::from(case.lent.values().any(|words| words.is_empty()));
+        let numbers = numbers_of(&case.answer());
+        *answers.entry(numbers[0] as u32).or_default() += 1;
+        if numbers[0] == 0 && call == Call::Run {
+            made += u64::from(numbers[3] > u64::from(mark));
+        }
+    }
+    let mut report = String::new();
+    let text = &mut report;
+    say(text, format_args!("calls {}, seed {}", count, seed));
+    say_answers(text, &answers, count);
+    say(
+        text,
+        format_args!(
+            "done with nodes made: {}; an empty list lent: {}",
+            made, empty
+        ),
+    );
     report
 }

@@ -63,13 +63,13 @@ fn base_store(length: usize, mark: u32, fill: bool) -> Vec<u32> {
 }
 
 /// Takes the next field of a line as a number.
-fn field<T: FromStr>(fields: &mut SplitWhitespace) -> Result<T, String> {
+pub(crate) fn field<T: FromStr>(fields: &mut SplitWhitespace) -> Result<T, String> {
     let text = fields.next().ok_or("the line ends too early")?;
     text.parse().map_err(|_| format!("no number: {}", text))
 }
 
 /// Takes the label, which must be the last field.
-fn label(fields: &mut SplitWhitespace) -> Result<String, String> {
+pub(crate) fn label(fields: &mut SplitWhitespace) -> Result<String, String> {
     let label = fields.next().ok_or("no label")?.to_string();
     match fields.next() {
         None => Ok(label),
@@ -218,6 +218,23 @@ pub fn sum(words: &[u32]) -> u32 {
     words
         .iter()
         .fold(0u32, |h, &word| h.wrapping_mul(31).wrapping_add(word))
+}
+
+/// Appends a slice's words as [`show_words`] does, or their sum where there are
+/// more than [`SHOWN_STORE_WORDS`]. The sum is taken modulo 2^64.
+pub(crate) fn show_slice(line: &mut String, words: &[u64]) {
+    if words.len() > SHOWN_STORE_WORDS {
+        let sum = words
+            .iter()
+            .fold(0u64, |h, &word| h.wrapping_mul(31).wrapping_add(word));
+        write!(line, " {}", sum).expect("a string takes all text");
+        return;
+    }
+    for (index, &word) in words.iter().enumerate() {
+        if word != 0 {
+            write!(line, " {}={}", index, word).expect("a string takes all text");
+        }
+    }
 }
 
 /// One question of free variables.

@@ -4,16 +4,18 @@
 //! five numbers, every word of the store and every word of the bindings are
 //! compared; so are the two checks of its words. What is handed to a run and what
 //! it leaves is collected by the proved function and by the plain one, and the
-//! four numbers and every word of store, bindings and work list are compared. The
-//! questions go through the proved function and the plain one. It ends with 1 where two of them differ,
-//! and with 2 where the words leave nothing to compare.
+//! four numbers and every word of store, bindings and work list are compared. COUNT
+//! runs with a signature, refused ones too, and the questions go through the proved
+//! function and the plain one. It ends with 1 where two of them differ, and with 2
+//! where the words leave nothing to compare.
 
 #![forbid(unsafe_code)]
 
 use bench::engines::ENGINES;
 use bench::foreign;
 use std::process::ExitCode;
-use twin::generate::{free_case, run_case};
+use twin::calls::{CallCase, SIGNATURE};
+use twin::generate::{free_case, run_case, signed_case};
 use twin::text::{FreeCase, RunCase};
 
 /// Whether the three engines agree on a case.
@@ -85,13 +87,45 @@ fn after_run(case: &RunCase) -> RunCase {
     after
 }
 
+/// Whether the proved function and the plain one agree on a run with a signature.
+fn signed_agrees(case: &CallCase) -> bool {
+    let signature = case.words(SIGNATURE).expect("a signature is lent");
+    let run = &case.run;
+    let mut proved = (run.store.clone(), run.bindings.clone());
+    let mut plain = proved.clone();
+    let numbers = foreign::run_signed(
+        &run.table,
+        &mut proved.0,
+        &mut proved.1,
+        run.mark,
+        run.start,
+        run.subject,
+        run.units,
+        &signature,
+    );
+    let end = twin::run_lent(
+        &run.table,
+        &mut plain.0,
+        &mut plain.1,
+        run.mark,
+        run.start,
+        run.subject,
+        run.units,
+        twin::Lent {
+            signature: Some(&signature),
+        },
+        &mut (),
+    );
+    numbers == [end.answer, end.place, end.subject, end.mark, end.units] && proved == plain
+}
+
 /// Whether the proved function and the plain one agree on a question.
 fn question_agrees(case: &FreeCase) -> bool {
     let (answer, place, mask) = twin::free_variables(&case.table, case.entry);
     foreign::free_variables(&case.table, case.entry) == [answer, place, mask]
 }
 
-/// Compares all; gives the number of runs, collections and questions that differ.
+/// Compares all; gives the number of cases that differ.
 fn compare(first: u64, last: u64, count: u64) -> u64 {
     let mut differ = 0;
     for seed in first..=last {
@@ -106,6 +140,10 @@ fn compare(first: u64, last: u64, count: u64) -> u64 {
                     println!("a collection of run {} of seed {} differs", index, seed);
                     differ += 1;
                 }
+            }
+            if !signed_agrees(&signed_case(seed, index)) {
+                println!("signed run {} of seed {} differs", index, seed);
+                differ += 1;
             }
             if !question_agrees(&free_case(seed, index)) {
                 println!("question {} of seed {} differs", index, seed);
@@ -128,7 +166,8 @@ fn main() -> ExitCode {
     let differ = twin::with_big_stack(move || compare(first, last, count));
     let each = (last - first + 1) * count;
     println!(
-        "{} runs, {} collections and {} questions compared, {} differ",
+        "{} runs, {} signed runs, {} collections and {} questions compared, {} differ",
+        each,
         each,
         2 * each,
         each,

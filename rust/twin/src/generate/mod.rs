@@ -3,15 +3,27 @@
 //!
 //! `terms` makes stores, `plans` makes tables that do something on them, `damage`
 //! makes them bad, `runs` puts limits around them and damages some, `frees` and
-//! `jobs` do the same for the other two questions.
+//! `jobs` do the same for the other two questions, `signed` lends a signature.
 
 mod damage;
 mod frees;
 mod jobs;
 mod plans;
 mod runs;
+mod signed;
 mod terms;
+
+use crate::calls::CallCase;
+
+/// The maker of the cases of a kind of call that 02 adds, by the kind's name.
+pub fn call_cases(kind: &str) -> Option<fn(u64, u64) -> CallCase> {
+    match kind {
+        "signed" => Some(signed_case),
+        _ => None,
+    }
+}
 
 pub use frees::free_case;
 pub use jobs::job_text;
 pub use runs::run_case;
+pub use signed::signed_case;

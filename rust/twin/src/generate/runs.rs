@@ -26,16 +26,7 @@ impl Watcher for Peak {
 /// limits, so call it on a big stack.
 pub fn run_case(seed: u64, index: u64) -> RunCase {
     let mut random = Random::new(seed, index);
-    let mut case = match random.below(1_000) {
-        0..=3 => chain(&mut random),
-        4..=13 => counter(&mut random),
-        14 => long_comparison(&mut random),
-        15..=16 => full_table(&mut random),
-        17 => full_store(&mut random),
-        18..=19 => deep_pattern(&mut random),
-        20..=99 => looping(&mut random),
-        _ => general(&mut random),
-    };
+    let mut case = sound_case(&mut random);
     case.label = format!("r{}", index);
     if random.chance(33) {
         damage(&mut random, &mut case);
@@ -43,11 +34,29 @@ pub fn run_case(seed: u64, index: u64) -> RunCase {
             damage(&mut random, &mut case);
         }
     }
-    // A changed case may go on for very long: then it gets fewer units.
-    if case.units > MOST_UNITS && probe(&case, MOST_UNITS).0.answer == NO_UNITS {
+    shorten(&mut random, &mut case);
+    case
+}
+
+/// A case that nothing refuses.
+pub(super) fn sound_case(random: &mut Random) -> RunCase {
+    match random.below(1_000) {
+        0..=3 => chain(random),
+        4..=13 => counter(random),
+        14 => long_comparison(random),
+        15..=16 => full_table(random),
+        17 => full_store(random),
+        18..=19 => deep_pattern(random),
+        20..=99 => looping(random),
+        _ => general(random),
+    }
+}
+
+/// A changed case may go on for very long: then it gets fewer units.
+pub(super) fn shorten(random: &mut Random, case: &mut RunCase) {
+    if case.units > MOST_UNITS && probe(case, MOST_UNITS).0.answer == NO_UNITS {
         case.units = random.below(6_000);
     }
-    case
 }
 
 /// A case around a table and terms, with nothing bound and ample limits.
@@ -436,7 +445,7 @@ fn stretch(random: &mut Random, words: &mut Vec<u32>, most: usize) {
 }
 
 /// Damages one thing. Some damage turns out to be harmless.
-fn damage(random: &mut Random, case: &mut RunCase) {
+pub(super) fn damage(random: &mut Random, case: &mut RunCase) {
     let nodes = (case.store.len() / WIDTH) as u32;
     let entries = (case.table.len() / WIDTH) as u32;
     match random.weighed(&[40, 28, 4, 4, 4, 6, 12, 10, 10, 5, 1]) {

@@ -7,10 +7,10 @@ use Rattle.vectors.proofs.memory.spoil.Statement.{statement}
 use Rattle.vectors.proofs.memory.spoil.Tie as tie
 
 abbrev Inv-loop : tie.InvT-loop
-Inv-loop store₀ from i₀ store i = length store ≡ length store₀
+Inv-loop words₀ from word i₀ words i = length words ≡ length words₀
 
 abbrev μ-loop : tie.MeasureT-loop
-μ-loop store₀ from i₀ store i = length store₀ - i
+μ-loop words₀ from word i₀ words i = length words₀ - i
 
 pub spoil-spec : {M : Type 1} → statement M
 spoil-spec =

@@ -1,54 +1,55 @@
--- `run` meets its contract: refused, or the end of an accepted run with the store cleared and the bindings written.
+-- `run_lent` meets its contract: refused, or the end of an accepted run with the store cleared and the bindings written.
 use borrow.Author.Needs.{needs}
 use borrow.Author.Tests.{eq-eqb}
 use mathlib.Core.Path.{_≡_, refl, ap, sym, _∙_}
 use Prim.Native.Nat.{ℕ}
+use mathlib.Core.Option.{Option}
 use mathlib.Core.List.{List}
 use Rattle.checks.specs.declared.Checked.{Checked}
 use Rattle.meaning.specs.Store.{Input, Accepted}
-use Rattle.marshtrundle.specs.Refused.{refused}
+use Rattle.marshtrundle.specs.Refused.{lentIf, refusedWith}
 use Rattle.marshtrundle.specs.Run.{input, atReturn}
-use Rattle.marshtrundle.proofs.Accepting.{accepted-answer}
+use Rattle.marshtrundle.proofs.Accepting.{accepted-with}
 use Rattle.marshtrundle.proofs.Fetching.{table-loaded, entries-loaded}
 use Rattle.marshtrundle.proofs.Hinting.{hints-loaded}
 use Rattle.marshtrundle.proofs.Whole.{ready, ended-as, run-refused, run-ran, table-fits, bound-left, comes-back}
-use Rattle.marshtrundle.proofs.running.run.Statement.{statement}
-use Rattle.marshtrundle.proofs.running.run.Tie as tie
-use Rattle.marshtrundle.proofs.running.run.Reads as reads
-use Rattle.marshtrundle.proofs.running.run.Lts as lts
+use Rattle.marshtrundle.proofs.running.run_lent.Statement.{statement}
+use Rattle.marshtrundle.proofs.running.run_lent.Tie as tie
+use Rattle.marshtrundle.proofs.running.run_lent.Reads as reads
+use Rattle.marshtrundle.proofs.running.run_lent.Lts as lts
 
 -- what is not refused is accepted
-passed : (i : Input) (r : Checked) → r ≡ refused (i .table) (i .store) (i .bindings) (i .mark) (i .start) (i .subject) → r .answer ≡ 0 → Accepted i
-passed i r e z = accepted-answer (i .table) (i .store) (i .bindings) (i .mark) (i .start) (i .subject) (i .units) (eq-eqb _ 0 (ap (λ (c : Checked). c .answer) (sym e) ∙ z))
+passed : (g : Option (List ℕ)) (i : Input) (r : Checked) → r ≡ refusedWith g (i .table) (i .store) (i .bindings) (i .mark) (i .start) (i .subject) → r .answer ≡ 0 → Accepted i
+passed g i r e z = accepted-with g i (eq-eqb _ 0 (ap (λ (c : Checked). c .answer) (sym e) ∙ z)) .1
 
 returns : tie.Need-returns
 returns c =
-    let a = c .before .before .before .before .before .before .before .before .args in
+    let a = c .before .before .before .before .before .before .before .before .before .args in
     let i = input (a .table .now) (a .store .now) (a .bindings .now) (a .mark) (a .start) (a .subject) (a .units) in
-    run-refused i _ (c .before .before .refusal .ensures) (c .if1 .taken)
+    run-refused (lentIf (a .signed) (a .signature .now)) i _ (c .before .before .refusal .ensures) (c .if1 .taken)
 
 loaded-requires : tie.Need-loaded-requires
 loaded-requires c κs =
-    let a = c .before .before .before .before .before .before .before .before .args in
+    let a = c .before .before .before .before .before .before .before .before .before .args in
     let i = input (a .table .now) (a .store .now) (a .bindings .now) (a .mark) (a .start) (a .subject) (a .units) in
-    table-fits i (passed i _ (c .before .before .refusal .ensures) (c .if1 .left))
+    table-fits i (passed (lentIf (a .signed) (a .signature .now)) i _ (c .before .before .refusal .ensures) (c .if1 .left))
 
 opened-requires : tie.Need-opened-requires
 opened-requires c κs =
     let at-if1 = c .before .before in
-    let a = at-if1 .before .before .before .before .before .before .before .before .args in
+    let a = at-if1 .before .before .before .before .before .before .before .before .before .args in
     let i = input (a .table .now) (a .store .now) (a .bindings .now) (a .mark) (a .start) (a .subject) (a .units) in
-    passed i _ (at-if1 .before .before .refusal .ensures) (at-if1 .if1 .left) .bindings
+    passed (lentIf (a .signed) (a .signature .now)) i _ (at-if1 .before .before .refusal .ensures) (at-if1 .if1 .left) .bindings
 
 run-accepted-requires : tie.Need-run-accepted-requires
 run-accepted-requires c κs =
     let at-opened = c .before .before .before in
     let at-loaded = at-opened .before .before in
     let at-if1 = at-loaded .before in
-    let start = at-if1 .before .before .before .before .before .before .before .before in
+    let start = at-if1 .before .before .before .before .before .before .before .before .before in
     let a = start .args in
     let i = input (a .table .now) (a .store .now) (a .bindings .now) (a .mark) (a .start) (a .subject) (a .units) in
-    let h = passed i _ (at-if1 .before .before .refusal .ensures) (at-if1 .if1 .left) in
+    let h = passed (lentIf (a .signed) (a .signature .now)) i _ (at-if1 .before .before .refusal .ensures) (at-if1 .if1 .left) in
     let l = at-loaded .loaded .ensures in
     ready i h _ _ _ (table-loaded l) (entries-loaded (h .table) l) (hints-loaded (h .table) l) (at-opened .opened .ensures) (start .fits .units .fits) refl
 
@@ -58,15 +59,15 @@ returns-2 c =
     let at-opened = at-run .before .before .before .before in
     let at-loaded = at-opened .before .before in
     let at-if1 = at-loaded .before in
-    let start = at-if1 .before .before .before .before .before .before .before .before in
+    let start = at-if1 .before .before .before .before .before .before .before .before .before in
     let a = start .args in
     let i = input (a .table .now) (a .store .now) (a .bindings .now) (a .mark) (a .start) (a .subject) (a .units) in
-    let h = passed i _ (at-if1 .before .before .refusal .ensures) (at-if1 .if1 .left) in
+    let h = passed (lentIf (a .signed) (a .signature .now)) i _ (at-if1 .before .before .refusal .ensures) (at-if1 .if1 .left) in
     let l = at-loaded .loaded .ensures in
     let e = ended-as i h _ _ _ (table-loaded l) (entries-loaded (h .table) l) (hints-loaded (h .table) l) (at-opened .opened .ensures) (start .fits .units .fits) refl _ _ _ (at-run .run-accepted .ensures) in
     let at-clear-from = c .before .before .before .before in
     (λ z. atReturn (at-run .run-accepted .result) (at-clear-from .clear-from .ensures z) (i .bindings))
-    ∙ comes-back i h _ _ _ e (i .bindings) (λ z. absurd (c .if2 .taken z)) (λ n. refl) ∙ run-ran i _ (at-if1 .before .before .refusal .ensures) (at-if1 .if1 .left)
+    ∙ comes-back i h _ _ _ e (i .bindings) (λ z. absurd (c .if2 .taken z)) (λ n. refl) ∙ run-ran (lentIf (a .signed) (a .signature .now)) i _ (at-if1 .before .before .refusal .ensures) (at-if1 .if1 .left)
 
 closed-requires : tie.Need-closed-requires
 closed-requires c κs =
@@ -74,10 +75,10 @@ closed-requires c κs =
     let at-opened = at-run .before .before .before .before in
     let at-loaded = at-opened .before .before in
     let at-if1 = at-loaded .before in
-    let start = at-if1 .before .before .before .before .before .before .before .before in
+    let start = at-if1 .before .before .before .before .before .before .before .before .before in
     let a = start .args in
     let i = input (a .table .now) (a .store .now) (a .bindings .now) (a .mark) (a .start) (a .subject) (a .units) in
-    let h = passed i _ (at-if1 .before .before .refusal .ensures) (at-if1 .if1 .left) in
+    let h = passed (lentIf (a .signed) (a .signature .now)) i _ (at-if1 .before .before .refusal .ensures) (at-if1 .if1 .left) in
     let l = at-loaded .loaded .ensures in
     let e = ended-as i h _ _ _ (table-loaded l) (entries-loaded (h .table) l) (hints-loaded (h .table) l) (at-opened .opened .ensures) (start .fits .units .fits) refl _ _ _ (at-run .run-accepted .ensures) in
     (h .bindings, bound-left i h _ _ _ e (c .before .if2 .left))
@@ -88,19 +89,19 @@ returns-3 c =
     let at-opened = at-run .before .before .before .before in
     let at-loaded = at-opened .before .before in
     let at-if1 = at-loaded .before in
-    let start = at-if1 .before .before .before .before .before .before .before .before in
+    let start = at-if1 .before .before .before .before .before .before .before .before .before in
     let a = start .args in
     let i = input (a .table .now) (a .store .now) (a .bindings .now) (a .mark) (a .start) (a .subject) (a .units) in
-    let h = passed i _ (at-if1 .before .before .refusal .ensures) (at-if1 .if1 .left) in
+    let h = passed (lentIf (a .signed) (a .signature .now)) i _ (at-if1 .before .before .refusal .ensures) (at-if1 .if1 .left) in
     let l = at-loaded .loaded .ensures in
     let e = ended-as i h _ _ _ (table-loaded l) (entries-loaded (h .table) l) (hints-loaded (h .table) l) (at-opened .opened .ensures) (start .fits .units .fits) refl _ _ _ (at-run .run-accepted .ensures) in
     let at-clear-from = c .before .before .before .before .before .before .before .before in
     let at-if2 = c .before .before .before .before in
     (λ z. atReturn (at-run .run-accepted .result) (at-clear-from .clear-from .ensures z) (c .before .before .closed .ensures z))
-    ∙ comes-back i h _ _ _ e _ (λ z. refl) (λ n. absurd (n (at-if2 .if2 .left))) ∙ run-ran i _ (at-if1 .before .before .refusal .ensures) (at-if1 .if1 .left)
+    ∙ comes-back i h _ _ _ e _ (λ z. refl) (λ n. absurd (n (at-if2 .if2 .left))) ∙ run-ran (lentIf (a .signed) (a .signature .now)) i _ (at-if1 .before .before .refusal .ensures) (at-if1 .if1 .left)
 
-pub run-spec : {M : Type 1} → statement M
-run-spec =
+pub run-lent-spec : {M : Type 1} → statement M
+run-lent-spec =
     tie.close
     (tie.spec
     (λ c κs. search needs) (λ c. search needs) (λ c. search needs) returns loaded-requires opened-requires

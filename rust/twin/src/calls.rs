@@ -1,0 +1,220 @@
+//! Cases of the calls that 02 adds, as lines of text.
+//!
+//! A case: `TAG MARK START SUBJECT UNITS SLICES (SLICE LENGTH FILL).. PATCHES
+//! (SLICE WORD VALUE).. LABEL`. The tag says which call is meant. A slice that
+//! the line does not list is not lent, which is not the same as an empty one.
+//! Every word of a slice begins as its FILL; in the store only the words from
+//! word 8 times MARK on, and those before begin as 0. Then each patch sets one
+//! word.
+//!
+//! The slices: 0 table, 1 store, 2 bindings, 3 signature.
+//!
+//! The tags and their answers, where WORDS are ` INDEX=VALUE` for each word that
+//! is not zero, or one sum where there are more than 512 words:
+//!
+//! `l`, a run with what is lent: `LABEL ANSWER PLACE SUBJECT MARK UNITS`, the
+//! bindings' WORDS, ` :`, the store's WORDS.
+
+use crate::checks::WIDTH;
+use crate::engine::{run_lent, Lent};
+use crate::text::{field, label, show_slice, RunCase};
+use std::collections::BTreeMap;
+use std::fmt::Write;
+
+/// The longest slice of a case, in words.
+pub const CASE_WORDS: usize = 1 << 21;
+
+/// The number of the table among the slices.
+pub const TABLE: u32 = 0;
+/// The number of the store.
+pub const STORE: u32 = 1;
+/// The number of the bindings.
+pub const BINDINGS: u32 = 2;
+/// The number of the signature.
+pub const SIGNATURE: u32 = 3;
+
+/// Which call a case is for.
+#[derive(Clone, Copy, Debug, PartialEq, Eq)]
+pub enum Call {
+    /// One run.
+    Run,
+}
+
+/// The calls and their tags.
+const TAGS: [(Call, &str); 1] = [(Call::Run, "l")];
+
+/// One input of a call.
+#[derive(Clone, Debug, PartialEq, Eq)]
+pub struct CallCase {
+    /// The call.
+    pub call: Call,
+    /// The table, the store, the bindings and the numbers.
+    pub run: RunCase,
+    /// What is lent besides, by the slices' numbers.
+    pub lent: BTreeMap<u32, Vec<u64>>,
+}
+
+/// Words as 64 bits.
+pub fn wide(words: &[u32]) -> Vec<u64> {
+    words.iter().map(|&word| u64::from(word)).collect()
+}
+
+/// Words as 32 bits. A case has none that is greater.
+fn narrow(words: &[u64]) -> Result<Vec<u32>, String> {
+    words
+        .iter()
+        .map(|&word| u32::try_from(word).map_err(|_| format!("no 32 bits: {}", word)))
+        .collect()
+}
+
+/// The words that a slice begins with.
+fn base(slice: u32, length: usize, fill: u64, mark: u32) -> Vec<u64> {
+    let mut words = vec![fill; length];
+    if slice == STORE {
+        let below = (WIDTH * mark as usize).min(length);
+        words[..below].fill(0);
+    }
+    words
+}
+
+/// A fill that leaves few patches: 0, or a word that much of the slice has.
+fn fill_of(slice: u32, words: &[u64], mark: u32) -> u64 {
+    let patches = |fill: &u64| {
+        let before = base(slice, words.len(), *fill, mark);
+        before.iter().zip(words).filter(|(a, b)| a != b).count()
+    };
+    let middle = words.get(words.len() / 2).copied().unwrap_or(0);
+    let last = words.last().copied().unwrap_or(0);
+    let fills = [0, middle, last];
+    fills.into_iter().min_by_key(patches).unwrap_or(0)
+}
+
+impl CallCase {
+    /// All slices of the case by their numbers.
+    fn slices(&self) -> BTreeMap<u32, Vec<u64>> {
+        let mut all = self.lent.clone();
+        all.insert(TABLE, wide(&self.run.table));
+        all.insert(STORE, wide(&self.run.store));
+        all.insert(BINDINGS, wide(&self.run.bindings));
+        all
+    }
+
+    /// A lent slice of 32-bit words, if it is lent.
+    pub fn words(&self, slice: u32) -> Option<Vec<u32>> {
+        let words = self.lent.get(&slice)?;
+        Some(narrow(words).expect("the slice has 32-bit words"))
+    }
+
+    /// The case as a line, without the line feed.
+    pub fn line(&self) -> String {
+        let run = &self.run;
+        let slices = self.slices();
+        let mut heads = String::new();
+        let mut patches = String::new();
+        let mut count = 0;
+        for (&slice, words) in &slices {
+            let fill = fill_of(slice, words, run.mark);
+            write!(heads, " {} {} {}", slice, words.len(), fill).expect("a string takes all text");
+            let before = base(slice, words.len(), fill, run.mark);
+            for (index, (&word, &old)) in words.iter().zip(&before).enumerate() {
+                if word != old {
+                    count += 1;
+                    write!(patches, " {} {} {}", slice, index, word)
+                        .expect("a string takes all text");
+                }
+            }
+        }
+        let tag = TAGS.iter().find(|(call, _)| *call == self.call);
+        format!(
+            "{} {} {} {} {} {}{} {}{} {}",
+            tag.expect("every call has a tag").1,
+            run.mark,
+            run.start,
+            run.subject,
+            run.units,
+            slices.len(),
+            heads,
+            count,
+            patches,
+            run.label
+        )
+    }
+
+    /// Reads a case from its line.
+    pub fn parse(line: &str) -> Result<CallCase, String> {
+        let mut fields = line.split_whitespace();
+        let tag = fields.next().ok_or("an empty line")?;
+        let call = TAGS.iter().find(|(_, name)| *name == tag);
+        let call = call.ok_or_else(|| format!("no such tag: {}", tag))?.0;
+        let mark = field(&mut fields)?;
+        let start = field(&mut fields)?;
+        let subject = field(&mut fields)?;
+        let units = field(&mut fields)?;
+        let mut slices = BTreeMap::new();
+        let count: usize = field(&mut fields)?;
+        for _ in 0..count {
+            let slice: u32 = field(&mut fields)?;
+            let length: usize = field(&mut fields)?;
+            let fill: u64 = field(&mut fields)?;
+            if length > CASE_WORDS {
+                return Err("a slice is too long".to_string());
+            }
+            slices.insert(slice, base(slice, length, fill, mark));
+        }
+        let patches: usize = field(&mut fields)?;
+        for _ in 0..patches {
+            let slice: u32 = field(&mut fields)?;
+            let word: usize = field(&mut fields)?;
+            let value: u64 = field(&mut fields)?;
+            let words = slices.get_mut(&slice).ok_or("no such slice")?;
+            *words.get_mut(word).ok_or("no such word")? = value;
+        }
+        let mut take = |slice: u32| narrow(&slices.remove(&slice).unwrap_or_default());
+        Ok(CallCase {
+            call,
+            run: RunCase {
+                table: take(TABLE)?,
+                store: take(STORE)?,
+                bindings: take(BINDINGS)?,
+                mark,
+                start,
+                subject,
+                units,
+                label: label(&mut fields)?,
+            },
+            lent: slices,
+        })
+    }
+
+    /// Answers the case as a line, without the line feed.
+    pub fn answer(self) -> String {
+        match self.call {
+            Call::Run => self.answer_run(),
+        }
+    }
+
+    /// Answers a run with what is lent.
+    fn answer_run(self) -> String {
+        let signature = self.words(SIGNATURE);
+        let mut run = self.run;
+        let lent = Lent {
+            signature: signature.as_deref(),
+        };
+        let outcome = run_lent(
+            &run.table,
+            &mut run.store,
+            &mut run.bindings,
+            run.mark,
+            run.start,
+            run.subject,
+            run.units,
+            lent,
+            &mut (),
+        );
+        let mut line = format!("{} {}", run.label, outcome);
+        show_slice(&mut line, &wide(&run.bindings));
+        line.push_str(" :");
+        show_slice(&mut line, &wide(&run.store));
+        line
+    }
+}

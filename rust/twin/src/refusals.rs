@@ -1,0 +1,80 @@
+//! What refuses a call, asked in its order.
+//!
+//! Every call that runs a strategy asks the same questions. What a caller may
+//! lend besides table, store and bindings adds a question where it is lent.
+
+use crate::checks::{
+    bad_signature, bad_store_length, bad_table_length, kind_of, lowest_bad_entry, lowest_bad_node,
+    lowest_disobeying_entry, lowest_disobeying_node, sort_of, Sort, BAD_LENGTH, BAD_NODE,
+    BAD_START, SIGNED_ENTRY, SIGNED_NODE, VARIABLES, WIDTH,
+};
+
+/// What is looked at before anything is written.
+pub struct Input<'a> {
+    /// The table's words.
+    pub table: &'a [u32],
+    /// The store's words.
+    pub store: &'a [u32],
+    /// The bindings' words.
+    pub bindings: &'a [u32],
+    /// The mark.
+    pub mark: u32,
+    /// The start.
+    pub start: u32,
+    /// The subjects.
+    pub subjects: &'a [u32],
+    /// The signature, where one is lent. An empty one is lent too.
+    pub signature: Option<&'a [u32]>,
+}
+
+/// Whether a length, the mark or a count word of the signature is bad.
+///
+/// 01: "the bindings aren't 32 words". The order among the sizes cannot be seen:
+/// all of them give 2 and 0.
+fn bad_sizes(input: &Input) -> bool {
+    bad_table_length(input.table)
+        || bad_store_length(input.store, input.mark)
+        || input.bindings.len() != VARIABLES
+        || input.signature.map_or(false, bad_signature)
+}
+
+/// Whether the start, a subject or a binding is bad.
+///
+/// 01: "Answer 5: the start is outside the table or a pattern; the subject isn't
+/// below the mark; a binding word exceeds the mark."
+fn bad_start(input: &Input) -> bool {
+    input.start as usize >= input.table.len() / WIDTH
+        || sort_of(kind_of(input.table, input.start)) != Some(Sort::Strategy)
+        || input.subjects.iter().any(|&subject| subject >= input.mark)
+        || input.bindings.iter().any(|&word| word > input.mark)
+}
+
+/// The first refusal of an input, as answer and place; `None` where it is
+/// accepted.
+///
+/// 01: "Order: 2, 3, 4, 5, then the run." 02: 13 to 17 "where 3 stood" (wish 4);
+/// "10 with the lowest entry, then 11 with the lowest node, both after 4 and
+/// before 5" (wish 2).
+pub fn refusal(input: &Input) -> Option<(u32, u32)> {
+    if bad_sizes(input) {
+        return Some((BAD_LENGTH, 0));
+    }
+    if let Some(fault) = lowest_bad_entry(input.table) {
+        return Some(fault);
+    }
+    if let Some(node) = lowest_bad_node(input.store, input.mark) {
+        return Some((BAD_NODE, node));
+    }
+    if let Some(signature) = input.signature {
+        if let Some(entry) = lowest_disobeying_entry(input.table, signature) {
+            return Some((SIGNED_ENTRY, entry));
+        }
+        if let Some(node) = lowest_disobeying_node(input.store, input.mark, signature) {
+            return Some((SIGNED_NODE, node));
+        }
+    }
+    if bad_start(input) {
+        return Some((BAD_START, 0));
+    }
+    None
+}
