@@ -5,6 +5,7 @@
  * System V calling convention. It needs memcpy and memset of the C library and nothing else. C99 or later, or C++.
  *
  * Call the mt_ functions below. They take any words, any lengths and any numbers, and always give an answer.
+ * marshtrundle_build.h makes tables and terms by functions, and shows terms and answers as text.
  *
  * SLICES. A slice is a pointer and a number of 32-bit words, not of bytes. The pointer is aligned to 4 bytes and valid for
  * that many words. A null pointer is an empty slice. What is written (store, bindings, work, numbers) overlaps nothing else that
@@ -79,6 +80,15 @@
 #ifdef __cplusplus
 extern "C" {
 #endif
+
+/* The version: 10,000 * major + 100 * minor + patch, as of the Rust crate. */
+#define MT_VERSION 100
+
+/* The version that a program was compiled with. */
+static inline uint32_t mt_version(void)
+{
+    return MT_VERSION;
+}
 
 /* The most nodes of a store, entries of a table, levels of nesting; the words of the bindings; the stack for mt_run. */
 #define MT_NODES 131072

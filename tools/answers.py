@@ -3,7 +3,8 @@
 
 An answer has a number of document 01 or 02. It is named in the C header, in the Rust crate over the archive (twice: read and written),
 in rust/twin, and in the definitions of crates/*/specs. LIST says under which name. What stands in one of these places and is not
-in LIST, or is in LIST and not there, is a difference. docs/REFERENCE.md has a row for each number.
+in LIST, or is in LIST and not there, is a difference. docs/REFERENCE.md has a row for each number, and include/marshtrundle_build.h words
+for each answer of the header.
 """
 import pathlib
 import re
@@ -81,7 +82,11 @@ def main(words):
     for n in sorted(rows ^ set(LIST)):
         differ = 1
         print("docs/REFERENCE.md: %d %s" % (n, "is not in tools/answers.py" if n in rows else "has no row"))
-    print("answers: %d numbers, %d places%s" % (len(LIST), len(places) + 1, ", they differ" if differ else " agree"))
+    words = set(re.findall(r"case (MT_\w+): return", part("include/marshtrundle_build.h", "mt_answer_text", "default:")))
+    for name in sorted(words ^ {names[0] for names in LIST.values() if names[0]}):
+        differ = 1
+        print("include/marshtrundle_build.h: %s %s" % (name, "is not in tools/answers.py" if name in words else "has no words"))
+    print("answers: %d numbers, %d places%s" % (len(LIST), len(places) + 2, ", they differ" if differ else " agree"))
     return differ
 
 

@@ -132,6 +132,23 @@ fi
     "$MARSHTRUNDLE_LIB/libmarshtrundle.a" -o "$work/marshtrundle_test" || exit 1
 $run "$work/marshtrundle_test" || exit 1
 
+# The C builder, against what 'make install' puts where a program looks for it. Without pkg-config its words are written out.
+if command -v make >/dev/null && [ "$MARSHTRUNDLE_LIB" = "$root/target/staticlib" ]; then
+    prefix=$work/prefix
+    rm -rf "$prefix"
+    make -s -C "$root" install PREFIX="$prefix" || exit 1
+    words="-I$prefix/include -L$prefix/lib -lmarshtrundle"
+    if command -v pkg-config >/dev/null; then
+        words=$(PKG_CONFIG_PATH=$prefix/lib/pkgconfig pkg-config --cflags --libs marshtrundle) || exit 1
+    fi
+else
+    words="-I$root/include -L$MARSHTRUNDLE_LIB -lmarshtrundle"
+fi
+version=$(sed -n 's/^version = "\(.*\)\.\(.*\)\.\(.*\)"$/10000*\1+100*\2+\3/p' "$crate/Cargo.toml")
+# shellcheck disable=SC2086
+"$cc" -std=c99 -pedantic -O2 -Wall -Wextra -Werror -DVERSION="$version" $c_flags "$root/c/build_test.c" $words -o "$work/build_test" || exit 1
+$run "$work/build_test" || exit 1
+
 cd "$crate"
 if [ "$machine" = x86_64 ]; then
     "$rust/cargo" test || exit 1
