@@ -1,4 +1,5 @@
 //! Names for constructors, variables and entries, and the file that gives them.
+use crate::store::{Node, Store};
 use crate::table::Table;
 use std::borrow::Cow;
 use std::collections::BTreeMap;
@@ -27,7 +28,7 @@ pub struct Names {
     entries: BTreeMap<u32, String>,
 }
 
-/// What is wrong with a file of names, and on which line.
+/// What is wrong with a file of names, or with the text of a term, and on which line.
 #[derive(Clone, Debug, PartialEq, Eq)]
 pub struct NamesFault {
     /// The line, from 1.
@@ -44,10 +45,14 @@ impl fmt::Display for NamesFault {
 
 impl std::error::Error for NamesFault {}
 
+/// Whether a name can have this sign inside.
+fn is_inside(sign: char) -> bool {
+    sign.is_alphanumeric() || "_'.-".contains(sign)
+}
+
 /// A name can stand in a term: it has no blanks, brackets, commas or signs of the notation.
 fn is_name(text: &str) -> bool {
-    let inside = |c: char| c.is_alphanumeric() || "_'.-".contains(c);
-    text.starts_with(|c: char| c.is_alphabetic() || c == '_') && text.chars().all(inside)
+    text.starts_with(|c: char| c.is_alphabetic() || c == '_') && text.chars().all(is_inside)
 }
 
 impl Names {
@@ -117,6 +122,82 @@ impl Names {
                 .or_insert_with(|| name.to_owned());
         }
         self
+    }
+
+    /// Makes the term of a text in a store: `PAIR(A, 7)`, with names or numbers for constructors. [`Show::term`](crate::show::Show::term)
+    /// writes such text, where nothing is shared or cut.
+    ///
+    /// ```
+    /// # fn main() -> Result<(), Box<dyn std::error::Error>> {
+    /// use marshtrundle::show::Names;
+    /// use marshtrundle::Store;
+    /// let names = Names::read("constructor 5 PAIR")?;
+    /// let mut store = Store::new();
+    /// let term = names.read_term(&mut store, "PAIR(1, PAIR(2, 3))")?;
+    /// assert_eq!(store.term(term).unwrap().to_string(), "5(1, 5(2, 3))");
+    /// assert_eq!(
+    ///     names.read_term(&mut store, "PAIR(1, MAP)").unwrap_err().to_string(),
+    ///     "line 1: 'MAP' names no constructor"
+    /// );
+    /// # Ok(())
+    /// # }
+    /// ```
+    pub fn read_term(&self, store: &mut Store, text: &str) -> Result<Node, NamesFault> {
+        let mut open: Vec<(u16, Vec<Node>)> = vec![];
+        let mut whole = None;
+        let mut line = 1;
+        // Whether a term is to come next.
+        let mut is_next = true;
+        let mut rest = text.char_indices().peekable();
+        while let Some((at, sign)) = rest.next() {
+            let fault = |what| NamesFault { line, what };
+            let mut done = None;
+            match sign {
+                '\n' | ' ' | '\t' | '\r' => {}
+                ',' if !is_next && !open.is_empty() => is_next = true,
+                ')' if !is_next && !open.is_empty() => done = open.pop(),
+                _ if is_next && is_inside(sign) => {
+                    let mut end = at + sign.len_utf8();
+                    while let Some((at, sign)) = rest.next_if(|&(_, sign)| is_inside(sign)) {
+                        end = at + sign.len_utf8();
+                    }
+                    let constructor = self.constructor_of(&text[at..end]).map_err(fault)?;
+                    if rest.next_if(|&(_, sign)| sign == '(').is_some() {
+                        open.push((constructor, vec![]));
+                    } else {
+                        done = Some((constructor, vec![]));
+                    }
+                }
+                _ => return Err(fault(format!("'{sign}' does not belong there"))),
+            }
+            if let Some((constructor, children)) = done {
+                let node = store.node(constructor, &children);
+                let node = node.map_err(|error| fault(error.to_string()))?;
+                is_next = false;
+                match open.last_mut() {
+                    Some((_, children)) => children.push(node),
+                    None => whole = Some(node),
+                }
+            }
+            line += usize::from(sign == '\n');
+        }
+        match whole {
+            Some(node) if open.is_empty() => Ok(node),
+            _ => Err(NamesFault {
+                line,
+                what: "the term is not whole".to_owned(),
+            }),
+        }
+    }
+
+    /// The constructor of a name or a number.
+    fn constructor_of(&self, word: &str) -> Result<u16, String> {
+        if let Ok(number) = word.parse() {
+            return Ok(number);
+        }
+        let named = self.constructors.iter().find(|(_, name)| *name == word);
+        let number = named.and_then(|(&number, _)| u16::try_from(number).ok());
+        number.ok_or_else(|| format!("'{word}' names no constructor"))
     }
 
     /// A constructor's name, or its number.

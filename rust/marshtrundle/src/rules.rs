@@ -5,7 +5,7 @@
 //! gone when it ends. A variable that the strategy of a condition names is the rule's where the rule has it, and otherwise an
 //! outer one.
 use crate::answer::BuildError;
-use crate::bindings::VarSet;
+use crate::bindings::{Var, VarSet};
 use crate::strategy::{build, match_, not, scope, seq, where_, Pattern, Strategy};
 
 /// A condition of [`rule_where`]: [`holds`], [`fails`] or [`gives`].
@@ -110,7 +110,46 @@ pub fn rule_where(
     to: Pattern,
     conditions: impl IntoIterator<Item = Condition>,
 ) -> Strategy {
-    let mut bound = from.vars();
+    rule_within([], from, to, conditions)
+}
+
+/// A rewrite rule inside another one: as [`rule_where`], but the variables of `outer` belong to the rule around. They are bound when this rule
+/// is tried, so that its left side compares with them, and they are not in its scope.
+///
+/// With it a rule applies another one somewhere inside its term, by a traversal in a condition:
+///
+/// ```
+/// # fn main() -> Result<(), Box<dyn std::error::Error>> {
+/// use marshtrundle::strategy::*;
+/// use marshtrundle::{run, Bindings, Entry, Store, Table, VARS};
+/// const LET: u16 = 1;
+/// const VAR: u16 = 2;
+/// let [x, value, body, new, ..] = VARS;
+/// // Let(x, value, body) -> Let(x, value, new), where new is body with value for Var(x)
+/// let propagate = rule_where(
+///     con(LET, [var(x), var(value), var(body)]),
+///     con(LET, [var(x), var(value), var(new)]),
+///     [gives(var(body), some_td(rule_within([x, value], con(VAR, [var(x)]), var(value), [])), var(new))],
+/// );
+/// let mut store = Store::new();
+/// let (a, b, seven) = (store.node(10, &[])?, store.node(11, &[])?, store.node(7, &[])?);
+/// let (use_of_a, use_of_b) = (store.node(VAR, &[a])?, store.node(VAR, &[b])?);
+/// let both = store.node(3, &[use_of_a, use_of_b])?;
+/// let whole = store.node(LET, &[a, seven, both])?;
+/// store.room(10)?;
+/// let end = run(&Table::of(&propagate)?, &mut store, &mut Bindings::new(), Entry::FIRST, whole, 1_000);
+/// assert_eq!(store.term(end.done()?).unwrap().to_string(), "1(10, 7, 3(7, 2(11)))");
+/// # Ok(())
+/// # }
+/// ```
+pub fn rule_within(
+    outer: impl IntoIterator<Item = Var>,
+    from: Pattern,
+    to: Pattern,
+    conditions: impl IntoIterator<Item = Condition>,
+) -> Strategy {
+    let outer: VarSet = outer.into_iter().collect();
+    let mut bound = outer.union(from.vars());
     let mut steps = vec![match_(from)];
     for condition in conditions {
         if let Some(var) = condition.from.vars().iter().find(|&v| !bound.contains(v)) {
@@ -123,8 +162,9 @@ pub fn rule_where(
         return Strategy::mistaken(BuildError::NothingBinds(var));
     }
     let last = build(to);
+    let own = bound.iter().filter(|&var| !outer.contains(var));
     scope(
-        bound.iter(),
+        own,
         steps
             .into_iter()
             .rev()

@@ -11,7 +11,7 @@ use crate::bindings::{Var, VarSet};
 use std::fmt;
 use std::sync::Arc;
 
-pub use crate::rules::{fails, gives, holds, rule, rule_where, Condition};
+pub use crate::rules::{fails, gives, holds, rule, rule_where, rule_within, Condition};
 pub use crate::traversals::{
     all_td, attempt, bottom_up, down_up, innermost, left_of, map, once_bu, once_td, outermost,
     repeat, seq_of, some_bu, some_td, top_down,

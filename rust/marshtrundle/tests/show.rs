@@ -1,11 +1,12 @@
 //! What is shown: terms, strategies and tables as text and as graphs, differences; files of names.
-mod terms;
-
 use marshtrundle::job::Job;
 use marshtrundle::show::{Names, Show};
 use marshtrundle::strategy::*;
 use marshtrundle::{Bindings, Entry, Node, Store, Table, TableBuilder, VARS};
-use terms::read;
+
+fn read(store: &mut Store, text: &str) -> Node {
+    Names::new().read_term(store, text).unwrap()
+}
 
 const PRUNER: &str = include_str!("../../../examples/pruner.job");
 const PRUNER_NAMES: &str = include_str!("../../../examples/pruner.names");
@@ -348,6 +349,46 @@ fn differences_have_their_places() {
         store.term(towers[1]).unwrap(),
     );
     assert_eq!(show.length(7).differences(one, other).len(), 7);
+}
+
+#[test]
+fn terms_are_read_and_written_back() {
+    let names = Names::read("constructor 5 PAIR\nconstructor 6 it's").unwrap();
+    let mut store = Store::new();
+    for text in ["7", "PAIR(7, 8)", "PAIR(PAIR(1, 2, it's), 3(4(9)))"] {
+        let node = names.read_term(&mut store, text).unwrap();
+        assert_eq!(Show::new(&names).term(store.term(node).unwrap()), text);
+    }
+    let node = names.read_term(&mut store, " PAIR (1,\n\t2 )\n");
+    assert_eq!(
+        node.unwrap_err().to_string(),
+        "line 1: '(' does not belong there"
+    );
+    let node = names.read_term(&mut store, " PAIR(1,\n\t2 )\n").unwrap();
+    assert_eq!(store.term(node).unwrap().to_string(), "5(1, 2)");
+    for (text, fault) in [
+        ("", "line 1: the term is not whole"),
+        ("PAIR(1", "line 1: the term is not whole"),
+        ("PAIR()", "line 1: ')' does not belong there"),
+        ("PAIR(1 2)", "line 1: '2' does not belong there"),
+        ("PAIR(1,, 2)", "line 1: ',' does not belong there"),
+        ("PAIR(1, )", "line 1: ')' does not belong there"),
+        ("PAIR(,1)", "line 1: ',' does not belong there"),
+        ("1\n2", "line 2: '2' does not belong there"),
+        ("1)", "line 1: ')' does not belong there"),
+        ("PAIR(1, ..)", "line 1: '..' names no constructor"),
+        ("65536", "line 1: '65536' names no constructor"),
+        (
+            "5(1, 2, 3, 4, 5, 6, 7)",
+            "line 1: 7 children; at most 6 are allowed",
+        ),
+    ] {
+        assert_eq!(
+            names.read_term(&mut store, text).unwrap_err().to_string(),
+            fault,
+            "{text}"
+        );
+    }
 }
 
 #[test]

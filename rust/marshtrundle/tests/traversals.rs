@@ -1,10 +1,14 @@
 //! Every traversal and every rule: where it succeeds, with what, and where it fails.
-mod terms;
-
 use marshtrundle::pipeline::Pipeline;
+use marshtrundle::show::Names;
 use marshtrundle::strategy::*;
-use marshtrundle::{run, Answer, Bindings, BuildError, Entry, Store, Table, Var, NODES, VARS};
-use terms::read;
+use marshtrundle::{
+    run, Answer, Bindings, BuildError, Entry, Node, Store, Table, Var, NODES, VARS,
+};
+
+fn read(store: &mut Store, text: &str) -> Node {
+    Names::new().read_term(store, text).unwrap()
+}
 
 const X: Var = VARS[0];
 const Y: Var = VARS[1];
