@@ -6,7 +6,7 @@
 //! outer one.
 use crate::answer::BuildError;
 use crate::bindings::{Var, VarSet};
-use crate::strategy::{build, match_, not, scope, seq, where_, Pattern, Strategy};
+use crate::strategy::{build, match_, not, scope, seq, test, where_, Pattern, Strategy};
 
 /// A condition of [`rule_where`]: [`holds`], [`fails`] or [`gives`].
 #[derive(Clone, Debug)]
@@ -23,7 +23,8 @@ enum Wanted {
     Match(Pattern),
 }
 
-/// The condition that `s` succeeds on the term of `from`. Bindings that `s` makes stay.
+/// The condition that `s` succeeds on the term of `from`. What `s` binds is gone again, and the room that it took is back: it is a TEST. To bind
+/// something use [`gives`].
 pub fn holds(from: Pattern, s: Strategy) -> Condition {
     Condition {
         from,
@@ -62,7 +63,7 @@ impl Condition {
     fn strategy(self) -> Strategy {
         let from = build(self.from);
         match self.wanted {
-            Wanted::Success => where_(seq(from, self.strategy)),
+            Wanted::Success => test(seq(from, self.strategy)),
             Wanted::Failure => not(seq(from, self.strategy)),
             Wanted::Match(outcome) => where_(seq(from, seq(self.strategy, match_(outcome)))),
         }

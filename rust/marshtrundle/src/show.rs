@@ -49,6 +49,7 @@ pub struct Show<'n> {
     names: &'n Names,
     depth: usize,
     length: usize,
+    is_sharing: bool,
 }
 
 /// What is still to be written, the next last.
@@ -64,6 +65,7 @@ impl<'n> Show<'n> {
             names,
             depth: 100,
             length: 1_000,
+            is_sharing: true,
         }
     }
 
@@ -85,9 +87,22 @@ impl<'n> Show<'n> {
         self.depth(usize::MAX).length(usize::MAX)
     }
 
+    /// A shared subterm is written out each time. [`Names::read_term`] reads what is then written in full.
+    #[must_use]
+    pub fn unshared(self) -> Show<'n> {
+        Show {
+            is_sharing: false,
+            ..self
+        }
+    }
+
     /// A term. A shared subterm with children is shown once.
     pub fn term(&self, term: Term<'_>) -> String {
-        let shared = self.shared_nodes(term);
+        let shared = if self.is_sharing {
+            self.shared_nodes(term)
+        } else {
+            HashSet::new()
+        };
         let mut defined = HashSet::new();
         let mut left = self.length;
         let mut text = String::new();

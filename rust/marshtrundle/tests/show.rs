@@ -359,6 +359,12 @@ fn terms_are_read_and_written_back() {
         let node = names.read_term(&mut store, text).unwrap();
         assert_eq!(Show::new(&names).term(store.term(node).unwrap()), text);
     }
+    let shared = names.read_term(&mut store, "PAIR(7, 8)").unwrap();
+    let twice = store.node(5, &[shared, shared]).unwrap();
+    let text = Show::new(&names)
+        .unshared()
+        .term(store.term(twice).unwrap());
+    assert_eq!(text, "PAIR(PAIR(7, 8), PAIR(7, 8))");
     let node = names.read_term(&mut store, " PAIR (1,\n\t2 )\n");
     assert_eq!(
         node.unwrap_err().to_string(),

@@ -235,6 +235,13 @@ fn conditions_that_hold_fail_and_give() {
     );
     gives_term(&s, "7(3(3(5(1))), 2)", "7(1, 2)");
     fails_on(&s, "7(3(3(1)), 2)");
+    // What a condition that only holds has bound is gone: Z can be bound to another term.
+    let binds = rule_where(
+        con(7, [var(X), var(Y)]),
+        con(7, [var(Y), var(Z)]),
+        [holds(var(X), match_(var(Z))), gives(var(Y), id(), var(Z))],
+    );
+    gives_term(&binds, "7(1, 2)", "7(2, 2)");
     // An outcome that names a bound variable compares.
     let s = rule_where(
         con(7, [var(X), var(Y)]),
