@@ -5,6 +5,14 @@
 # taken as it is.
 set -eu
 
+usage() {
+    echo "usage: tools/benchmark.sh [ROUNDS]" >&2
+    exit 2
+}
+[ "$#" -le 1 ] || usage
+case ${1-15} in
+'' | *[!0-9]*) usage ;;
+esac
 root=$(cd "$(dirname "$0")/.." && pwd -P)
 if [ -z "${MARSHTRUNDLE_ARCHIVE:-}" ]; then
     MARSHTRUNDLE_ARCHIVE=$root/target/native

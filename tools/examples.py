@@ -55,7 +55,7 @@ def main(words):
         print(__doc__.strip())
         return 0 if words else 2
     if words[0].startswith("-"):
-        print(__doc__.strip(), file=sys.stderr)
+        print("usage: tools/examples.py PROGRAM..\n" + __doc__.strip(), file=sys.stderr)
         return 2
     return compare(words)
 

@@ -3,7 +3,8 @@
 # On a processor that is not x86-64 the program runs under the kit's emulator.
 # Exit status: 0 the answer is 0 or 1; 3 it is another; 1 the program is not proved, or could not read or write; 2 bad usage.
 set -eu
-if [ "$#" -ne 1 ]; then
+if [ "$#" -ne 1 ] || [ "${1#-}" != "$1" ]; then
+    echo "usage: tools/job.sh FILE" >&2
     sed -n '2,4s/^# //p' "$0" >&2
     exit 2
 fi

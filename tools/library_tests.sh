@@ -174,7 +174,7 @@ MARSHTRUNDLE_RUNNER=$run "$rust/cargo" test || exit 1
 
 # What stands on the pages for people who write passes. A page's commands are those of the machine at hand.
 cd "$root"
-pages="docs/PASSES.md docs/REFERENCE.md $(echo examples/*.md examples/*/*.md)"
+pages="README.md docs/PASSES.md docs/REFERENCE.md $(echo examples/*.md examples/*/*.md)"
 # shellcheck disable=SC2086  # the pages are words
 if ! command -v python3 >/dev/null; then
     echo "library_tests: no python3, so the pages are left out"
@@ -182,5 +182,15 @@ elif [ "$machine" = x86_64 ]; then
     CARGO=$rust/cargo python3 tools/pages.py --programs "$built" $pages || exit 1
 else
     CARGO=$rust/cargo python3 tools/pages.py --no-commands $pages || exit 1
+fi
+
+# The tools: that each says how it is used, the proved job program on every example, and a new user's way.
+tools/usage_tests.sh || exit 1
+if command -v rt >/dev/null && [ -f target/bin/run_job ]; then
+    tools/job.sh examples/swap.job | cmp - examples/swap.answer || exit 1
+fi
+if [ "$machine" = x86_64 ]; then
+    [ ! -f target/bin/run_job ] || python3 tools/examples.py target/bin/run_job || exit 1
+    CARGO=$rust/cargo tools/new_user.sh || [ $? -eq 77 ] || exit 1
 fi
 echo "library_tests: all is right"

@@ -5,6 +5,12 @@
 # module with the kit's clang and the same flags for the machine at hand. It needs the crates proved, or proves them.
 set -eu
 
+case ${1-} in
+-*)
+    echo "usage: tools/native_archive.sh [FOLDER]" >&2
+    exit 2
+    ;;
+esac
 root=$(cd "$(dirname "$0")/.." && pwd -P)
 out=${1:-$root/target/native}
 mkdir -p "$out"

@@ -113,7 +113,7 @@ def main(words):
     commands = words[:1] != ["--no-commands"]
     words = words if commands else words[1:]
     if not words or words[0].startswith("-"):
-        print(__doc__.strip(), file=sys.stderr)
+        print("usage: tools/pages.py [--programs FOLDER | --no-commands] PAGE..\n" + __doc__.strip(), file=sys.stderr)
         return 2
     passed = failed = 0
     for word in words:
