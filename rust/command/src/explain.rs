@@ -6,6 +6,7 @@ use crate::html;
 use crate::options::Options;
 use crate::{in_words, ran, Said};
 use marshtrundle::job::Job;
+use marshtrundle::kind::{BUILD, CHOICE, CONG, LEFT, MATCH, NOT, ONE, PATH, PVAR, SOME, TEST};
 use marshtrundle::show::{Names, Show};
 use marshtrundle::{Answer, Entry, Node, Table, Term};
 use std::collections::BTreeMap;
@@ -17,17 +18,6 @@ const VISITS: usize = 10_000;
 const DEPTH: usize = 3;
 /// How far the lines of a text are moved in at most.
 const INSET: usize = 30;
-
-const NOT: u32 = 3;
-const CHOICE: u32 = 5;
-const LEFT: u32 = 6;
-const PATH: u32 = 9;
-const CONG: u32 = 10;
-const ONE: u32 = 12;
-const SOME: u32 = 13;
-const MATCH: u32 = 14;
-const BUILD: u32 = 15;
-const PVAR: u32 = 18;
 
 /// A visit that applied an entry, as it went.
 #[derive(Clone, Debug, Default)]
@@ -244,7 +234,7 @@ impl Watcher for Story<'_> {
                 strategy,
                 term: self.term(term, sight),
                 is_told: self.names.names_entry(entry)
-                    || matches!(self.kind(entry), MATCH | BUILD | NOT | 2),
+                    || matches!(self.kind(entry), MATCH | BUILD | NOT | TEST),
                 ..Visit::default()
             });
         }

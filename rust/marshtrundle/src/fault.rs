@@ -1,5 +1,5 @@
 //! What is wrong with a bad entry: which word, and what was expected there.
-use crate::strategy::{CALL, REC};
+use crate::kind::{BUILD, CALL, MATCH, PCON, REC};
 use std::fmt;
 
 /// What is wrong with an entry. Of several faults the first in this order is given, and each is looked for in the whole entry
@@ -128,7 +128,7 @@ fn span(low: u32, high: u32) -> String {
 fn takes(kind: u32) -> (std::ops::RangeInclusive<u32>, &'static str) {
     match kind {
         CALL => (REC..=REC, "a REC"),
-        14 | 15 | 19 => (18..=19, "a pattern"),
+        MATCH | BUILD | PCON => (18..=19, "a pattern"),
         _ => (0..=17, "a strategy"),
     }
 }

@@ -138,6 +138,7 @@ mod archive;
 mod bindings;
 mod fault;
 pub mod job;
+pub mod kind;
 mod names;
 mod outcome;
 pub mod pipeline;

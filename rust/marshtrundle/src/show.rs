@@ -34,14 +34,12 @@
 pub use crate::names::{Names, NamesFault};
 
 use crate::bindings::{Bindings, VarSet};
+use crate::kind;
 use crate::store::{Node, Store, Term};
-use crate::strategy::KIND_NAMES;
 use crate::table::{Entry, Table};
 use std::collections::{HashMap, HashSet};
 use std::fmt;
 use std::fmt::Write;
-
-const CALL: u32 = 8;
 
 /// How to show: by which names, how deep, how long.
 #[derive(Clone, Copy, Debug)]
@@ -203,7 +201,7 @@ impl<'n> Show<'n> {
         let uses = Uses::of(table);
         let mut text = String::new();
         for (entry, row) in (0_u32..).zip(table.words().chunks_exact(8)) {
-            let kind = KIND_NAMES.get(row[0] as usize / 16).unwrap_or(&"?");
+            let kind = kind::name(row[0] / 16);
             let operands: Vec<String> = operands(row).iter().map(u32::to_string).collect();
             let _ = writeln!(
                 text,
@@ -266,12 +264,14 @@ impl<'n> Show<'n> {
                 open.push(Piece::Text(before));
             };
             match kind {
-                0 => text.push_str("id"),
-                1 => text.push_str("fail"),
-                2 => one(&mut open, "test(".to_owned(), ")"),
-                3 => one(&mut open, "not(".to_owned(), ")"),
-                4..=6 if list.len() == 2 && list.iter().all(|&operand| operand > entry) => {
-                    let sign = [" ; ", " + ", " <+ "][kind as usize - 4];
+                kind::ID => text.push_str("id"),
+                kind::FAIL => text.push_str("fail"),
+                kind::TEST => one(&mut open, "test(".to_owned(), ")"),
+                kind::NOT => one(&mut open, "not(".to_owned(), ")"),
+                kind::SEQ..=kind::LEFT
+                    if list.len() == 2 && list.iter().all(|&operand| operand > entry) =>
+                {
+                    let sign = [" ; ", " + ", " <+ "][(kind - kind::SEQ) as usize];
                     // `s ; t ; u` is `s ; (t ; u)`, and the same for the choices.
                     let bare = inside.is_none() || (inside == Some(kind) && !first);
                     open.push(Piece::Text(if bare { "" } else { ")" }.to_owned()));
@@ -280,18 +280,18 @@ impl<'n> Show<'n> {
                     open.push(Piece::Thing((list[0], Some(kind), true), level + 1));
                     open.push(Piece::Text(if bare { "" } else { "(" }.to_owned()));
                 }
-                7 => one(&mut open, format!("rec {}(", self.names.entry(entry)), ")"),
-                CALL => text.push_str(&self.names.entry(list.first().copied().unwrap_or(0))),
-                9 => one(&mut open, format!("{}(", row[1]), ")"),
-                11 => one(&mut open, "all(".to_owned(), ")"),
-                12 => one(&mut open, "one(".to_owned(), ")"),
-                13 => one(&mut open, "some(".to_owned(), ")"),
-                14 => one(&mut open, "?".to_owned(), ""),
-                15 => one(&mut open, "!".to_owned(), ""),
-                16 => one(&mut open, format!("{{{}: ", self.variables(row[1])), "}"),
-                17 => one(&mut open, "where(".to_owned(), ")"),
-                18 => text.push_str(&self.names.variable(row[1])),
-                10 | 19 => {
+                kind::REC => one(&mut open, format!("rec {}(", self.names.entry(entry)), ")"),
+                kind::CALL => text.push_str(&self.names.entry(list.first().copied().unwrap_or(0))),
+                kind::PATH => one(&mut open, format!("{}(", row[1]), ")"),
+                kind::ALL => one(&mut open, "all(".to_owned(), ")"),
+                kind::ONE => one(&mut open, "one(".to_owned(), ")"),
+                kind::SOME => one(&mut open, "some(".to_owned(), ")"),
+                kind::MATCH => one(&mut open, "?".to_owned(), ""),
+                kind::BUILD => one(&mut open, "!".to_owned(), ""),
+                kind::SCOPE => one(&mut open, format!("{{{}: ", self.variables(row[1])), "}"),
+                kind::WHERE => one(&mut open, "where(".to_owned(), ")"),
+                kind::PVAR => text.push_str(&self.names.variable(row[1])),
+                kind::CONG | kind::PCON => {
                     text.push_str(&self.names.constructor(row[1]));
                     if !list.is_empty() {
                         open.push(Piece::Text(")".to_owned()));
@@ -349,19 +349,23 @@ impl<'n> Show<'n> {
                 let _ = write!(label, "{} ", self.names.entry(entry));
             }
             let _ = match kind {
-                9 => write!(label, "PATH {}", row[1]),
-                10 | 19 => write!(
+                kind::PATH => write!(label, "PATH {}", row[1]),
+                kind::CONG | kind::PCON => write!(
                     label,
                     "{} {}",
-                    KIND_NAMES[kind as usize],
+                    kind::name(kind),
                     self.names.constructor(row[1])
                 ),
-                16 => write!(label, "SCOPE {}", self.variables(row[1])),
-                18 => write!(label, "PVAR {}", self.names.variable(row[1])),
-                _ => write!(label, "{}", KIND_NAMES.get(kind as usize).unwrap_or(&"?")),
+                kind::SCOPE => write!(label, "SCOPE {}", self.variables(row[1])),
+                kind::PVAR => write!(label, "PVAR {}", self.names.variable(row[1])),
+                _ => write!(label, "{}", kind::name(kind)),
             };
             graph.vertex(entry, &label);
-            let style = if kind == CALL { "dashed" } else { "solid" };
+            let style = if kind == kind::CALL {
+                "dashed"
+            } else {
+                "solid"
+            };
             for (position, &operand) in (1..).zip(operands(row)) {
                 graph.arrow(entry, operand, position, style);
             }
@@ -476,7 +480,7 @@ impl Uses {
         };
         for row in table.words().chunks_exact(8) {
             uses.kinds.push(row[0] / 16);
-            if row[0] / 16 != CALL {
+            if row[0] / 16 != kind::CALL {
                 for &operand in operands(row) {
                     if let Some(count) = uses.of.get_mut(operand as usize) {
                         *count += 1;
@@ -490,14 +494,23 @@ impl Uses {
     fn is_strategy(&self, entry: u32) -> bool {
         self.kinds
             .get(entry as usize)
-            .map_or(false, |&kind| kind < 18)
+            .map_or(false, |&kind| kind < kind::PVAR)
     }
 
     /// Whether an entry has strategies for operands, so that it is worth a name.
     fn is_large(&self, entry: u32) -> bool {
         let kind = self.kinds.get(entry as usize);
         kind.map_or(false, |&kind| {
-            !matches!(kind, 0 | 1 | CALL | 14 | 15 | 18 | 19)
+            !matches!(
+                kind,
+                kind::ID
+                    | kind::FAIL
+                    | kind::CALL
+                    | kind::MATCH
+                    | kind::BUILD
+                    | kind::PVAR
+                    | kind::PCON
+            )
         })
     }
 }

@@ -8,6 +8,7 @@
 //! [`innermost`] and the like). Each says what makes it fail.
 use crate::answer::BuildError;
 use crate::bindings::{Var, VarSet};
+use crate::kind;
 use std::fmt;
 use std::sync::Arc;
 
@@ -16,17 +17,6 @@ pub use crate::traversals::{
     all_td, attempt, bottom_up, down_up, innermost, left_of, map, once_bu, once_td, outermost,
     repeat, seq_of, some_bu, some_td, top_down,
 };
-
-pub(crate) const REC: u32 = 7;
-pub(crate) const CALL: u32 = 8;
-pub(crate) const CONG: u32 = 10;
-pub(crate) const PCON: u32 = 19;
-
-/// The names of the kinds.
-pub(crate) const KIND_NAMES: [&str; 20] = [
-    "ID", "FAIL", "TEST", "NOT", "SEQ", "CHOICE", "LEFT", "REC", "CALL", "PATH", "CONG", "ALL",
-    "ONE", "SOME", "MATCH", "BUILD", "SCOPE", "WHERE", "PVAR", "PCON",
-];
 
 /// What ties a call to its REC: a token that the two share, or a name.
 #[derive(Clone)]
@@ -89,7 +79,7 @@ impl Strategy {
     /// What stands where a strategy could not be made. A table builder gives the mistake back.
     pub(crate) fn mistaken(mistake: BuildError) -> Strategy {
         Strategy(Arc::new(Tree {
-            kind: 1,
+            kind: kind::FAIL,
             argument: 0,
             operands: vec![],
             tie: None,
@@ -117,68 +107,68 @@ impl Pattern {
 
 impl fmt::Debug for Strategy {
     fn fmt(&self, f: &mut fmt::Formatter<'_>) -> fmt::Result {
-        write!(f, "Strategy({})", KIND_NAMES[self.0.kind as usize % 20])
+        write!(f, "Strategy({})", kind::name(self.0.kind))
     }
 }
 
 impl fmt::Debug for Pattern {
     fn fmt(&self, f: &mut fmt::Formatter<'_>) -> fmt::Result {
-        write!(f, "Pattern({})", KIND_NAMES[self.tree.kind as usize % 20])
+        write!(f, "Pattern({})", kind::name(self.tree.kind))
     }
 }
 
 /// ID: gives the term back.
 pub fn id() -> Strategy {
-    Strategy::new(0, 0, vec![])
+    Strategy::new(kind::ID, 0, vec![])
 }
 
 /// FAIL: fails.
 pub fn fail() -> Strategy {
-    Strategy::new(1, 0, vec![])
+    Strategy::new(kind::FAIL, 0, vec![])
 }
 
 /// TEST: succeeds when `s` does, and gives back term and bindings as they were.
 pub fn test(s: Strategy) -> Strategy {
-    Strategy::of(2, s)
+    Strategy::of(kind::TEST, s)
 }
 
 /// NOT: succeeds when `s` fails, with term and bindings as they were.
 pub fn not(s: Strategy) -> Strategy {
-    Strategy::of(3, s)
+    Strategy::of(kind::NOT, s)
 }
 
 /// SEQ: `first`, then `second` on what it gives.
 pub fn seq(first: Strategy, second: Strategy) -> Strategy {
-    Strategy::of_two(4, first, second)
+    Strategy::of_two(kind::SEQ, first, second)
 }
 
 /// CHOICE: `first`, and where it fails `second` on the term and the bindings of the beginning.
 pub fn choice(first: Strategy, second: Strategy) -> Strategy {
-    Strategy::of_two(5, first, second)
+    Strategy::of_two(kind::CHOICE, first, second)
 }
 
 /// LEFT: as [`choice`]. System S leaves the order of a choice open and fixes that of a left choice; here both are fixed.
 pub fn left(first: Strategy, second: Strategy) -> Strategy {
-    Strategy::of_two(6, first, second)
+    Strategy::of_two(kind::LEFT, first, second)
 }
 
 /// REC: runs its body. The body gets the call of the whole: `rec(|again| left(seq(s, again), id()))`.
 pub fn rec(body: impl FnOnce(Strategy) -> Strategy) -> Strategy {
     let token = Arc::new(());
-    let again = Strategy::tied(CALL, vec![], Tie::Token(Arc::clone(&token)));
-    Strategy::tied(REC, vec![body(again).0], Tie::Token(token))
+    let again = Strategy::tied(kind::CALL, vec![], Tie::Token(Arc::clone(&token)));
+    Strategy::tied(kind::REC, vec![body(again).0], Tie::Token(token))
 }
 
 /// CALL: runs the strategy that [`TableBuilder::define`](crate::TableBuilder::define) gave this name.
 pub fn call(name: &str) -> Strategy {
-    Strategy::tied(CALL, vec![], Tie::Name(Arc::from(name)))
+    Strategy::tied(kind::CALL, vec![], Tie::Name(Arc::from(name)))
 }
 
 /// PATH: runs `s` on the child at a position from 1 to 6, and fails where the term has no such child.
 pub fn path(position: u32, s: Strategy) -> Strategy {
     let mistake = (!(1..=6).contains(&position)).then_some(BuildError::NoSuchPosition(position));
     Strategy(Arc::new(Tree {
-        kind: 9,
+        kind: kind::PATH,
         argument: position,
         operands: vec![s.0],
         tie: None,
@@ -189,7 +179,7 @@ pub fn path(position: u32, s: Strategy) -> Strategy {
 /// CONG: fails unless constructor and count agree, and then runs each operand on its child.
 pub fn cong(constructor: u16, operands: impl IntoIterator<Item = Strategy>) -> Strategy {
     Strategy(many(
-        10,
+        kind::CONG,
         constructor,
         operands.into_iter().map(|s| s.0).collect(),
     ))
@@ -197,45 +187,45 @@ pub fn cong(constructor: u16, operands: impl IntoIterator<Item = Strategy>) -> S
 
 /// ALL: runs `s` on every child, and needs every one to succeed.
 pub fn all(s: Strategy) -> Strategy {
-    Strategy::of(11, s)
+    Strategy::of(kind::ALL, s)
 }
 
 /// ONE: runs `s` on the leftmost child where it succeeds.
 pub fn one(s: Strategy) -> Strategy {
-    Strategy::of(12, s)
+    Strategy::of(kind::ONE, s)
 }
 
 /// SOME: runs `s` on every child, keeps a child where it fails, and needs at least one success.
 pub fn some(s: Strategy) -> Strategy {
-    Strategy::of(13, s)
+    Strategy::of(kind::SOME, s)
 }
 
 /// MATCH: compares the term with the pattern, and binds the variables that are not bound yet.
 pub fn match_(pattern: Pattern) -> Strategy {
-    Strategy::new(14, 0, vec![pattern.tree])
+    Strategy::new(kind::MATCH, 0, vec![pattern.tree])
 }
 
 /// BUILD: makes the pattern's term from the bindings. An unbound variable ends the run with
 /// [`Answer::Unbound`](crate::Answer::Unbound): no strategy around it catches that.
 pub fn build(pattern: Pattern) -> Strategy {
-    Strategy::new(15, 0, vec![pattern.tree])
+    Strategy::new(kind::BUILD, 0, vec![pattern.tree])
 }
 
 /// SCOPE: unbinds the variables, runs `s`, and puts their outer bindings back.
 pub fn scope(vars: impl IntoIterator<Item = Var>, s: Strategy) -> Strategy {
     let vars: VarSet = vars.into_iter().collect();
-    Strategy::new(16, vars.mask(), vec![s.0])
+    Strategy::new(kind::SCOPE, vars.mask(), vec![s.0])
 }
 
 /// WHERE: runs `s`, puts the term back and keeps the new bindings.
 pub fn where_(s: Strategy) -> Strategy {
-    Strategy::of(17, s)
+    Strategy::of(kind::WHERE, s)
 }
 
 /// PVAR: the pattern that is a variable.
 pub fn var(var: Var) -> Pattern {
     Pattern {
-        tree: Strategy::new(18, var.number(), vec![]).0,
+        tree: Strategy::new(kind::PVAR, var.number(), vec![]).0,
         vars: [var].into_iter().collect(),
     }
 }
@@ -249,7 +239,7 @@ pub fn con(constructor: u16, operands: impl IntoIterator<Item = Pattern>) -> Pat
         trees.push(pattern.tree);
     }
     Pattern {
-        tree: many(19, constructor, trees),
+        tree: many(kind::PCON, constructor, trees),
         vars,
     }
 }

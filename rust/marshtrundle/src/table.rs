@@ -2,8 +2,9 @@
 use crate::answer::{Answer, BuildError};
 use crate::archive;
 use crate::fault::{self, EntryFault};
+use crate::kind::{CALL, CONG, PCON, REC};
 use crate::signature::Signature;
-use crate::strategy::{Strategy, Tie, Tree, CALL, CONG, PCON, REC};
+use crate::strategy::{Strategy, Tie, Tree};
 use crate::ENTRIES;
 use std::collections::{BTreeMap, HashMap, VecDeque};
 use std::sync::Arc;
