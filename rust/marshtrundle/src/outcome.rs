@@ -32,9 +32,17 @@ impl Outcome {
 
     /// The new subject where the run is done, nothing where it failed, and any other answer as an error.
     pub fn found(self) -> Result<Option<Node>, Answer> {
-        if self.answer.is_refusal() || self.answer.is_cut_off() {
-            return Err(self.answer);
+        if self.answer.is_done_or_failed() {
+            Ok(self.done().ok())
+        } else {
+            Err(self.answer)
         }
-        Ok(self.done().ok())
+    }
+}
+
+impl Answer {
+    /// True for answers 0 and 1: the strategy came to its end.
+    pub fn is_done_or_failed(self) -> bool {
+        self.number() <= 1
     }
 }

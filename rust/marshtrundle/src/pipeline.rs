@@ -1,7 +1,7 @@
 //! Named passes, one after the other, with a report.
 //!
 //! Each pass runs on what the one before left. A pass that fails found nothing to do: the term is as it was, and the next pass
-//! runs. A pass that is refused or cut off ends the pipeline. After each pass that is done, what nothing reaches any more is
+//! runs. A pass with any other answer ends the pipeline: it was refused or cut off. After each pass that is done, what nothing reaches any more is
 //! collected.
 //!
 //! ```
@@ -110,7 +110,7 @@ impl Pipeline {
                 mark: store.mark(),
                 time: began.elapsed(),
             });
-            if answer.is_refusal() || answer.is_cut_off() {
+            if !answer.is_done_or_failed() {
                 break;
             }
         }
@@ -124,7 +124,7 @@ impl Pipeline {
 pub struct Report {
     /// The subject after the last pass that was done.
     pub subject: Node,
-    /// The passes that ran. One that was refused or cut off is the last.
+    /// The passes that ran. One that ended the pipeline is the last.
     pub passes: Vec<PassReport>,
 }
 
@@ -168,7 +168,7 @@ impl Report {
     /// The subject that the last pass left, and the pass that ended the pipeline otherwise.
     pub fn end(&self) -> Result<Node, Stopped> {
         match self.passes.last() {
-            Some(last) if last.answer.is_refusal() || last.answer.is_cut_off() => Err(Stopped {
+            Some(last) if !last.answer.is_done_or_failed() => Err(Stopped {
                 pass: last.name.clone(),
                 answer: last.answer,
             }),
