@@ -1,13 +1,14 @@
 #!/usr/bin/env python3
-"""Runs what stands on the pages: every block of Rust and every block of commands.
+"""Runs what stands on the pages: every block of Rust, of C and of commands.
 
 pages.py [--programs FOLDER | --no-commands] PAGE...
     one line for each block, 'N passed, M failed' last; exit status 1 where one fails
 
-The blocks marked ```rust of a page, one after the other, are one program, run from the repository's root. A block marked
-```console has commands after '$ ', run from the repository's root by sh, and what they print: both outputs, line by line. A line
-'..' there stands for any number of lines, and '[exit status N]' is the last line where a command ends with another status than 0.
-FOLDER is put before PATH. With --no-commands the blocks of commands are left out. The programs need cargo and the archive, as tools/library_tests.sh says.
+The blocks marked ```rust of a page, one after the other, are one program, run from the repository's root. A block marked ```c is a
+program by itself. Each must end with status 0. A block marked ```console has commands after '$ ', run from the repository's root by sh,
+and what they print: both outputs, line by line. A line '..' there stands for any number of lines, and '[exit status N]' is the last line
+where a command ends with another status than 0. FOLDER is put before PATH. With --no-commands the blocks of commands and of C are left
+out. The programs need cargo, a C compiler and the archive, as tools/library_tests.sh says.
 """
 import os
 import pathlib
@@ -71,6 +72,20 @@ def program(page, text):
     return None if ran.returncode == 0 else ran.stdout.decode("utf-8", "replace")
 
 
+def c_program(lines):
+    """Compiles and runs a block of C over the archive. What is wrong, or nothing."""
+    folder = ROOT / "target" / "pages"
+    folder.mkdir(parents=True, exist_ok=True)
+    (folder / "block.c").write_text("\n".join(lines) + "\n")
+    archive = pathlib.Path(os.environ.get("MARSHTRUNDLE_LIB", ROOT / "target/staticlib")) / "libmarshtrundle.a"
+    compiler = [os.environ.get("CC", "cc"), "-std=c99", "-pedantic", "-Wall", "-Wextra", "-Werror", "-I", ROOT / "include"]
+    for command in (compiler + [folder / "block.c", archive, "-o", folder / "block"], [folder / "block"]):
+        ran = subprocess.run(command, cwd=ROOT, stdout=subprocess.PIPE, stderr=subprocess.STDOUT, timeout=SECONDS)
+        if ran.returncode:
+            return ran.stdout.decode("utf-8", "replace") + f"[exit status {ran.returncode}]"
+    return None
+
+
 def matches(wanted, found):
     """Whether lines are as wanted, where '..' stands for any number of lines."""
     if not wanted:
@@ -121,6 +136,8 @@ def main(words):
         text = page.read_text(encoding="utf-8")
         sessions = blocks(text, "console") if commands else []
         results = [(f"{word}, line {first}", console(lines)) for first, lines in sessions]
+        if commands:
+            results += [(f"{word}, line {first}", c_program(lines)) for first, lines in blocks(text, "c")]
         if blocks(text, "rust"):
             results.insert(0, (f"{word}, its program", program(page, text)))
         for what, wrong in results:
