@@ -148,6 +148,10 @@ version=$(sed -n 's/^version = "\(.*\)\.\(.*\)\.\(.*\)"$/10000*\1+100*\2+\3/p' "
 # shellcheck disable=SC2086
 "$cc" -std=c99 -pedantic -O2 -Wall -Wextra -Werror -DVERSION="$version" $c_flags "$root/c/build_test.c" $words -o "$work/build_test" || exit 1
 $run "$work/build_test" || exit 1
+# Both headers are C++ too.
+if [ "$machine" = x86_64 ] && command -v c++ >/dev/null; then
+    c++ -x c++ -std=c++11 -Wall -Wextra -Werror -DVERSION="$version" -I"$root/include" -fsyntax-only "$root/c/build_test.c" || exit 1
+fi
 
 cd "$crate"
 if [ "$machine" = x86_64 ]; then
