@@ -1,8 +1,10 @@
 #!/usr/bin/env python3
-"""layers.py: draws the crates of crates.txt in layers, each above what it stands on, and writes docs/layers.svg.
+"""layers.py: draws layers, each thing above what it stands on: the proved crates of crates.txt in docs/layers.svg, and what is used over the
+archive in docs/use.svg.
 
-What a crate is comes from the list in README.md. A line goes to each crate that it stands on and that no other of those stands on.
-layers.py --check: writes nothing, and ends with 1 where the drawing is not that of crates.txt and README.md.
+What a crate is comes from the list in README.md, and so does all of the second drawing. A line goes to each thing that a thing stands on and that no
+other of those stands on.
+layers.py --check: writes nothing, and ends with 1 where a drawing is not that of crates.txt and README.md.
 """
 import html
 import pathlib
@@ -11,6 +13,7 @@ import sys
 import textwrap
 
 ROOT = pathlib.Path(__file__).resolve().parent.parent
+README = (ROOT / "README.md").read_text()
 WIDE, HIGH, ACROSS, BETWEEN, EDGE = 250, 74, 30, 46, 20
 STYLE = """<style>
 rect { fill: #f6f3ea; stroke: #6b5f45; rx: 6 }
@@ -34,9 +37,25 @@ def layer(of, name):
     return 1 + max((layer(of, d) for d in of[name]), default=-1)
 
 
-def drawing():
-    of = crates()
-    said = dict(re.findall(r"^\| (?:\[)?(\w+)(?:\]\([^)]*\))? \| (.*) \|$", (ROOT / "README.md").read_text(), re.M))
+def in_use():
+    """What README.md lists over the archive: each thing with those that it stands on, and what each is."""
+    rows = re.findall(r"^\| ([\w ]+) \| (.*) \| ([\w ,]*) ?\|$", part(README, "## Over the archive"), re.M)
+    of = {name: [d for d in under.strip().split(", ") if d] for name, _, under in rows if name != "what"}
+    return of, {name: said for name, said, _ in rows}
+
+
+def part(text, head):
+    """A chapter of a page."""
+    return text[text.index(head):].split("\n## ")[0]
+
+
+def proved():
+    """The crates, and what README.md says that each is."""
+    said = re.findall(r"^\| (?:\[)?(\w+)(?:\]\([^)]*\))? \| (.*) \|$", part(README, "## The crates, in the order"), re.M)
+    return crates(), dict(said)
+
+
+def drawing(of, said):
     rows = {}
     for name in of:
         rows.setdefault(layer(of, name), []).append(name)
@@ -71,14 +90,15 @@ def main(words):
     if words not in ([], ["--check"]):
         print("usage: tools/layers.py [--check]\n" + __doc__.strip(), file=sys.stderr)
         return 2
-    path = ROOT / "docs/layers.svg"
-    if not words:
-        path.write_text(drawing())
-        return 0
-    if path.exists() and path.read_text() == drawing():
-        return 0
-    print("docs/layers.svg is not the drawing of crates.txt and README.md: tools/layers.py writes it")
-    return 1
+    differ = 0
+    for name, what in (("docs/layers.svg", proved()), ("docs/use.svg", in_use())):
+        path, drawn = ROOT / name, drawing(*what)
+        if not words:
+            path.write_text(drawn)
+        elif not path.exists() or path.read_text() != drawn:
+            print(f"{name} is not the drawing of crates.txt and README.md: tools/layers.py writes it")
+            differ = 1
+    return differ
 
 
 if __name__ == "__main__":
