@@ -81,15 +81,6 @@
 extern "C" {
 #endif
 
-/* The version: 10,000 * major + 100 * minor + patch, as of the Rust crate. */
-#define MT_VERSION 100
-
-/* The version that a program was compiled with. */
-static inline uint32_t mt_version(void)
-{
-    return MT_VERSION;
-}
-
 /* The most nodes of a store, entries of a table, levels of nesting; the words of the bindings; the stack for mt_run. */
 #define MT_NODES 131072
 #define MT_ENTRIES 4096
@@ -103,6 +94,15 @@ static inline uint32_t mt_version(void)
 
 /* Word 0 of an entry. */
 #define MT_ENTRY(kind, operands) (16u * (uint32_t)(kind) + (uint32_t)(operands))
+
+/* The version: 10,000 * major + 100 * minor + patch, as of the Rust crate. */
+#define MT_VERSION 100
+
+/* The version that a program was compiled with. */
+static inline uint32_t mt_version(void)
+{
+    return MT_VERSION;
+}
 
 enum mt_kind {
     MT_ID = 0,

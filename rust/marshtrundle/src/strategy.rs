@@ -18,6 +18,8 @@ pub use crate::traversals::{
     repeat, seq_of, some_bu, some_td, top_down,
 };
 
+pub(crate) use crate::kind::{CALL, CONG, PCON, REC};
+
 /// What ties a call to its REC: a token that the two share, or a name.
 #[derive(Clone)]
 pub(crate) enum Tie {
@@ -155,13 +157,13 @@ pub fn left(first: Strategy, second: Strategy) -> Strategy {
 /// REC: runs its body. The body gets the call of the whole: `rec(|again| left(seq(s, again), id()))`.
 pub fn rec(body: impl FnOnce(Strategy) -> Strategy) -> Strategy {
     let token = Arc::new(());
-    let again = Strategy::tied(kind::CALL, vec![], Tie::Token(Arc::clone(&token)));
-    Strategy::tied(kind::REC, vec![body(again).0], Tie::Token(token))
+    let again = Strategy::tied(CALL, vec![], Tie::Token(Arc::clone(&token)));
+    Strategy::tied(REC, vec![body(again).0], Tie::Token(token))
 }
 
 /// CALL: runs the strategy that [`TableBuilder::define`](crate::TableBuilder::define) gave this name.
 pub fn call(name: &str) -> Strategy {
-    Strategy::tied(kind::CALL, vec![], Tie::Name(Arc::from(name)))
+    Strategy::tied(CALL, vec![], Tie::Name(Arc::from(name)))
 }
 
 /// PATH: runs `s` on the child at a position from 1 to 6, and fails where the term has no such child.
@@ -179,7 +181,7 @@ pub fn path(position: u32, s: Strategy) -> Strategy {
 /// CONG: fails unless constructor and count agree, and then runs each operand on its child.
 pub fn cong(constructor: u16, operands: impl IntoIterator<Item = Strategy>) -> Strategy {
     Strategy(many(
-        kind::CONG,
+        CONG,
         constructor,
         operands.into_iter().map(|s| s.0).collect(),
     ))
@@ -239,7 +241,7 @@ pub fn con(constructor: u16, operands: impl IntoIterator<Item = Pattern>) -> Pat
         trees.push(pattern.tree);
     }
     Pattern {
-        tree: many(kind::PCON, constructor, trees),
+        tree: many(PCON, constructor, trees),
         vars,
     }
 }

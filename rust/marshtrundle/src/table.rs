@@ -2,9 +2,8 @@
 use crate::answer::{Answer, BuildError};
 use crate::archive;
 use crate::fault::{self, EntryFault};
-use crate::kind::{CALL, CONG, PCON, REC};
 use crate::signature::Signature;
-use crate::strategy::{Strategy, Tie, Tree};
+use crate::strategy::{Strategy, Tie, Tree, CALL, CONG, PCON, REC};
 use crate::ENTRIES;
 use std::collections::{BTreeMap, HashMap, VecDeque};
 use std::sync::Arc;
