@@ -188,13 +188,15 @@ else
     CARGO=$rust/cargo python3 tools/pages.py --no-commands $pages || exit 1
 fi
 
-# The tools: that each says how it is used, the proved job program on every example, and a new user's way.
-tools/usage_tests.sh || exit 1
+# The tools: that each says how it is used, both job programs on every example, and a new user's way.
 if command -v rt >/dev/null && [ -f target/bin/run_job ]; then
     tools/job.sh examples/swap.job | cmp - examples/swap.answer || exit 1
 fi
-if [ "$machine" = x86_64 ]; then
-    [ ! -f target/bin/run_job ] || python3 tools/examples.py target/bin/run_job || exit 1
+if command -v python3 >/dev/null && [ "$machine" = x86_64 ]; then
+    tools/usage_tests.sh || exit 1
+    [ ! -f target/bin/run_job ] || tools/examples.py target/bin/run_job || exit 1
+    "$rust/cargo" build --quiet --offline --manifest-path rust/twin/Cargo.toml --bin twin || exit 1
+    tools/examples.py "$built/twin" job || exit 1
     CARGO=$rust/cargo tools/new_user.sh || [ $? -eq 77 ] || exit 1
 fi
 echo "library_tests: all is right"
