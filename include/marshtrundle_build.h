@@ -388,6 +388,9 @@ static inline const char *mt_answer_text(uint32_t answer)
     case MT_OUT_OF_UNITS: return "all units are used";
     case MT_OUT_OF_ROOM: return "the store has no room";
     case MT_TOO_DEEP: return "a visit is nested too deep";
+    case MT_DISOBEYING_ENTRY: return "an entry's constructor is not declared with its number of operands";
+    case MT_DISOBEYING_NODE: return "a node's constructor is not declared with its number of children";
+    case MT_UNBOUND: return "a variable is built that has no binding";
     case MT_BAD_KIND: return "an entry is bad: unknown kind or wrong number of operands";
     case MT_BAD_ARGUMENT: return "an entry is bad: argument out of range";
     case MT_BAD_OPERAND: return "an entry is bad: operand outside its allowed numbers";
