@@ -70,6 +70,7 @@ static void fresh(void)
 static void the_job(void)
 {
     static const uint32_t zeros[32];
+    static const uint32_t fails[8] = {16 * MT_FAIL};
     fresh();
     mt_run(table, 64, store, 32, bindings, 32, 3, 0, 2, 10, numbers);
     hold(is(numbers, MT_DONE, 0, 3, 4, 10), "S1: the numbers");
@@ -90,6 +91,12 @@ static void the_job(void)
     hold(is(numbers, MT_UNBOUND, 1, 2, 3, 3), "12: the numbers");
     hold(same(store, given, 24) && same(store + 24, zeros, 8), "12: the store");
     hold(bindings[0] == 1 && same(bindings + 1, zeros, 31), "12: the bindings");
+    /* The constant 1 is no pair: the match gives up at its pattern, entry 4. FAIL alone has no match. */
+    fresh();
+    mt_run(table, 64, store, 32, bindings, 32, 3, 0, 0, 10, numbers);
+    hold(is(numbers, MT_FAILED, 4, 0, 3, 4), "1: the place is the pattern that differs");
+    mt_run(fails, 8, store, 32, bindings, 32, 3, 0, 0, 10, numbers);
+    hold(is(numbers, MT_FAILED, 4096, 0, 3, 1), "1: 4096 where no match failed");
     mt_check_table(table, 64, numbers);
     hold(numbers[0] == MT_DONE && numbers[1] == 0, "the table check");
     mt_check_store(given, 32, 3, numbers);

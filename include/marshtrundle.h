@@ -135,7 +135,9 @@ enum mt_kind {
  */
 enum mt_answer {
     MT_DONE = 0,         /* new subject, mark and bindings */
-    MT_FAILED = 1,       /* the strategy failed */
+    MT_FAILED = 1,       /* the strategy failed; the place is the pattern's entry at which the last match in the run gave up, caught or
+                            not: the MT_PCON that differed, or the MT_PVAR that was bound to another term; 4,096 where no match
+                            failed */
     MT_BAD_SIZES = 2,    /* the table is empty, over 32,768 words or no multiple of 8; the store is over 1,048,576 words or
                             no multiple of 8; the bindings are not 32 words; the mark exceeds the store's nodes; the
                             signature is over 65,536 words or has a word above 7 */
@@ -164,7 +166,8 @@ enum mt_answer {
 /* Where each number stands in `numbers`. */
 enum mt_number {
     MT_ANSWER = 0,  /* one of enum mt_answer */
-    MT_PLACE = 1,   /* the bad entry in answers 10 and 13 to 17, the bad node in 4 and 11, the variable in 12, and 0 otherwise */
+    MT_PLACE = 1,   /* the pattern's entry in answer 1, the bad entry in 10 and 13 to 17, the bad node in 4 and 11, the variable in 12,
+                       and 0 otherwise */
     MT_SUBJECT = 2, /* mt_run, mt_collect: the new subject in answer 0, and the given one otherwise */
     MT_MARK = 3,    /* mt_run, mt_collect: the new mark in answer 0, and the given one otherwise */
     MT_UNITS = 4,   /* mt_run: the visits counted; 0 where nothing was run */

@@ -1,4 +1,6 @@
-"""The cases of the job program. 01's job and S1 to S12 are held to what 01 prints, S12 to 02's, and each bad text to its line."""
+"""The cases of the job program. 01's job and S1 to S12 are held to what 01 prints, S12 and the place of a failed run to
+02's, and each bad text to its line.
+"""
 import random
 
 from lend import add
@@ -55,12 +57,12 @@ def small_runs():
     for table, five, left, more in (
             (FLIP, [0, 0, 3, 4, 10], KEPT + b"n\t5\t1\t0\n", dict(units=10, room=4)),
             (FLIP, [6, 0, 2, 3, 9], KEPT, dict(units=9, room=4)), (FLIP, [7, 0, 2, 3, 10], KEPT, dict(room=3)),
-            ([entry(MATCH, 0, 1), entry(PCON, 5, 2, 2), X], [1, 0, 2, 3, 5], KEPT, {}),
+            ([entry(MATCH, 0, 1), entry(PCON, 5, 2, 2), X], [1, 2, 2, 3, 5], KEPT, {}),
             ([entry(LEFT, 0, 1, 4), entry(SEQ, 0, 2, 3), entry(MATCH, 0, 5), NO, YES, X], [0, 0, 2, 3, 6], KEPT, {}),
             ([entry(ALL, 0, 1), NO], [0, 0, 0, 3, 1], KEPT, dict(subject=0)),
-            ([entry(ONE, 0, 1), YES], [1, 0, 0, 3, 1], KEPT, dict(subject=0)),
+            ([entry(ONE, 0, 1), YES], [1, 4096, 0, 3, 1], KEPT, dict(subject=0)),
             ([entry(SOME, 0, 1), entry(MATCH, 0, 2), entry(PCON, 1)], [0, 0, 3, 4, 5], KEPT + b"n\t5\t0\t1\n", {}),
-            ([entry(PATH, 3, 1), YES], [1, 0, 2, 3, 1], KEPT, {}),
+            ([entry(PATH, 3, 1), YES], [1, 4096, 2, 3, 1], KEPT, {}),
             ([entry(PATH, 2, 1), YES], [0, 0, 3, 4, 2], KEPT + b"n\t5\t0\t1\n", {}),
             ([entry(TEST, 0, 1), entry(MATCH, 0, 2), X], [0, 0, 2, 3, 3], KEPT, {}),
             ([entry(WHERE, 0, 1), entry(MATCH, 0, 2), X], [0, 0, 2, 3, 3], KEPT + b"b\t0\t2\n", {}),

@@ -161,6 +161,8 @@ class Run:
         self.entries = [t[i:i + 8] for i in range(0, len(t), 8)]
         self.nodes = [(s[i], tuple(s[i + 2:i + 2 + s[i + 1]])) for i in range(0, 8 * mark, 8)]
         self.room, self.units, self.used = len(s) // 8, units, 0
+        # The pattern at which the last match gave up, caught or not.
+        self.miss = 4096
 
     def visit(self, nesting):
         if self.used == self.units:
@@ -269,16 +271,19 @@ class Run:
         if word[0] // 16 == PVAR:
             v = word[1]
             if v in b:
-                return b if self.same(b[v], t, n + 1) else None
+                return b if self.same(b[v], t, n + 1) else self.give_up(p)
             return {**b, v: t}
         con, kids = self.nodes[t]
         if (con, len(kids)) != (word[1], word[0] % 16):
-            return None
+            return self.give_up(p)
         for q, c in zip(word[2:], kids):
             b = self.match(q, c, b, n + 1)
             if b is None:
                 return None
         return b
+
+    def give_up(self, p):
+        self.miss = p
 
     def same(self, x, y, n):
         self.visit(n)
@@ -309,7 +314,7 @@ def run(t, s, b, mark, start, subject, units, signature=None):
     except Cut as c:
         return [*c.args, subject, mark, r.used], clean, b
     if got is None:
-        return [1, 0, subject, mark, r.used], clean, b
+        return [1, r.miss, subject, mark, r.used], clean, b
     for k in range(mark, len(r.nodes)):
         con, kids = r.nodes[k]
         clean[8 * k:8 * k + 2 + len(kids)] = [con, len(kids), *kids]

@@ -1,4 +1,4 @@
-"""The cases of the run. S1 to S12 are held to the answers that 01 prints, S12 to 02's."""
+"""The cases of the run. S1 to S12 are held to the answers that 01 prints, S12 and the place of a failed run to 02's."""
 import itertools
 import random
 
@@ -35,23 +35,23 @@ X, Y = entry(PVAR, 0), entry(PVAR, 1)
 
 
 def small_runs():
-    """S1 to S12, held to what 01 prints, S12 to 02's 12."""
-    def s(label, table, answer, used, subject=2, mark=3, binds=(), store=THREE, new=(), given=2, **more):
+    """S1 to S12, held to what 01 prints, S12 to 02's 12, and the place of a failed run to 02's."""
+    def s(label, table, answer, used, subject=2, mark=3, binds=(), store=THREE, new=(), given=2, place=0, **more):
         five, words, b = case(label, table, store, **{"fill": 0, "room": 6, "units": 100, "subject": given, **more})
-        assert five == [answer, 0, subject, mark, used], (label, five)
+        assert five == [answer, place, subject, mark, used], (label, five)
         assert b == [dict(binds).get(v, -1) + 1 for v in range(32)], (label, b)
         assert words[24:24 + len(new)] == list(new) and not any(words[24 + len(new):]), (label, words)
     flipped = [5, 2, 1, 0]
     s("S1", FLIP, 0, 10, 3, 4, new=flipped, units=10, room=4)
     s("S2", FLIP, 6, 9, units=9, room=4)
     s("S3", FLIP, 7, 10, units=10, room=3)
-    s("S4", [entry(MATCH, 0, 1), entry(PCON, 5, 2, 2), X], 1, 5)
+    s("S4", [entry(MATCH, 0, 1), entry(PCON, 5, 2, 2), X], 1, 5, place=2)
     s("S5", [entry(MATCH, 0, 1), entry(PCON, 5, 2, 2), X], 0, 5, binds=[(0, 0)], store=[[1], [2], [5, 2, 0, 0]])
     s("S6", [entry(LEFT, 0, 1, 4), entry(SEQ, 0, 2, 3), entry(MATCH, 0, 5), entry(FAIL), entry(ID), X], 0, 6)
     s("S7 ALL", [entry(ALL, 0, 1), entry(FAIL)], 0, 1, 0, given=0)
-    s("S7 ONE", [entry(ONE, 0, 1), entry(ID)], 1, 1, 0, given=0)
+    s("S7 ONE", [entry(ONE, 0, 1), entry(ID)], 1, 1, 0, given=0, place=4096)
     s("S8", [entry(SOME, 0, 1), entry(MATCH, 0, 2), entry(PCON, 1)], 0, 5, 3, 4, new=[5, 2, 0, 1])
-    s("S9 PATH 3", [entry(PATH, 3, 1), entry(ID)], 1, 1)
+    s("S9 PATH 3", [entry(PATH, 3, 1), entry(ID)], 1, 1, place=4096)
     s("S9 PATH 2", [entry(PATH, 2, 1), entry(ID)], 0, 2, 3, 4, new=[5, 2, 0, 1])
     s("S10 TEST", [entry(TEST, 0, 1), entry(MATCH, 0, 2), X], 0, 3)
     s("S10 WHERE", [entry(WHERE, 0, 1), entry(MATCH, 0, 2), X], 0, 3, binds=[(0, 2)])
@@ -270,7 +270,7 @@ def unbound():
     ends("in the last child of SOME", [entry(SOME, 0, 1), entry(SEQ, 0, 2, 3), entry(MATCH, 0, 4), entry(BUILD, 0, 5), entry(PCON, 2),
          entry(PVAR, 7)], 12, 7, 9)
     ends("under a NOT under a LEFT", [entry(LEFT, 0, 1, 4), entry(NOT, 0, 2), entry(BUILD, 0, 3), entry(PVAR, 7), entry(ID)], 12, 7, 4)
-    ends("is not met where FAIL comes first", [entry(SEQ, 0, 4, 1), *seven, entry(FAIL)], 1, 0, 2)
+    ends("is not met where FAIL comes first", [entry(SEQ, 0, 4, 1), *seven, entry(FAIL)], 1, 4096, 2)
     ends("a SCOPE hides the binding", [entry(SCOPE, 128, 1), *seven], 12, 7, 3, bound=[(7, 0)])
     ends("a SCOPE of another variable does not", [entry(SCOPE, 64, 1), *seven], 0, 0, 3, subject=0, bound=[(7, 0)])
     ends("a CALL runs inside the scope", [entry(SEQ, 0, 1, 3), entry(REC, 0, 2), entry(BUILD, 0, 5), entry(SCOPE, 1, 4), entry(CALL, 0, 1), X],
@@ -298,6 +298,59 @@ def unbound():
                            last: entry(PVAR, 3)},
                           {4095: [2, 1, 4094]}, tlen=8 * (last + 1), mark=4096, fill=3, head=pcon, units=9000, slen=8 * 8200)
         assert five[:2] == [answer, 3 if answer == 12 else 0], five
+
+
+def misses():
+    """The place of a failed run is the pattern at which the last match in it gave up, or 4,096 (wish 10)."""
+    def fails(label, table, place, store=THREE, answer=1, **more):
+        five, _, _ = case("miss " + label, table, store, **{"room": 9, **more})
+        assert five[:2] == [answer, place], (label, five)
+    no = entry(PCON, 9)
+    fails("at the root", [entry(MATCH, 0, 1), no], 1)
+    fails("of the count alone", [entry(MATCH, 0, 1), entry(PCON, 5, 2), X], 1)
+    fails("where no match is", [entry(FAIL)], 4096)
+    fails("where a match succeeds", [entry(SEQ, 0, 1, 3), entry(MATCH, 0, 2), X, entry(FAIL)], 4096)
+    fails("where a CONG differs", [entry(CONG, 9)], 4096)
+    # 7(8(1, 2), 8(1, 3), 8(1, 2)): the matcher's own way, a pattern that is not the last child, and the last one.
+    nest = [[1], [2], [3], [8, 2, 0, 1], [8, 2, 0, 2], [7, 3, 3, 4, 3]]
+    deep = [entry(MATCH, 0, 1), entry(PCON, 7, 2, 3, 4), entry(PCON, 8, 5, 6), entry(PCON, 8, 5, 6), entry(PCON, 8, 5, 6), X, Y]
+    fails("of a variable in the second of three patterns", deep, 6, nest)
+    fails("of a variable in the last pattern", [*deep[:3], entry(PCON, 8, 5, 7), entry(PCON, 8, 5, 7), X, Y, entry(PVAR, 2)], 7, nest)
+    for child, at in ((2, 2), (3, 3), (4, 4)):
+        table = [*deep[:5], X, Y]
+        table[child] = entry(PCON, 6, 5, 6)
+        fails("of pattern %d of three" % (child - 1), table, at, [*nest[:4], [8, 2, 0, 1], nest[5]])
+    far = [entry(MATCH, 0, 1), entry(PCON, 7, 2, 3), entry(PCON, 8, 4, 5), X, entry(PCON, 8, 6, 5), Y, no]
+    fails("three levels down, not the last child", far, 6, [[1], [8, 2, 0, 0], [8, 2, 1, 0], [7, 2, 2, 0]])
+    fails("of a variable three levels down", [*far[:6], X], 6, [[1], [2], [8, 2, 0, 0], [8, 2, 2, 0], [7, 2, 3, 0]], bound=[(0, 1)])
+    fails("of a variable alone", [entry(MATCH, 0, 1), X], 1, bound=[(0, 0)])
+    fails("of a variable, below the node", [entry(MATCH, 0, 1), X], 1, [[1], [2], [4, 1, 0], [4, 1, 1]], bound=[(0, 2)])
+    two = [entry(MATCH, 0, 3), entry(MATCH, 0, 4), no, entry(PCON, 6)]
+    for kind in (LEFT, CHOICE):
+        fails("of the second operand of %s" % NAMES[kind], [entry(kind, 0, 1, 2), *two], 4)
+        fails("caught by %s" % NAMES[kind], [entry(kind, 0, 1, 3), entry(MATCH, 0, 2), no, entry(FAIL)], 2)
+        fails("of a rule that fails at its head, in %s" % NAMES[kind],
+              [entry(kind, 0, 1, 6), entry(SCOPE, 1, 2), entry(SEQ, 0, 3, 4), entry(MATCH, 0, 5), entry(BUILD, 0, 7), no, entry(FAIL), X], 5)
+        fails("of a head after an older place, in %s" % NAMES[kind],
+              [entry(SEQ, 0, 1, 4), entry(NOT, 0, 2), entry(MATCH, 0, 3), no, entry(kind, 0, 5, 7), entry(MATCH, 0, 6), entry(PCON, 8), entry(FAIL)], 6)
+        fails("of a head that is not skipped, in %s" % NAMES[kind],
+              [entry(kind, 0, 1, 5), entry(MATCH, 0, 2), entry(PCON, 5, 3, 4), X, no, entry(FAIL)], 4)
+    fails("caught by NOT", [entry(SEQ, 0, 1, 4), entry(NOT, 0, 2), entry(MATCH, 0, 3), no, entry(FAIL)], 3)
+    fails("in ONE, of the last child", [entry(ONE, 0, 1), entry(MATCH, 0, 2), no], 2)
+    fails("in SOME, then FAIL", [entry(SEQ, 0, 1, 5), entry(SOME, 0, 2), entry(LEFT, 0, 3, 6), entry(MATCH, 0, 4), no, entry(FAIL), entry(ID)], 4)
+    fails("inside a SCOPE that hides a binding", [entry(SCOPE, 1, 1), entry(MATCH, 0, 2), entry(PCON, 5, 3, 3), X], 3, bound=[(0, 0)])
+    fails("in a TEST", [entry(TEST, 0, 1), entry(MATCH, 0, 2), no], 2)
+    fails("and then a match that succeeds", [entry(SEQ, 0, 1, 4), entry(NOT, 0, 2), entry(MATCH, 0, 3), no, entry(SEQ, 0, 5, 7), entry(MATCH, 0, 6),
+          X, entry(FAIL)], 3)
+    caught = [entry(LEFT, 0, 1, 3), entry(MATCH, 0, 2), no, entry(ID)]
+    fails("of a done run is no place", caught, 0, answer=0)
+    fails("of a run cut off by units is no place", caught, 0, answer=6, units=3)
+    fails("of a run cut off by room is no place", [*caught[:3], entry(PATH, 1, 4), entry(ID)], 0, answer=7, room=3)
+    fails("of a run without a binding is no place", [*caught[:3], entry(BUILD, 0, 4), entry(PVAR, 5)], 5, answer=12)
+    fails("a comparison cut off is none", [entry(MATCH, 0, 1), entry(PCON, 5, 2, 2), X], 0, answer=6, units=4)
+    for k in range(1, 7):
+        fails("of child %d of six" % k, [entry(MATCH, 0, 1), entry(PCON, 9, *range(2, 8)), *[entry(PCON, j + (j == k)) for j in range(1, 7)]], k + 1,
+              SIX + [[9, 6, *range(6)]])
 
 
 def limits():
@@ -473,5 +526,5 @@ def orderings():
 
 
 def write():
-    for part in (small_runs, refusals, needed, children, bindings, unbound, limits, deep, full, orderings, random_jobs):
+    for part in (small_runs, refusals, needed, children, bindings, unbound, misses, limits, deep, full, orderings, random_jobs):
         part()

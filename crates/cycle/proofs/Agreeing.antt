@@ -11,7 +11,7 @@ use Rattle.meaning.specs.Table.{operands}
 use Rattle.meaning.specs.Rules.{agree, when}
 use Rattle.meaning.specs.Store.{children}
 use Rattle.leaves.specs.Answers.{nodeIn, unitsIn, failedWord}
-use Rattle.leaves.specs.Record.{markOf, held}
+use Rattle.leaves.specs.Record.{markOf, missOf, standing, held}
 use borrow.Author.Tests.{not-true, not-false}
 use Rattle.leaves.proofs.Patterns.{agreed-count}
 use Rattle.leaves.specs.Visits.{plan, ruled, countOf, agreeing, Entries, Gives}
@@ -31,20 +31,20 @@ agreeing-agree {t} n w e k h =
     λ i. eqb (argumentOf t e) (constructorOf w k) && eqb (few i) (many i)
 
 module _ {t w st : List ℕ} {e s : ℕ} (n : ℕ) (ready : Ready t w st e s) (h : kindOf t e ≡ 10) {a : Bool} (ae : a ≡ agreeing t w e (nodeIn s)) where
-  rule : {b : Bool} → a ≡ b → ruled t n e (nodeIn s) (held st) w (markOf st) (unitsIn s) ≡ plan t n (when b (walked t w e (nodeIn s) (held st))) w (markOf st) (unitsIn s)
+  rule : {b : Bool} → a ≡ b → ruled t n e (nodeIn s) (held st) w (standing st) (unitsIn s) ≡ plan t n (when b (walked t w e (nodeIn s) (held st))) w (standing st) (unitsIn s)
   rule q =
-      ruled-cong t n e (nodeIn s) (held st) w (markOf st) (unitsIn s) h
-      ∙ ap (λ b. plan t n (when b (walked t w e (nodeIn s) (held st))) w (markOf st) (unitsIn s)) (sym (agreeing-agree (ready .entries) w e (nodeIn s) (ready .inside)) ∙ sym ae ∙ q)
+      ruled-cong t n e (nodeIn s) (held st) w (standing st) (unitsIn s) h
+      ∙ ap (λ b. plan t n (when b (walked t w e (nodeIn s) (held st))) w (standing st) (unitsIn s)) (sym (agreeing-agree (ready .entries) w e (nodeIn s) (ready .inside)) ∙ sym ae ∙ q)
 
-  pub gives-cong-failed : {r : ℕ} → not a ≡ true → r ≡ failedWord (unitsIn s) → Gives (ruled t n e (nodeIn s) (held st) w (markOf st) (unitsIn s)) st r st w
+  pub gives-cong-failed : {r : ℕ} → not a ≡ true → r ≡ failedWord (unitsIn s) → Gives (ruled t n e (nodeIn s) (held st) w (standing st) (unitsIn s)) st r st w
   unfolding when
   gives-cong-failed {r} q p = record {
-    is = gave-failed st w r (unitsIn s) p (omega arith) ∙ sym (rule (not-true a q) ∙ failing t n w (markOf st) (unitsIn s));
+    is = gave-failed st w r (unitsIn s) p (omega arith) ∙ sym (rule (not-true a q) ∙ failing t n w (standing st) (unitsIn s));
     frame = framed-refl st;
   }
 
-  pub gives-cong : {r : ℕ} {st′ w′ : List ℕ} → not a ≡ false → Gives (plan t n (walked t w e (nodeIn s) (held st)) w (markOf st) (unitsIn s)) st r st′ w′
-      → Gives (ruled t n e (nodeIn s) (held st) w (markOf st) (unitsIn s)) st r st′ w′
+  pub gives-cong : {r : ℕ} {st′ w′ : List ℕ} → not a ≡ false → Gives (plan t n (walked t w e (nodeIn s) (held st)) w (standing st) (unitsIn s)) st r st′ w′
+      → Gives (ruled t n e (nodeIn s) (held st) w (standing st) (unitsIn s)) st r st′ w′
   unfolding when
   gives-cong q g = record { is = g .is ∙ sym (rule (not-false a q)); frame = g .frame }
 

@@ -21,13 +21,15 @@ use Rattle.leaves.specs.declared.answers.Answer.the-variants.{Done, Failed}
 use Rattle.leaves.specs.declared.answers.Attempt.{Attempt}
 use Rattle.leaves.specs.declared.answers.Attempt.the-variants.{Ended, Cut as Off}
 use Rattle.leaves.specs.Answers.{packed, nodeIn, unitsIn, failedWord, answerOf, attemptOf}
-use Rattle.leaves.specs.Record.{recordLong, markOf, held, back, Framed}
+use Rattle.meaning.specs.Limits.{at}
+use Rattle.leaves.specs.Noted.{Standing}
+use Rattle.leaves.specs.Record.{recordLong, markOf, missOf, standing, held, back, Framed}
 use Rattle.leaves.specs.Visits.{visit, plan, ruled, out, countOf, rowAt, noded, Entries, Steady, Roomy, Gives}
 use Rattle.cycle.specs.Cycle.{Ready}
 use Rattle.leaves.proofs.AnswerWords.{node-packed, units-packed, gave-failed, failed-few, attempt-done, attempt-failed, attempt-cut}
 use Rattle.leaves.proofs.Asking.{Tagged, goes-on, caught, cut-off, not-done}
 use Rattle.leaves.proofs.Keeping.{apply-leaves, steady-kept, steady-after, roomy, leaves-done, leaves-failed}
-use Rattle.leaves.proofs.Holding.{held-back, mark-back, framed-back, length-back, framed-refl, framed-trans}
+use Rattle.leaves.proofs.Holding.{held-back, mark-back, miss-back, framed-back, length-back, framed-refl, framed-trans}
 use Rattle.leaves.proofs.Children.{six-at, part-length, part-next, part-end}
 use Rattle.leaves.proofs.Walking.{failing}
 use Rattle.cycle.proofs.Ruling.{ruled-path, ruled-one}
@@ -66,16 +68,16 @@ module _ (w : List ℕ) (k j : ℕ) (l : j < countOf w k) where
   set-next x = rw (add-one j) (sym (set-split (children w k) j x among))
 
 -- entry x was visited on node y with the bindings b, and the word of its answer tells a
-module _ {w : List ℕ} {m : ℕ} {b : Bindings ℕ} (steady : Steady w m b) {t : List ℕ} (entries : Entries t) (n x y u : ℕ) (below : y < m)
-    (got : ℕ) (st′ w′ : List ℕ) (is : out got st′ w′ ≡ visit t n (apply x y b) w m u) {a : Answer} (read : a ≡ answerOf got) where
-  leaves : Leaves w m (visit t n (apply x y b) w m u)
-  leaves = apply-leaves steady t entries n x y u below
+module _ {w : List ℕ} {m : ℕ} {b : Bindings ℕ} (steady : Steady w m b) {t : List ℕ} (entries : Entries t) (n x y u : ℕ) (below : y < m) (z : ℕ)
+    (got : ℕ) (st′ w′ : List ℕ) (is : out got st′ w′ ≡ visit t n (apply x y b) w (at m z) u) {a : Answer} (read : a ≡ answerOf got) where
+  leaves : Leaves w m (visit t n (apply x y b) w (at m z) u)
+  leaves = apply-leaves steady t entries n x y z u below
 
   kept-done : {z v : ℕ} → a ≡ Done z v → Kept w m w′
   kept-done {z} {v} q = leaves-done w m _ leaves got st′ w′ is a read z v q .1
 
   roomy-done : {z v : ℕ} → a ≡ Done z v → Roomy w′ (markOf st′)
-  roomy-done {z} {v} q = roomy (steady-after steady w′ (markOf st′) z v (held st′) (leaves-done w m _ leaves got st′ w′ is a read z v q))
+  roomy-done {z} {v} q = roomy (steady-after steady w′ (standing st′) z v (held st′) (leaves-done w m _ leaves got st′ w′ is a read z v q))
 
   kept-failed : {v : ℕ} → a ≡ Failed v → Kept w m w′
   kept-failed {v} q = leaves-failed w m _ leaves got st′ w′ is a read v q
@@ -83,20 +85,20 @@ module _ {w : List ℕ} {m : ℕ} {b : Bindings ℕ} (steady : Steady w m b) {t 
 -- PATH i
 module _ {t w st : List ℕ} {e s i : ℕ} (n : ℕ) (ready : Ready t w st e s) (h : kindOf t e ≡ 9) (ie : i ≡ argumentOf t e) where
   abbrev Returns : ℕ → List ℕ → List ℕ → Type 0
-  Returns r st″ w″ = Gives (ruled t n e (nodeIn s) (held st) w (markOf st) (unitsIn s)) st r st″ w″
+  Returns r st″ w″ = Gives (ruled t n e (nodeIn s) (held st) w (standing st) (unitsIn s)) st r st″ w″
 
   -- what follows, by the child
   picks : (x : ℕ) → x ≡ wordAt t e 2 → {o : Option ℕ} → nth (children w (nodeIn s)) i ≡ o
-      → ruled t n e (nodeIn s) (held st) w (markOf st) (unitsIn s)
-      ≡ plan t n (given o (λ g. ask keep (apply x g (held st)) (λ y c. again (nodeIn s) (constructorOf w (nodeIn s)) (put (children w (nodeIn s)) i y) c) fail)) w (markOf st) (unitsIn s)
+      → ruled t n e (nodeIn s) (held st) w (standing st) (unitsIn s)
+      ≡ plan t n (given o (λ g. ask keep (apply x g (held st)) (λ y c. again (nodeIn s) (constructorOf w (nodeIn s)) (put (children w (nodeIn s)) i y) c) fail)) w (standing st) (unitsIn s)
   picks x xe q =
-      ruled-path t n e (nodeIn s) (held st) w (markOf st) (unitsIn s) x xe i ie h
-      ∙ ap (λ o. plan t n (given o (λ g. ask keep (apply x g (held st)) (λ y c. again (nodeIn s) (constructorOf w (nodeIn s)) (put (children w (nodeIn s)) i y) c) fail)) w (markOf st) (unitsIn s)) q
+      ruled-path t n e (nodeIn s) (held st) w (standing st) (unitsIn s) x xe i ie h
+      ∙ ap (λ o. plan t n (given o (λ g. ask keep (apply x g (held st)) (λ y c. again (nodeIn s) (constructorOf w (nodeIn s)) (put (children w (nodeIn s)) i y) c) fail)) w (standing st) (unitsIn s)) q
 
   no-child : nth (children w (nodeIn s)) i ≡ none → {r : ℕ} → r ≡ failedWord (unitsIn s) → Returns r st w
   unfolding given
   no-child q {r} p = record {
-    is = gave-failed st w r (unitsIn s) p (omega arith) ∙ sym (picks (wordAt t e 2) refl q ∙ failing t n w (markOf st) (unitsIn s));
+    is = gave-failed st w r (unitsIn s) p (omega arith) ∙ sym (picks (wordAt t e 2) refl q ∙ failing t n w (standing st) (unitsIn s));
     frame = framed-refl st;
   }
 
@@ -133,31 +135,35 @@ module _ {t w st : List ℕ} {e s i : ℕ} (n : ℕ) (ready : Ready t w st e s) 
       pub ready-path : Ready t w st x g
       ready-path = record { entries = ready .entries; hints = ready .hints; long = ready .long; inside = rw xe (ready .entries .operand e 0 (ready .inside) (omega arith)); steady = ready .steady; subject = rw node-as below }
 
-      asks : ruled t n e (nodeIn s) (held st) w (markOf st) (unitsIn s)
-          ≡ plan t n (ask keep (apply x y (held st)) (λ z c. again (nodeIn s) (constructorOf w (nodeIn s)) (put (children w (nodeIn s)) i z) c) fail) w (markOf st) (unitsIn s)
+      asks : ruled t n e (nodeIn s) (held st) w (standing st) (unitsIn s)
+          ≡ plan t n (ask keep (apply x y (held st)) (λ z c. again (nodeIn s) (constructorOf w (nodeIn s)) (put (children w (nodeIn s)) i z) c) fail) w (standing st) (unitsIn s)
       unfolding given
       asks = picks x xe (ap (nth (children w (nodeIn s))) from-one ∙ nth-at (children w (nodeIn s)) (i - 1) (among w (nodeIn s) (i - 1) has-child) ∙ ap some (child-at w (nodeIn s) (i - 1) has-child ∙ sym is-child))
 
-      module _ {got : ℕ} {st′ w′ : List ℕ} (gives : Gives (visit t n (apply x (nodeIn g) (held st)) w (markOf st) (unitsIn g)) st got st′ w′) {a : Answer} (read : a ≡ answerOf got) where
-        is : out got st′ w′ ≡ visit t n (apply x y (held st)) w (markOf st) (unitsIn s)
-        is = gives .is ∙ (λ z. visit t n (apply x (node-as z) (held st)) w (markOf st) (units-as z))
+      module _ {got : ℕ} {st′ w′ : List ℕ} (gives : Gives (visit t n (apply x (nodeIn g) (held st)) w (standing st) (unitsIn g)) st got st′ w′) {a : Answer} (read : a ≡ answerOf got) where
+        is : out got st′ w′ ≡ visit t n (apply x y (held st)) w (standing st) (unitsIn s)
+        is = gives .is ∙ (λ z. visit t n (apply x (node-as z) (held st)) w (standing st) (units-as z))
 
         pub gives-path-stops : Tagged a 1 2 → Returns got st′ w′
-        gives-path-stops q = record { is = not-done t n w (markOf st) (unitsIn s) _ got st′ w′ is a read keep _ q ∙ sym asks; frame = gives .frame }
+        gives-path-stops q = record { is = not-done t n w (standing st) (unitsIn s) _ got st′ w′ is a read keep _ q ∙ sym asks; frame = gives .frame }
 
         pub roomy-path : {z v : ℕ} → a ≡ Done z v → Roomy w′ (markOf st′)
-        roomy-path q = roomy-done (ready .steady) (ready .entries) n x y (unitsIn s) below got st′ w′ is read q
+        roomy-path q = roomy-done (ready .steady) (ready .entries) n x y (unitsIn s) below (missOf st) got st′ w′ is read q
 
         pub gives-path : {z v r : ℕ} {was st″ w″ : List ℕ} → a ≡ Done z v → was ≡ rowAt w′ (nodeIn s) → Gives (noded (set was (1 + i) z) st′ w′ v) st′ r st″ w″ → Returns r st″ w″
         gives-path {z} {v} {r} {was} {st″} q we made = record {
           is = made .is ∙ sym (
-              asks ∙ goes-on t n w (markOf st) (unitsIn s) _ got st′ w′ is a read _ fail z v q
-              ∙ ap (λ gs. plan t n (again (nodeIn s) (constructorOf w (nodeIn s)) gs (held st′)) w′ (markOf st′) v) (ap (λ j. put (children w (nodeIn s)) j z) from-one ∙ put-set (children w (nodeIn s)) (i - 1) z)
-              ∙ remade (ready .steady) (ready .subject) has-child t n z v st′ (kept-done (ready .steady) (ready .entries) n x y (unitsIn s) below got st′ w′ is read q) we
+              asks ∙ goes-on t n w (standing st) (unitsIn s) _ got st′ w′ is a read _ fail z v q
+              ∙ ap (λ gs. plan t n (again (nodeIn s) (constructorOf w (nodeIn s)) gs (held st′)) w′ (standing st′) v) (ap (λ j. put (children w (nodeIn s)) j z) from-one ∙ put-set (children w (nodeIn s)) (i - 1) z)
+              ∙ remade (ready .steady) (ready .subject) has-child t n z v st′ (kept-done (ready .steady) (ready .entries) n x y (unitsIn s) below (missOf st) got st′ w′ is read q) we
               ∙ ap (λ j. noded (set was j z) st′ w′ v) (sym place)
               );
           frame = framed-trans st st′ st″ (gives .frame) (made .frame);
         }
+
+-- the mark of the start, with what was noted since
+abbrev tried : List ℕ → List ℕ → Standing
+tried st₀ st = at (markOf st₀) (missOf st)
 
 -- what a turn of ONE's loop has: mark and bindings are those of the start, and the rest of the children is the whole
 pub record Trying (t w₀ st₀ : List ℕ) (n e s c x : ℕ) (w st : List ℕ) (u i : ℕ) : Type 0 where
@@ -169,11 +175,11 @@ pub record Trying (t w₀ st₀ : List ℕ) (n e s c x : ℕ) (w st : List ℕ) 
   pub long : length w ≡ length w₀
   pub count : c ≡ countOf w (nodeIn s)
   pub few : u < 4294967296
-  pub rest : plan t n (oneOf x (take i (children w (nodeIn s))) (drop i (children w (nodeIn s))) (held st₀) (again (nodeIn s) (constructorOf w (nodeIn s)))) w (markOf st₀) u
-      ≡ ruled t n e (nodeIn s) (held st₀) w₀ (markOf st₀) (unitsIn s)
+  pub rest : plan t n (oneOf x (take i (children w (nodeIn s))) (drop i (children w (nodeIn s))) (held st₀) (again (nodeIn s) (constructorOf w (nodeIn s)))) w (tried st₀ st) u
+      ≡ ruled t n e (nodeIn s) (held st₀) w₀ (standing st₀) (unitsIn s)
 
 -- the next child's visit
-one-next : (t : List ℕ) (n x : ℕ) (w : List ℕ) (k i : ℕ) (b : Bindings ℕ) (f : List ℕ → Bindings ℕ → Do ℕ) (m u : ℕ) → i < countOf w k
+one-next : (t : List ℕ) (n x : ℕ) (w : List ℕ) (k i : ℕ) (b : Bindings ℕ) (f : List ℕ → Bindings ℕ → Do ℕ) (m : Standing) (u : ℕ) → i < countOf w k
     → plan t n (oneOf x (take i (children w k)) (drop i (children w k)) b f) w m u
     ≡ plan t n (ask keep (apply x (wordAt w k (2 + i)) b) (λ y c. f (take i (children w k) ++ (y ∷ drop (i + 1) (children w k))) c) (oneOf x (take (i + 1) (children w k)) (drop (i + 1) (children w k)) b f)) w m u
 unfolding oneOf
@@ -182,14 +188,14 @@ one-next t n x w k i b f m u l =
     ∙ ap (λ gs. plan t n (ask keep (apply x (wordAt w k (2 + i)) b) (λ y c. f (take i (children w k) ++ (y ∷ drop (i + 1) (children w k))) c) (oneOf x gs (drop (i + 1) (children w k)) b f)) w m u) (sym (take-next w k i l))
 
 -- no child is left
-one-end : (t : List ℕ) (n x : ℕ) (w : List ℕ) (k i : ℕ) (b : Bindings ℕ) (f : List ℕ → Bindings ℕ → Do ℕ) (m u : ℕ) → countOf w k ≤ i
+one-end : (t : List ℕ) (n x : ℕ) (w : List ℕ) (k i : ℕ) (b : Bindings ℕ) (f : List ℕ → Bindings ℕ → Do ℕ) (m : Standing) (u : ℕ) → countOf w k ≤ i
     → plan t n (oneOf x (take i (children w k)) (drop i (children w k)) b f) w m u ≡ plan t n fail w m u
 unfolding oneOf
 one-end t n x w k i b f m u l = ap (λ hs. plan t n (oneOf x (take i (children w k)) hs b f) w m u) (part-end w k (childCount w k) i l)
 
 module _ {t w₀ st₀ : List ℕ} {e s : ℕ} (n : ℕ) (ready : Ready t w₀ st₀ e s) where
   abbrev Gave : ℕ → List ℕ → List ℕ → Type 0
-  Gave r st″ w″ = Gives (ruled t n e (nodeIn s) (held st₀) w₀ (markOf st₀) (unitsIn s)) st₀ r st″ w″
+  Gave r st″ w″ = Gives (ruled t n e (nodeIn s) (held st₀) w₀ (standing st₀) (unitsIn s)) st₀ r st″ w″
 
   pub one-begins : {c x : ℕ} → kindOf t e ≡ 12 → c ≡ countOf w₀ (nodeIn s) → x ≡ wordAt t e 2 → Trying t w₀ st₀ n e s c x w₀ st₀ (unitsIn s) 0
   one-begins {x = x} h ce xe = record {
@@ -201,13 +207,13 @@ module _ {t w₀ st₀ : List ℕ} {e s : ℕ} (n : ℕ) (ready : Ready t w₀ s
     long = refl;
     count = ce;
     few = omega arith;
-    rest = sym (ruled-one t n e (nodeIn s) (held st₀) w₀ (markOf st₀) (unitsIn s) x xe h);
+    rest = sym (ruled-one t n e (nodeIn s) (held st₀) w₀ (standing st₀) (unitsIn s) x xe h);
   }
 
   module _ {c x : ℕ} {w st : List ℕ} {u i : ℕ} (turn : Trying t w₀ st₀ n e s c x w st u i) where
     pub gives-one-none : {r : ℕ} → c ≤ i → r ≡ failedWord u → Gave r st w
     gives-one-none {r} l p = record {
-      is = gave-failed st w r u p (turn .few) ∙ sym (one-end t n x w (nodeIn s) i (held st₀) (again (nodeIn s) (constructorOf w (nodeIn s))) (markOf st₀) u (omega (arith, turn .count)) ∙ failing t n w (markOf st₀) u) ∙ turn .rest;
+      is = gave-failed st w r u p (turn .few) ∙ sym (one-end t n x w (nodeIn s) i (held st₀) (again (nodeIn s) (constructorOf w (nodeIn s))) (tried st₀ st) u (omega (arith, turn .count)) ∙ failing t n w (tried st₀ st) u) ∙ turn .rest;
       frame = turn .frame;
     }
 
@@ -241,12 +247,12 @@ module _ {t w₀ st₀ : List ℕ} {e s : ℕ} (n : ℕ) (ready : Ready t w₀ s
       abbrev others : Do ℕ
       others = oneOf x (take (i + 1) (children w (nodeIn s))) (drop (i + 1) (children w (nodeIn s))) (held st₀) (again (nodeIn s) (constructorOf w (nodeIn s)))
 
-      asks-next : plan t n (ask keep (apply x y (held st₀)) follows others) w (markOf st₀) u ≡ ruled t n e (nodeIn s) (held st₀) w₀ (markOf st₀) (unitsIn s)
-      asks-next = ap (λ y. plan t n (ask keep (apply x y (held st₀)) follows others) w (markOf st₀) u) ye ∙ sym (one-next t n x w (nodeIn s) i (held st₀) (again (nodeIn s) (constructorOf w (nodeIn s))) (markOf st₀) u has-next) ∙ turn .rest
+      asks-next : plan t n (ask keep (apply x y (held st₀)) follows others) w (tried st₀ st) u ≡ ruled t n e (nodeIn s) (held st₀) w₀ (standing st₀) (unitsIn s)
+      asks-next = ap (λ y. plan t n (ask keep (apply x y (held st₀)) follows others) w (tried st₀ st) u) ye ∙ sym (one-next t n x w (nodeIn s) i (held st₀) (again (nodeIn s) (constructorOf w (nodeIn s))) (tried st₀ st) u has-next) ∙ turn .rest
 
-      module _ {got : ℕ} {st′ w′ : List ℕ} (gives : Gives (visit t n (apply x (nodeIn g) (held st)) w (markOf st) (unitsIn g)) st got st′ w′) {a : Attempt} (attempted : a ≡ attemptOf (answerOf got)) where
-        was : out got st′ w′ ≡ visit t n (apply x y (held st₀)) w (markOf st₀) u
-        was = gives .is ∙ (λ z. visit t n (apply x (node-is z) (turn .holds z)) w (turn .mark z) (units-is z))
+      module _ {got : ℕ} {st′ w′ : List ℕ} (gives : Gives (visit t n (apply x (nodeIn g) (held st)) w (standing st) (unitsIn g)) st got st′ w′) {a : Attempt} (attempted : a ≡ attemptOf (answerOf got)) where
+        was : out got st′ w′ ≡ visit t n (apply x y (held st₀)) w (tried st₀ st) u
+        was = gives .is ∙ (λ z. visit t n (apply x (node-is z) (turn .holds z)) w (at (turn .mark z) (missOf st)) (units-is z))
 
         framed : Framed st₀ st′
         framed = framed-trans st₀ st st′ (turn .frame) (gives .frame)
@@ -259,7 +265,7 @@ module _ {t w₀ st₀ : List ℕ} {e s : ℕ} (n : ℕ) (ready : Ready t w₀ s
 
         pub gives-one-off : {d : ℕ} → a ≡ Off d → Gave got st′ w′
         gives-one-off {d} q = record {
-          is = cut-off t n w (markOf st₀) u _ got st′ w′ was (answerOf got) refl keep follows others d (attempt-cut (answerOf got) d (sym attempted ∙ q)) ∙ asks-next;
+          is = cut-off t n w (tried st₀ st) u _ got st′ w′ was (answerOf got) refl keep follows others d (attempt-cut (answerOf got) d (sym attempted ∙ q)) ∙ asks-next;
           frame = framed;
         }
 
@@ -271,14 +277,14 @@ module _ {t w₀ st₀ : List ℕ} {e s : ℕ} (n : ℕ) (ready : Ready t w₀ s
           did-not p = attempt-failed (answerOf got) z v (sym attempted ∙ q ∙ ap (λ b. Ended b z v) p)
 
           pub roomy-one : yes ≡ true → Roomy w′ (markOf st′)
-          roomy-one p = roomy-done (turn .steady) (ready .entries) n x y u below-mark got st′ w′ was refl (did p)
+          roomy-one p = roomy-done (turn .steady) (ready .entries) n x y u below-mark (missOf st) got st′ w′ was refl (did p)
 
           pub gives-one : {r : ℕ} {words st″ w″ : List ℕ} → yes ≡ true → words ≡ rowAt w′ (nodeIn s) → Gives (noded (set words (2 + i) z) st′ w′ v) st′ r st″ w″ → Gave r st″ w″
           gives-one {r} {words} {st″} p we made = record {
             is = made .is ∙ sym (
-                goes-on t n w (markOf st₀) u _ got st′ w′ was (answerOf got) refl follows others z v (did p)
-                ∙ ap (λ gs. plan t n (again (nodeIn s) (constructorOf w (nodeIn s)) gs (held st′)) w′ (markOf st′) v) (set-next w (nodeIn s) i has-next z)
-                ∙ remade (turn .steady) (ready .subject) has-next t n z v st′ (kept-done (turn .steady) (ready .entries) n x y u below-mark got st′ w′ was refl (did p)) we
+                goes-on t n w (tried st₀ st) u _ got st′ w′ was (answerOf got) refl follows others z v (did p)
+                ∙ ap (λ gs. plan t n (again (nodeIn s) (constructorOf w (nodeIn s)) gs (held st′)) w′ (standing st′) v) (set-next w (nodeIn s) i has-next z)
+                ∙ remade (turn .steady) (ready .subject) has-next t n z v st′ (kept-done (turn .steady) (ready .entries) n x y u below-mark (missOf st) got st′ w′ was refl (did p)) we
                 ) ∙ asks-next;
             frame = framed-trans st₀ st′ st″ framed (made .frame);
           }
@@ -286,7 +292,7 @@ module _ {t w₀ st₀ : List ℕ} {e s : ℕ} (n : ℕ) (ready : Ready t w₀ s
           -- mark and mask are put back, and the next child is tried
           pub one-again : yes ≡ false → Trying t w₀ st₀ n e s c x w′ (back st₀ st′) v (i + 1)
           one-again p =
-              let kept = kept-failed (turn .steady) (ready .entries) n x y u below-mark got st′ w′ was refl (did-not p) in
+              let kept = kept-failed (turn .steady) (ready .entries) n x y u below-mark (missOf st) got st′ w′ was refl (did-not p) in
               let kids = kept-children kept (nodeIn s) (ready .subject) in
               let con = kept-constructor kept (nodeIn s) (ready .subject) in
               record {
@@ -298,6 +304,6 @@ module _ {t w₀ st₀ : List ℕ} {e s : ℕ} (n : ℕ) (ready : Ready t w₀ s
                 long = kept .long ∙ turn .long;
                 count = turn .count ∙ sym (kept-count kept (nodeIn s) (ready .subject));
                 few = failed-few got v (answerOf got) refl (did-not p);
-                rest = (λ j. plan t n (oneOf x (take (i + 1) (kids j)) (drop (i + 1) (kids j)) (held st₀) (again (nodeIn s) (con j))) w′ (markOf st₀) v)
-                    ∙ sym (caught t n w (markOf st₀) u _ got st′ w′ was (answerOf got) refl keep follows others v (did-not p)) ∙ asks-next;
+                rest = (λ j. plan t n (oneOf x (take (i + 1) (kids j)) (drop (i + 1) (kids j)) (held st₀) (again (nodeIn s) (con j))) w′ (at (markOf st₀) (miss-back st₀ st′ long′ j)) v)
+                    ∙ sym (caught t n w (tried st₀ st) u _ got st′ w′ was (answerOf got) refl keep follows others v (did-not p)) ∙ asks-next;
               }

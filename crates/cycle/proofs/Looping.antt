@@ -10,21 +10,22 @@ use Rattle.words.specs.Words.{wordAt}
 use Rattle.checks.specs.Good.{kindOf}
 use Rattle.meaning.specs.Bindings.{Bindings}
 use Rattle.meaning.specs.Rules.{apply}
-use Rattle.leaves.specs.Noted.{Ran}
+use Rattle.meaning.specs.Limits.{lost, at}
+use Rattle.leaves.specs.Noted.{Ran, leftOf}
 use Rattle.meaning.specs.Demands.{Kept, Leaves}
 use denote.Enum.Declared.{tagOf}
 use Rattle.leaves.proofs.answers.Answer.{the-type}
 use Rattle.leaves.specs.declared.answers.Answer.{Answer}
 use Rattle.leaves.specs.declared.answers.Answer.the-variants.{Done, Failed, Cut}
 use Rattle.leaves.specs.Answers.{packed, nodeIn, unitsIn, unitsWord, nestingWord, failedWord, answerOf}
-use Rattle.leaves.specs.Record.{recordLong, markOf, held, back, Framed}
+use Rattle.leaves.specs.Record.{recordLong, markOf, missOf, standing, missing, held, back, Framed}
 use Rattle.leaves.specs.Visits.{visit, ruled, out, countOf, Entries, Steady, Gives}
 use Rattle.cycle.specs.Cycle.{Ready, Last, VisitsToFailure}
 use Rattle.leaves.proofs.AnswerWords.{answer-failed, out-failed, node-packed, units-packed, done-node, done-units, failed-few}
 use Rattle.leaves.proofs.Asking.{Tagged}
 use Rattle.leaves.proofs.Kind.{applied}
 use Rattle.leaves.proofs.Keeping.{apply-leaves, steady-kept, steady-after, leaves-done, leaves-failed, node-small}
-use Rattle.leaves.proofs.Holding.{held-back, mark-back, length-back, framed-back, framed-refl, framed-trans}
+use Rattle.leaves.proofs.Holding.{held-back, mark-back, miss-back, length-back, held-missing, mark-missing, miss-missing, framed-missing, framed-back, framed-refl, framed-trans}
 use Rattle.leaves.proofs.Limited.{units-out, nesting-out}
 use Rattle.cycle.proofs.Ruling.{ready-operand, ruled-rec, ruled-call}
 use Rattle.cycle.proofs.Returning.{gives-itself}
@@ -38,7 +39,7 @@ pub record Turn (t w₀ st₀ : List ℕ) (start given deep : ℕ) (w st : List 
   pub frame : Framed st₀ st
   pub wide : length st ≡ length st₀
   pub word : s < 18446744073709551616
-  pub rest : visit t d (apply e (nodeIn s) (held st)) w (markOf st) (unitsIn s) ≡ visit t deep (apply start (nodeIn given) (held st₀)) w₀ (markOf st₀) (unitsIn given)
+  pub rest : visit t d (apply e (nodeIn s) (held st)) w (standing st) (unitsIn s) ≡ visit t deep (apply start (nodeIn given) (held st₀)) w₀ (standing st₀) (unitsIn given)
 
 -- one unit less is the same node
 pub same-node : (s : ℕ) → (unitsIn s ≡ 0 → ⊥) → nodeIn (s - 1) ≡ nodeIn s
@@ -78,8 +79,8 @@ packed-small x u h l = omega arith
 module _ {t w₀ st₀ : List ℕ} {start given deep : ℕ} {w st : List ℕ} {e s d : ℕ} (turn : Turn t w₀ st₀ start given deep w st e s d)
     (units : unitsIn s ≡ 0 → ⊥) (nested : d ≡ 0 → ⊥) where
   -- the visit is counted, and its rule gives the whole
-  pub counts : ruled t (d - 1) e (nodeIn (s - 1)) (held st) w (markOf st) (unitsIn (s - 1)) ≡ visit t deep (apply start (nodeIn given) (held st₀)) w₀ (markOf st₀) (unitsIn given)
-  counts = rw (same-node s units, one-less s units) (sym (applied t d e (nodeIn s) (held st) w (markOf st) (unitsIn s) units nested) ∙ turn .rest)
+  pub counts : ruled t (d - 1) e (nodeIn (s - 1)) (held st) w (standing st) (unitsIn (s - 1)) ≡ visit t deep (apply start (nodeIn given) (held st₀)) w₀ (standing st₀) (unitsIn given)
+  counts = rw (same-node s units, one-less s units) (sym (applied t d e (nodeIn s) (held st) w (standing st) (unitsIn s) units nested) ∙ turn .rest)
 
   pub ready-next : (i x : ℕ) → i < 6 → x ≡ wordAt t e (2 + i) → Ready t w st x (s - 1)
   ready-next i x l q = ready-operand (turn .ready) i x (s - 1) l q (rw (same-node s units) (turn .ready .subject))
@@ -100,26 +101,26 @@ module _ {t w₀ st₀ : List ℕ} {start given deep : ℕ} {w st : List ℕ} {e
   }
 
   -- what returns here returns for the whole
-  pub whole : {r : ℕ} {st′ w′ : List ℕ} → Gives (ruled t (d - 1) e (nodeIn (s - 1)) (held st) w (markOf st) (unitsIn (s - 1))) st r st′ w′
-      → Gives (visit t deep (apply start (nodeIn given) (held st₀)) w₀ (markOf st₀) (unitsIn given)) st₀ r st′ w′
+  pub whole : {r : ℕ} {st′ w′ : List ℕ} → Gives (ruled t (d - 1) e (nodeIn (s - 1)) (held st) w (standing st) (unitsIn (s - 1))) st r st′ w′
+      → Gives (visit t deep (apply start (nodeIn given) (held st₀)) w₀ (standing st₀) (unitsIn given)) st₀ r st′ w′
   whole {st′ = st′} g = record { is = g .is ∙ counts; frame = framed-trans st₀ st st′ (turn .frame) (g .frame) }
 
   -- ALL of a term without children
   pub all-itself : kindOf t e ≡ 11 → countOf w (nodeIn s) ≡ 0
-      → Gives (visit t deep (apply start (nodeIn given) (held st₀)) w₀ (markOf st₀) (unitsIn given)) st₀ (s - 1) st w
+      → Gives (visit t deep (apply start (nodeIn given) (held st₀)) w₀ (standing st₀) (unitsIn given)) st₀ (s - 1) st w
   all-itself h z = whole (gives-itself (d - 1) ready-same h (ap (countOf w) (same-node s units) ∙ z))
 
   -- the first operand of SEQ, CHOICE or LEFT ran
   module _ {x got : ℕ} {st′ w′ : List ℕ} (xe : x ≡ wordAt t e 2)
-      (gives : Gives (visit t (d - 1) (apply x (nodeIn (s - 1)) (held st)) w (markOf st) (unitsIn (s - 1))) st got st′ w′) {a : Answer} (read : a ≡ answerOf got) where
+      (gives : Gives (visit t (d - 1) (apply x (nodeIn (s - 1)) (held st)) w (standing st) (unitsIn (s - 1))) st got st′ w′) {a : Answer} (read : a ≡ answerOf got) where
     abbrev Whole : Type 0
-    Whole = Gives (visit t deep (apply start (nodeIn given) (held st₀)) w₀ (markOf st₀) (unitsIn given)) st₀ got st′ w′
+    Whole = Gives (visit t deep (apply start (nodeIn given) (held st₀)) w₀ (standing st₀) (unitsIn given)) st₀ got st′ w′
 
     inside : nodeIn (s - 1) < markOf st
     inside = ready-same .subject
 
-    leaves : Leaves w (markOf st) (visit t (d - 1) (apply x (nodeIn (s - 1)) (held st)) w (markOf st) (unitsIn (s - 1)))
-    leaves = apply-leaves (turn .ready .steady) t (turn .ready .entries) (d - 1) x (nodeIn (s - 1)) (unitsIn (s - 1)) inside
+    leaves : Leaves w (markOf st) (visit t (d - 1) (apply x (nodeIn (s - 1)) (held st)) w (standing st) (unitsIn (s - 1)))
+    leaves = apply-leaves (turn .ready .steady) t (turn .ready .entries) (d - 1) x (nodeIn (s - 1)) (missOf st) (unitsIn (s - 1)) inside
 
     long′ : length st′ ≡ recordLong
     long′ = gives .frame .long ∙ turn .ready .long
@@ -139,13 +140,13 @@ module _ {t w₀ st₀ : List ℕ} {start given deep : ℕ} {w st : List ℕ} {e
             hints = turn .ready .hints;
             long = long′;
             inside = rw ye (turn .ready .entries .operand e 1 (turn .ready .inside) (omega arith));
-            steady = steady-after (turn .ready .steady) w′ (markOf st′) z v (held st′) lv;
+            steady = steady-after (turn .ready .steady) w′ (standing st′) z v (held st′) lv;
             subject = subst (λ k. k < markOf st′) (n .0) (lv .2 .subject);
           };
           frame = framed-trans st₀ st st′ (turn .frame) (gives .frame);
           wide = gives .frame .long ∙ turn .wide;
-          word = omega (arith, n .0, node-small (steady-after (turn .ready .steady) w′ (markOf st′) z v (held st′) lv) z (lv .2 .subject));
-          rest = sym (λ i. visit t (d - 1) (apply y (n .0 i) (held st′)) w′ (markOf st′) (n .1 i)) ∙ seq-goes-on t (d - 1) e (s - 1) st w x got st′ w′ xe (gives .is) a read y ye h z v q ∙ counts;
+          word = omega (arith, n .0, node-small (steady-after (turn .ready .steady) w′ (standing st′) z v (held st′) lv) z (lv .2 .subject));
+          rest = sym (λ i. visit t (d - 1) (apply y (n .0 i) (held st′)) w′ (standing st′) (n .1 i)) ∙ seq-goes-on t (d - 1) e (s - 1) st w x got st′ w′ xe (gives .is) a read y ye h z v q ∙ counts;
         }
 
     module _ (h : (kindOf t e ≡ 5) ⊎ (kindOf t e ≡ 6)) where
@@ -157,6 +158,7 @@ module _ {t w₀ st₀ : List ℕ} {start given deep : ℕ} {w st : List ℕ} {e
           let few = failed-few got v a read q in
           let held-as = held-back st st′ long′ (gives .frame) in
           let mark-as = mark-back st st′ long′ in
+          let miss-as = miss-back st st′ long′ in
           let kept = leaves-failed w (markOf st) _ leaves got st′ w′ (gives .is) a read v q in
           let tiny = node-small (turn .ready .steady) (nodeIn (s - 1)) inside in
           let node-as : nodeIn r ≡ nodeIn (s - 1) = ap nodeIn p ∙ node-packed (nodeIn (s - 1)) v few in
@@ -175,27 +177,36 @@ module _ {t w₀ st₀ : List ℕ} {start given deep : ℕ} {w st : List ℕ} {e
             frame = framed-trans st₀ st (back st st′) (turn .frame) (framed-back st st′ long′ (gives .frame));
             wide = length-back st st′ long′ ∙ sym (turn .ready .long) ∙ turn .wide;
             word = rw p (packed-small (nodeIn (s - 1)) v tiny few);
-            rest = rw (node-as, units-as, held-as, mark-as) (left-goes-on t (d - 1) e (s - 1) st w x got st′ w′ xe (gives .is) a read y ye h v q ∙ counts);
+            rest = rw (node-as, units-as, held-as, mark-as, miss-as) (left-goes-on t (d - 1) e (s - 1) st w x got st′ w′ xe (gives .is) a read y ye h v q ∙ counts);
           }
 
-  -- the first operand of CHOICE or LEFT fails after n visits, which are counted and not made
-  pub skip-turn : {x y n : ℕ} → x ≡ wordAt t e 2 → VisitsToFailure t w x (nodeIn (s - 1)) (min (d - 1) (unitsIn (s - 1))) n → (n ≡ 0 → ⊥) → (kindOf t e ≡ 5) ⊎ (kindOf t e ≡ 6) → y ≡ wordAt t e 3
-      → Turn t w₀ st₀ start given deep w st y (s - 1 - n) (d - 1)
-  skip-turn {x} {y} {n} xe skips some h ye =
+  -- the first operand of CHOICE or LEFT fails after n visits, which are counted and not made; where it gives up is noted
+  pub skip-turn : {x y p n : ℕ} → x ≡ wordAt t e 2 → VisitsToFailure t w x (nodeIn (s - 1)) (wordAt t e 4) (min (d - 1) (unitsIn (s - 1))) n → (n ≡ 0 → ⊥) → (kindOf t e ≡ 5) ⊎ (kindOf t e ≡ 6) → p ≡ wordAt t e 4 → y ≡ wordAt t e 3
+      → Turn t w₀ st₀ start given deep w (missing st p) y (s - 1 - n) (d - 1)
+  skip-turn {x} {y} {p} {n} xe skips some h pe ye =
       let enough = under n (d - 1) (unitsIn (s - 1)) (skips .few) in
       let v : ℕ = unitsIn (s - 1) - n in
       let few = few-by (s - 1) n in
       let node-as = same-node-by (s - 1) n (enough .1) in
       let units-as = less-by (s - 1) n (enough .1) in
-      let fails = skips .fails some .is (held st) (markOf st) (d - 1) (unitsIn (s - 1)) (enough .0) (enough .1) in
+      let fails = skips .fails some .is (held st) (standing st) (d - 1) (unitsIn (s - 1)) (enough .0) (enough .1) in
+      let noted : missOf (missing st p) ≡ wordAt t e 4 = miss-missing st p (turn .ready .long) ∙ pe in
+      let frame = framed-missing st p in
       record {
         deeper = pred-le d deep (turn .deeper);
         long = turn .long;
-        ready = ready-operand (turn .ready) 1 y (s - 1 - n) (omega arith) ye (rw node-as (ready-same .subject));
-        frame = turn .frame;
-        wide = turn .wide;
+        ready = record {
+          entries = turn .ready .entries;
+          hints = turn .ready .hints;
+          long = frame .long ∙ turn .ready .long;
+          inside = rw ye (turn .ready .entries .operand e 1 (turn .ready .inside) (omega arith));
+          steady = rw (mark-missing st p, held-missing st p) (turn .ready .steady);
+          subject = rw (node-as, mark-missing st p) (ready-same .subject);
+        };
+        frame = framed-trans st₀ st (missing st p) (turn .frame) frame;
+        wide = frame .long ∙ turn .wide;
         word = fewer s n (turn .word);
-        rest = rw (node-as, units-as) (left-goes-on t (d - 1) e (s - 1) st w x (failedWord v) st w xe (out-failed st w v few ∙ sym fails) (Failed v) (sym (answer-failed v few)) y ye h v refl ∙ counts);
+        rest = rw (node-as, units-as, held-missing st p, mark-missing st p) (left-goes-on t (d - 1) e (s - 1) st w x (failedWord v) (missing st p) w xe (out-failed (missing st p) w v few ∙ ap (λ z. lost (leftOf w (at (markOf st) z)) v) noted ∙ sym fails) (Failed v) (sym (answer-failed v few)) y ye h v refl ∙ counts);
       }
 
 -- the loop begins
@@ -205,13 +216,13 @@ first-turn {st = st} d r f = record { deeper = omega arith; long = refl; ready =
 -- a limit met before a visit
 module _ {t w₀ st₀ : List ℕ} {start given deep : ℕ} {w st : List ℕ} {e s d : ℕ} (turn : Turn t w₀ st₀ start given deep w st e s d) (r : ℕ) where
   abbrev Ends : Type 0
-  Ends = Gives (visit t deep (apply start (nodeIn given) (held st₀)) w₀ (markOf st₀) (unitsIn given)) st₀ r st w
+  Ends = Gives (visit t deep (apply start (nodeIn given) (held st₀)) w₀ (standing st₀) (unitsIn given)) st₀ r st w
 
   pub ends-units : r ≡ unitsWord → unitsIn s ≡ 0 → Ends
-  ends-units p q = record { is = units-out t d _ w (markOf st) (unitsIn s) r st p q ∙ turn .rest; frame = turn .frame }
+  ends-units p q = record { is = units-out t d _ w (unitsIn s) r st p q ∙ turn .rest; frame = turn .frame }
 
   pub ends-nesting : r ≡ nestingWord (unitsIn s) → (unitsIn s ≡ 0 → ⊥) → d ≡ 0 → Ends
-  ends-nesting p q z = record { is = nesting-out t d _ w (markOf st) (unitsIn s) r st p (omega arith) q z ∙ turn .rest; frame = turn .frame }
+  ends-nesting p q z = record { is = nesting-out t d _ w (unitsIn s) r st p (omega arith) q z ∙ turn .rest; frame = turn .frame }
 
 -- a number of two
 pub of-two : (k r i : ℕ) → r ≡ k → i ≤ r → r < i + 2 → (k ≡ i) ⊎ (k ≡ i + 1)

@@ -13,9 +13,9 @@ use Rattle.leaves.specs.declared.answers.Answer.the-variants.{Done, Failed, Cut
 use Rattle.leaves.specs.declared.answers.Attempt.{Attempt}
 use Rattle.leaves.specs.declared.answers.Attempt.the-variants.{Ended, Cut as Off}
 use Rattle.leaves.specs.Answers.{packed, nodeIn, unitsIn, failedWord, answerOf, attemptOf}
-use Rattle.leaves.specs.Record.{recordLong, markOf, held, back, Framed}
+use Rattle.leaves.specs.Record.{recordLong, markOf, missOf, standing, held, back, Framed}
 use Rattle.meaning.specs.Limits.{lost}
-use Rattle.leaves.specs.Noted.{Ran, leftWords}
+use Rattle.leaves.specs.Noted.{Ran, leftOf}
 use native.Mathlib.Omega.{arith}
 use Rattle.leaves.specs.Visits.{visit, ruled, countOf, noded, Pattern, Gives}
 use Rattle.cycle.specs.Cycle.{finished, Ready, Last}
@@ -25,14 +25,14 @@ use Rattle.cycle.proofs.Ruling.{ruled-id, ruled-fail, ruled-above, rule
 use Rattle.leaves.proofs.Asking.{Tagged}
 use Rattle.cycle.proofs.Walker.{childless}
 use Rattle.leaves.proofs.Keeping.{node-small}
-use Rattle.leaves.proofs.Holding.{held-back, mark-back, framed-back, length-back, framed-refl}
+use Rattle.leaves.proofs.Holding.{held-back, mark-back, miss-back, framed-back, length-back, framed-refl}
 use Rattle.cycle.proofs.Operators.{other, where-stops, where-done, guard-off, test-done, not-did, test-failed, not-failed-then}
 
 -- the first operand x of entry e ran on the operator's own state, and gave `got`
 module _ {t w st : List ℕ} {e s x got : ℕ} {st′ w′ : List ℕ} (n : ℕ) (ready : Ready t w st e s) (xe : x ≡ wordAt t e 2)
-    (gives : Gives (visit t n (apply x (nodeIn s) (held st)) w (markOf st) (unitsIn s)) st got st′ w′) where
+    (gives : Gives (visit t n (apply x (nodeIn s) (held st)) w (standing st) (unitsIn s)) st got st′ w′) where
   abbrev Returns : ℕ → List ℕ → Type 0
-  Returns r st″ = Gives (ruled t n e (nodeIn s) (held st) w (markOf st) (unitsIn s)) st r st″ w′
+  Returns r st″ = Gives (ruled t n e (nodeIn s) (held st) w (standing st) (unitsIn s)) st r st″ w′
 
   small : nodeIn s < 131072
   small = node-small (ready .steady) (nodeIn s) (ready .subject)
@@ -60,19 +60,19 @@ module _ {t w st : List ℕ} {e s x got : ℕ} {st′ w′ : List ℕ} (n : ℕ)
 
       pub gives-test : {k r : ℕ} → k ≡ kindOf t e → k ≡ 2 → b ≡ true → r ≡ packed (nodeIn s) v → Returns r (back st st′)
       gives-test {r = r} k i z p = record {
-        is = test-done t n e s st w x got st′ w′ xe (gives .is) g attempted (back st st′) (held-back st st′ long (gives .frame)) (mark-back st st′ long) small r v p (sym k ∙ i) y (attempted-as z);
+        is = test-done t n e s st w x got st′ w′ xe (gives .is) g attempted (back st st′) (held-back st st′ long (gives .frame)) (mark-back st st′ long) (miss-back st st′ long) small r v p (sym k ∙ i) y (attempted-as z);
         frame = framed;
       }
 
       pub gives-test-failed : {k r : ℕ} → k ≡ kindOf t e → k ≡ 2 → b ≡ false → r ≡ failedWord v → Returns r (back st st′)
-      gives-test-failed {r = r} k i z p = record { is = test-failed t n e s st w x got st′ w′ xe (gives .is) g attempted (back st st′) r v p (sym k ∙ i) y (attempted-as z); frame = framed }
+      gives-test-failed {r = r} k i z p = record { is = test-failed t n e s st w x got st′ w′ xe (gives .is) g attempted (back st st′) (miss-back st st′ long) r v p (sym k ∙ i) y (attempted-as z); frame = framed }
 
       pub gives-not-failed : {k r : ℕ} → k ≡ kindOf t e → (k ≡ 2 → ⊥) → b ≡ true → r ≡ failedWord v → Returns r (back st st′)
-      gives-not-failed {r = r} k i z p = record { is = not-failed-then t n e s st w x got st′ w′ xe (gives .is) g attempted (back st st′) r v p (other h (λ e. i (k ∙ e))) y (attempted-as z); frame = framed }
+      gives-not-failed {r = r} k i z p = record { is = not-failed-then t n e s st w x got st′ w′ xe (gives .is) g attempted (back st st′) (miss-back st st′ long) r v p (other h (λ e. i (k ∙ e))) y (attempted-as z); frame = framed }
 
       pub gives-not : {k r : ℕ} → k ≡ kindOf t e → (k ≡ 2 → ⊥) → b ≡ false → r ≡ packed (nodeIn s) v → Returns r (back st st′)
       gives-not {r = r} k i z p = record {
-        is = not-did t n e s st w x got st′ w′ xe (gives .is) g attempted (back st st′) (held-back st st′ long (gives .frame)) (mark-back st st′ long) small r v p (other h (λ e. i (k ∙ e))) y (attempted-as z);
+        is = not-did t n e s st w x got st′ w′ xe (gives .is) g attempted (back st st′) (held-back st st′ long (gives .frame)) (mark-back st st′ long) (miss-back st st′ long) small r v p (other h (λ e. i (k ∙ e))) y (attempted-as z);
         frame = framed;
       }
 
@@ -82,27 +82,27 @@ renamed g e = record { is = g .is ∙ e; frame = g .frame }
 
 module _ {t w st : List ℕ} {e s : ℕ} (n : ℕ) (ready : Ready t w st e s) where
   -- ID gives the state back
-  pub gives-id : {k : ℕ} → k ≡ kindOf t e → k ≡ 0 → Gives (ruled t n e (nodeIn s) (held st) w (markOf st) (unitsIn s)) st s st w
+  pub gives-id : {k : ℕ} → k ≡ kindOf t e → k ≡ 0 → Gives (ruled t n e (nodeIn s) (held st) w (standing st) (unitsIn s)) st s st w
   gives-id q h = record {
-    is = gave st w s (nodeIn s) (unitsIn s) (sym (packed-again s)) (node-small (ready .steady) (nodeIn s) (ready .subject)) (omega arith) ∙ sym (ruled-id t n e (nodeIn s) (held st) w (markOf st) (unitsIn s) (sym q ∙ h));
+    is = gave st w s (nodeIn s) (unitsIn s) (sym (packed-again s)) (node-small (ready .steady) (nodeIn s) (ready .subject)) (omega arith) ∙ sym (ruled-id t n e (nodeIn s) (held st) w (standing st) (unitsIn s) (sym q ∙ h));
     frame = framed-refl st;
   }
 
   -- so does ALL of a term without children
-  pub gives-itself : kindOf t e ≡ 11 → countOf w (nodeIn s) ≡ 0 → Gives (ruled t n e (nodeIn s) (held st) w (markOf st) (unitsIn s)) st s st w
+  pub gives-itself : kindOf t e ≡ 11 → countOf w (nodeIn s) ≡ 0 → Gives (ruled t n e (nodeIn s) (held st) w (standing st) (unitsIn s)) st s st w
   gives-itself h z = record {
     is = gave st w s (nodeIn s) (unitsIn s) (sym (packed-again s)) (node-small (ready .steady) (nodeIn s) (ready .subject)) (omega arith)
-        ∙ sym (ruled-all t n e (nodeIn s) (held st) w (markOf st) (unitsIn s) h ∙ childless t w e (nodeIn s) n (held st) (markOf st) (unitsIn s) h z);
+        ∙ sym (ruled-all t n e (nodeIn s) (held st) w (standing st) (unitsIn s) h ∙ childless t w e (nodeIn s) n (held st) (standing st) (unitsIn s) h z);
     frame = framed-refl st;
   }
 
   -- a failure at once
-  pub gives-failure : {r : ℕ} → ruled t n e (nodeIn s) (held st) w (markOf st) (unitsIn s) ≡ lost (leftWords w) (unitsIn s) → r ≡ failedWord (unitsIn s) → Gives (ruled t n e (nodeIn s) (held st) w (markOf st) (unitsIn s)) st r st w
+  pub gives-failure : {r : ℕ} → ruled t n e (nodeIn s) (held st) w (standing st) (unitsIn s) ≡ lost (leftOf w (standing st)) (unitsIn s) → r ≡ failedWord (unitsIn s) → Gives (ruled t n e (nodeIn s) (held st) w (standing st) (unitsIn s)) st r st w
   gives-failure {r} q p = record { is = gave-failed st w r (unitsIn s) p (omega arith) ∙ sym q; frame = framed-refl st }
 
   -- every other kind than those of the rules fails
-  pub ruled-none : {k : ℕ} → k ≡ kindOf t e → (k ≡ 1) ⊎ (17 < k) → ruled t n e (nodeIn s) (held st) w (markOf st) (unitsIn s) ≡ lost (leftWords w) (unitsIn s)
-  ruled-none {k} q h = ⊎-elim (λ z. ruled-fail t n e (nodeIn s) (held st) w (markOf st) (unitsIn s) k (sym q) z) (λ z. ruled-above t n e (nodeIn s) (held st) w (markOf st) (unitsIn s) (rw q at z)) h
+  pub ruled-none : {k : ℕ} → k ≡ kindOf t e → (k ≡ 1) ⊎ (17 < k) → ruled t n e (nodeIn s) (held st) w (standing st) (unitsIn s) ≡ lost (leftOf w (standing st)) (unitsIn s)
+  ruled-none {k} q h = ⊎-elim (λ z. ruled-fail t n e (nodeIn s) (held st) w (standing st) (unitsIn s) k (sym q) z) (λ z. ruled-above t n e (nodeIn s) (held st) w (standing st) (unitsIn s) (rw q at z)) h
 
 -- the pattern of a MATCH and of a BUILD
 module _ {t w st : List ℕ} {e s k : ℕ} (ready : Ready t w st e s) (x : ℕ) (xe : x ≡ wordAt t e 2) (q : k ≡ kindOf t e) where

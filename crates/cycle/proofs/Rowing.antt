@@ -18,7 +18,7 @@ use Rattle.meaning.specs.Store.{children, row}
 use Rattle.meaning.specs.Demands.{Kept}
 use Rattle.meaning.proofs.Checked.{Node, node-of-good}
 use Rattle.meaning.proofs.Words.{kept-word}
-use Rattle.leaves.specs.Record.{markOf, held}
+use Rattle.leaves.specs.Record.{markOf, missOf, standing, held}
 use Rattle.leaves.specs.Visits.{plan, countOf, rowAt, noded, Steady}
 use Rattle.leaves.proofs.Children.{six-at, part-length}
 
@@ -80,7 +80,7 @@ put-set (h ∷ hs) zero x = refl
 put-set (h ∷ hs) (suc j) x = ap (λ r. h ∷ r) (put-set hs j x)
 
 -- a node with children is made again at the mark
-pub again-noded : (t : List ℕ) (n k c u : ℕ) (gs st w : List ℕ) → 0 < length gs → plan t n (again k c gs (held st)) w (markOf st) u ≡ noded (row c gs) st w u
+pub again-noded : (t : List ℕ) (n k c u : ℕ) (gs st w : List ℕ) → 0 < length gs → plan t n (again k c gs (held st)) w (standing st) u ≡ noded (row c gs) st w u
 unfolding plan runPlan again noded
 again-noded t n k c u [] st w h = absurd (omega arith)
 again-noded t n k c u (g ∷ gs) st w h = refl
@@ -98,7 +98,7 @@ module _ {w : List ℕ} {m : ℕ} {b : Bindings ℕ} (steady : Steady w m b) {k 
 
   -- the row with child j replaced, read from a store that may have changed above the mark, is the node made again
   pub remade : (t : List ℕ) (n x u : ℕ) {z w′ : List ℕ} (st : List ℕ) → Kept w m w′ → z ≡ rowAt w′ k
-      → plan t n (again k (constructorOf w k) (set (children w k) j x) (held st)) w′ (markOf st) u ≡ noded (set z (2 + j) x) st w′ u
+      → plan t n (again k (constructorOf w k) (set (children w k) j x) (held st)) w′ (standing st) u ≡ noded (set z (2 + j) x) st w′ u
   remade t n x u {z} {w′} st kept e =
       again-noded t n k (constructorOf w k) u (set (children w k) j x) st w′ (simp length-set (omega (arith, among)))
       ∙ ap (λ r. noded r st w′ u) (sym (ap (λ r. set r (2 + j) x) (e ∙ kept-row kept k inside ∙ row-is good) ∙ row-set (constructorOf w k) j x (children w k) among))

@@ -14,9 +14,9 @@ use Rattle.meaning.specs.Plan.{keep, drop, ret, fail, look, make, ask}
 use Rattle.meaning.specs.Rules.{Visit, apply, match, build, Do, strategy, nth, put, zip, agree, when, given, again, walk, oneOf, someOf}
 use Rattle.meaning.specs.Limits.{ended, lost, runPlan}
 use Rattle.meaning.specs.Store.{children}
-use Rattle.leaves.specs.Noted.{on, stored, Ran, leftWords}
+use Rattle.leaves.specs.Noted.{Standing, on, stored, Ran, leftOf}
 use Rattle.leaves.specs.Answers.{nodeIn, unitsIn}
-use Rattle.leaves.specs.Record.{markOf, held}
+use Rattle.leaves.specs.Record.{markOf, missOf, standing, held}
 use Rattle.leaves.specs.Visits.{visit, plan, ruled, Entries, Steady, Matchable}
 use Rattle.cycle.specs.Cycle.{visits, walked, Ready}
 use Rattle.leaves.proofs.Kind.{kind-is, rule-is}
@@ -30,7 +30,7 @@ ready-operand r i x h l q k = record { entries = r .entries; hints = r .hints; l
 pub matchable : {t w st : List ℕ} {e g : ℕ} → Ready t w st e g → Matchable t w st e g
 matchable r = record { entries = r .entries; long = r .long; inside = r .inside; steady = r .steady; subject = r .subject }
 
-module _ (t : List ℕ) (n e k : ℕ) (b : Bindings ℕ) (w : List ℕ) (m u : ℕ) where
+module _ (t : List ℕ) (n e k : ℕ) (b : Bindings ℕ) (w : List ℕ) (m : Standing) (u : ℕ) where
   abbrev asks : Do ℕ → Type 0
   asks p = ruled t n e k b w m u ≡ plan t n p w m u
 
@@ -38,11 +38,11 @@ module _ (t : List ℕ) (n e k : ℕ) (b : Bindings ℕ) (w : List ℕ) (m u : �
   unfolding byKind strategy plan runPlan
   ruled-id h = rule-is t n e k b w m u ID (kind-is t e 0 h)
 
-  pub ruled-fail : (j : ℕ) → kindOf t e ≡ j → (j ≡ 1) → ruled t n e k b w m u ≡ lost (leftWords w) u
+  pub ruled-fail : (j : ℕ) → kindOf t e ≡ j → (j ≡ 1) → ruled t n e k b w m u ≡ lost (leftOf w m) u
   unfolding byKind strategy plan runPlan
   ruled-fail j h q = rule-is t n e k b w m u FAIL (kind-is t e 1 (h ∙ q))
 
-  pub ruled-above : 17 < kindOf t e → ruled t n e k b w m u ≡ lost (leftWords w) u
+  pub ruled-above : 17 < kindOf t e → ruled t n e k b w m u ≡ lost (leftOf w m) u
   unfolding byKind strategy plan runPlan
   ruled-above h = rule-is t n e k b w m u FAIL (kind-is t e (kindOf t e) refl ∙ List·getD-eq-default (byKind (argumentOf t e) (wordAt t e 2) (wordAt t e 3) (operands t e)) FAIL {n = kindOf t e} (omega arith))
 

@@ -18,26 +18,28 @@ use Rattle.meaning.specs.Rules.{Visit, apply}
 use Rattle.leaves.specs.declared.answers.Answer.{Answer}
 use Rattle.leaves.specs.declared.answers.Answer.the-variants.{Done, Failed, Cut}
 use Rattle.leaves.specs.Answers.{nodeIn, unitsIn, answerOf}
-use Rattle.leaves.specs.Record.{masking, recordLong, markOf, maskOf, held, without}
-use Rattle.leaves.specs.Visits.{visit, plan, ruled, meaning, out, Steady, Gives}
+use Rattle.meaning.specs.Limits.{lost, cut, at}
+use Rattle.leaves.specs.Noted.{Standing, leftOf}
+use Rattle.leaves.specs.Record.{masking, recordLong, markOf, missOf, standing, maskOf, held, without}
+use Rattle.leaves.specs.Visits.{limitOf, visit, plan, ruled, meaning, out, Steady, Gives}
 use Rattle.cycle.specs.Cycle.{Ready}
 use Rattle.leaves.proofs.AnswerWords.{out-answer}
 use Rattle.leaves.proofs.Asking.{goes-on, not-done}
 use Rattle.leaves.proofs.Walking.{returned}
 use Rattle.cycle.proofs.Ruling.{ruled-scope}
-use Rattle.leaves.proofs.Holding.{hidden, length-hidden, mark-hidden, held-hidden, held-apart, held-unscope, framed-unscope, restored, shown, length-shown, mark-shown, held-shown, framed-shown}
+use Rattle.leaves.proofs.Holding.{hidden, length-hidden, mark-hidden, miss-hidden, held-hidden, held-apart, held-unscope, framed-unscope, restored, shown, length-shown, mark-shown, miss-shown, held-shown, framed-shown}
 
 -- a visit's answer r with the record st, and the same word with a record st″ that holds f of the bindings
-rebound : (t : List ℕ) (n : ℕ) (q : Visit ℕ) (w : List ℕ) (m u r : ℕ) (st w′ : List ℕ) → out r st w′ ≡ visit t n q w m u
-    → (st″ : List ℕ) (f : Bindings ℕ → Bindings ℕ) → held st″ ≡ f (held st) → markOf st″ ≡ markOf st → out r st″ w′ ≡ plan t n (ask keep q (λ h c. ret h (f c)) fail) w m u
+rebound : (t : List ℕ) (n : ℕ) (q : Visit ℕ) (w : List ℕ) (m : Standing) (u r : ℕ) (st w′ : List ℕ) → out r st w′ ≡ visit t n q w m u
+    → (st″ : List ℕ) (f : Bindings ℕ → Bindings ℕ) → held st″ ≡ f (held st) → markOf st″ ≡ markOf st → missOf st″ ≡ missOf st → out r st″ w′ ≡ plan t n (ask keep q (λ h c. ret h (f c)) fail) w m u
 unfolding meaning
-rebound t n q w m u r st w′ is st″ f holds mark = go (answerOf r) refl
+rebound t n q w m u r st w′ is st″ f holds mark miss = go (answerOf r) refl
   where
     go : (a : Answer) → a ≡ answerOf r → out r st″ w′ ≡ plan t n (ask keep q (λ h c. ret h (f c)) fail) w m u
     go (Done x v) e =
-        out-answer st″ w′ r (Done x v) e ∙ rw (holds, mark) (sym (goes-on t n w m u q r st w′ is (Done x v) e (λ h c. ret h (f c)) fail x v refl ∙ returned t n w′ (markOf st) v x (f (held st))))
-    go (Failed v) e = out-answer st″ w′ r (Failed v) e ∙ sym (out-answer st w′ r (Failed v) e) ∙ not-done t n w m u q r st w′ is (Failed v) e keep (λ h c. ret h (f c)) (inl refl)
-    go (Cut c) e = out-answer st″ w′ r (Cut c) e ∙ sym (out-answer st w′ r (Cut c) e) ∙ not-done t n w m u q r st w′ is (Cut c) e keep (λ h c. ret h (f c)) (inr refl)
+        out-answer st″ w′ r (Done x v) e ∙ rw (holds, mark, miss) (sym (goes-on t n w m u q r st w′ is (Done x v) e (λ h c. ret h (f c)) fail x v refl ∙ returned t n w′ (standing st) v x (f (held st))))
+    go (Failed v) e = out-answer st″ w′ r (Failed v) e ∙ ap (λ z. lost (leftOf w′ (at (markOf st) z)) v) miss ∙ sym (out-answer st w′ r (Failed v) e) ∙ not-done t n w m u q r st w′ is (Failed v) e keep (λ h c. ret h (f c)) (inl refl)
+    go (Cut c) e = out-answer st″ w′ r (Cut c) e ∙ ap (λ z. cut (limitOf c) (leftOf w′ (at (markOf st) z)) (unitsIn c)) miss ∙ sym (out-answer st w′ r (Cut c) e) ∙ not-done t n w m u q r st w′ is (Cut c) e keep (λ h c. ret h (f c)) (inr refl)
 
 -- what is bound with some variables hidden is bound without
 masked-some : (m v j : ℕ) (b : Bindings ℕ) → masked m unbound b v ≡ some j → b v ≡ some j
@@ -54,13 +56,13 @@ steady-masked {b = b} i s = record { nodes = s .nodes; small = s .small; used = 
 -- entry e is a SCOPE of the mask i, its operand x
 module _ {t w st : List ℕ} {e s x i : ℕ} (n : ℕ) (ready : Ready t w st e s) (ie : i ≡ argumentOf t e) (small : i < 4294967296) (xe : x ≡ wordAt t e 2) where
   abbrev Returns : ℕ → List ℕ → List ℕ → Type 0
-  Returns r st″ w′ = Gives (ruled t n e (nodeIn s) (held st) w (markOf st) (unitsIn s)) st r st″ w′
+  Returns r st″ w′ = Gives (ruled t n e (nodeIn s) (held st) w (standing st) (unitsIn s)) st r st″ w′
 
   abbrev inner : Visit ℕ
   inner = apply x (nodeIn s) (masked i unbound (held st))
 
   -- nothing masked is bound
-  module _ {got : ℕ} {st′ w′ : List ℕ} (gives : Gives (visit t n (apply x (nodeIn s) (held st)) w (markOf st) (unitsIn s)) st got st′ w′) where
+  module _ {got : ℕ} {st′ w′ : List ℕ} (gives : Gives (visit t n (apply x (nodeIn s) (held st)) w (standing st) (unitsIn s)) st got st′ w′) where
     long′ : length st′ ≡ recordLong
     long′ = gives .frame .long ∙ ready .long
 
@@ -68,8 +70,8 @@ module _ {t w st : List ℕ} {e s x i : ℕ} (n : ℕ) (ready : Ready t w st e s
     gives-scope h apart ye =
         subst (λ y. Returns got (masking st′ y) w′) (sym ye) (
         record {
-          is = rebound t n inner w (markOf st) (unitsIn s) got st′ w′ (gives .is ∙ ap (λ b. visit t n (apply x (nodeIn s) b) w (markOf st) (unitsIn s)) (held-apart st i apart)) (hidden st′ i) (masked i (held st)) (held-unscope st i apart st′ long′ small) (mark-hidden st′ i long′ small)
-              ∙ sym (ruled-scope t n e (nodeIn s) (held st) w (markOf st) (unitsIn s) x xe i ie h);
+          is = rebound t n inner w (standing st) (unitsIn s) got st′ w′ (gives .is ∙ ap (λ b. visit t n (apply x (nodeIn s) b) w (standing st) (unitsIn s)) (held-apart st i apart)) (hidden st′ i) (masked i (held st)) (held-unscope st i apart st′ long′ small) (mark-hidden st′ i long′ small) (miss-hidden st′ i long′ small)
+              ∙ sym (ruled-scope t n e (nodeIn s) (held st) w (standing st) (unitsIn s) x xe i ie h);
           frame = framed-unscope st i apart st′ long′ small (gives .frame);
         }
         )
@@ -88,22 +90,22 @@ module _ {t w st : List ℕ} {e s x i : ℕ} (n : ℕ) (ready : Ready t w st e s
       }
       )
 
-  module _ {got : ℕ} {st′ w′ : List ℕ} (gives : Gives (visit t n (apply x (nodeIn s) (held (hidden st i))) w (markOf (hidden st i)) (unitsIn s)) (hidden st i) got st′ w′) where
+  module _ {got : ℕ} {st′ w′ : List ℕ} (gives : Gives (visit t n (apply x (nodeIn s) (held (hidden st i))) w (standing (hidden st i)) (unitsIn s)) (hidden st i) got st′ w′) where
     long″ : length st′ ≡ recordLong
     long″ = gives .frame .long ∙ length-hidden st i (ready .long) small
 
     gives-shown : kindOf t e ≡ 16 → Returns got (shown st i st′) w′
     gives-shown h = record {
-      is = rebound t n inner w (markOf st) (unitsIn s) got st′ w′ (gives .is ∙ rw (mark-hidden st i (ready .long) small, held-hidden st i (ready .long) small)) (shown st i st′) (masked i (held st)) (held-shown st i st′ long″ small) (mark-shown st i st′ long″ small)
-          ∙ sym (ruled-scope t n e (nodeIn s) (held st) w (markOf st) (unitsIn s) x xe i ie h);
+      is = rebound t n inner w (standing st) (unitsIn s) got st′ w′ (gives .is ∙ rw (mark-hidden st i (ready .long) small, miss-hidden st i (ready .long) small, held-hidden st i (ready .long) small)) (shown st i st′) (masked i (held st)) (held-shown st i st′ long″ small) (mark-shown st i st′ long″ small) (miss-shown st i st′ long″ small)
+          ∙ sym (ruled-scope t n e (nodeIn s) (held st) w (standing st) (unitsIn s) x xe i ie h);
       frame = framed-shown st i st′ long″ small (ready .long) (gives .frame);
     }
 
-  pub gives-hiding : {z got y : ℕ} {st′ w′ p : List ℕ} → z ≡ without (maskOf st) i → Gives (visit t n (apply x (nodeIn s) (held (masking st z))) w (markOf (masking st z)) (unitsIn s)) (masking st z) got st′ w′
+  pub gives-hiding : {z got y : ℕ} {st′ w′ p : List ℕ} → z ≡ without (maskOf st) i → Gives (visit t n (apply x (nodeIn s) (held (masking st z))) w (standing (masking st z)) (unitsIn s)) (masking st z) got st′ w′
       → kindOf t e ≡ 16 → p ≡ restored st i st′ → y ≡ without (maskOf p) i → Returns got (masking p (bitOr y (bitAnd (maskOf st) i))) w′
   gives-hiding {got = got} {st′ = st′} {w′ = w′} {p = p} ze gives h pe ye =
       subst (λ y. Returns got (masking p (bitOr y (bitAnd (maskOf st) i))) w′) (sym ye) (
       subst (λ p. Returns got (masking p (bitOr (without (maskOf p) i) (bitAnd (maskOf st) i))) w′) (sym pe) (
-      gives-shown (subst (λ z. Gives (visit t n (apply x (nodeIn s) (held (masking st z))) w (markOf (masking st z)) (unitsIn s)) (masking st z) got st′ w′) ze gives) h
+      gives-shown (subst (λ z. Gives (visit t n (apply x (nodeIn s) (held (masking st z))) w (standing (masking st z)) (unitsIn s)) (masking st z) got st′ w′) ze gives) h
       )
       )

@@ -15,9 +15,9 @@ use Rattle.meaning.specs.Bindings.{Bindings}
 use Rattle.meaning.specs.Table.{operands, six}
 use Rattle.meaning.specs.Plan.{keep, ret, fail, make, ask}
 use Rattle.meaning.specs.Rules.{Visit, apply, Do, zip, when, again, walk, someOf}
-use Rattle.meaning.specs.Limits.{ended, lost, roomFor, runPlan}
+use Rattle.meaning.specs.Limits.{ended, lost, at, roomFor, runPlan}
 use Rattle.meaning.specs.Store.{children, row}
-use Rattle.leaves.specs.Noted.{on, stored, Ran, leftWords}
+use Rattle.leaves.specs.Noted.{Standing, on, stored, Ran, leftOf}
 use Rattle.meaning.specs.Demands.{Kept, Leaves}
 use Rattle.meaning.proofs.Checked.{node-of-good}
 use Rattle.meaning.proofs.Words.{kept-refl, kept-trans, kept-word}
@@ -26,24 +26,24 @@ use Rattle.leaves.specs.declared.answers.Answer.the-variants.{Done, Failed, Cut
 use Rattle.leaves.specs.declared.answers.Attempt.{Attempt}
 use Rattle.leaves.specs.declared.answers.Attempt.the-variants.{Ended, Cut as Off}
 use Rattle.leaves.specs.Answers.{packed, nodeIn, unitsIn, unitsWord, answerOf, attemptOf}
-use Rattle.leaves.specs.Record.{marking, maskOf, masking, recordLong, markOf, held, back, Framed}
+use Rattle.leaves.specs.Record.{marking, maskOf, masking, recordLong, markOf, missOf, standing, held, back, Framed}
 use Rattle.leaves.specs.Visits.{out, visit, plan, countOf, noded, Steady, Roomy, Gives}
 use Rattle.cycle.specs.Cycle.{Counted, operandFor, visits, walked, finished, entryAhead, Leads, VisitsAhead, Ready}
 use Rattle.leaves.proofs.AnswerWords.{node-packed, units-packed, done-units, failed-few, attempt-done, attempt-failed, attempt-cut, out-units}
 use Rattle.leaves.proofs.Asking.{goes-on, caught, cut-off}
 use Rattle.leaves.proofs.Keeping.{apply-leaves, steady-kept, steady-after, roomy, leaves-done, leaves-failed, node-small}
-use Rattle.leaves.proofs.Holding.{held-back, mark-back, framed-back, length-back, framed-refl, framed-trans}
+use Rattle.leaves.proofs.Holding.{held-back, mark-back, miss-back, framed-back, length-back, framed-refl, framed-trans}
 use Rattle.leaves.proofs.Children.{part-length, part-next, part-end, filled, filled-next, one-more, filled-row}
 use Rattle.cycle.proofs.Ahead.{leads-on, leads-inside}
 use Rattle.cycle.proofs.Operators.{ends, fails, not-caught}
 
 -- a term made anew, and a term without children
-made-anew : (t : List ℕ) (n k c x : ℕ) (gs : List ℕ) (b : Bindings ℕ) (w : List ℕ) (m u : ℕ)
-    → plan t n (again k c (x ∷ gs) b) w m u ≡ roomFor (leb (rows w) m) (leftWords w) u (ended m b (on (putRow w m (row c (x ∷ gs))) (m + 1)) u)
+made-anew : (t : List ℕ) (n k c x : ℕ) (gs : List ℕ) (b : Bindings ℕ) (w : List ℕ) (m : Standing) (u : ℕ)
+    → plan t n (again k c (x ∷ gs) b) w m u ≡ roomFor (leb (rows w) (m .mark)) (leftOf w m) u (ended (m .mark) b (on (putRow w (m .mark) (row c (x ∷ gs))) (at (m .mark + 1) (m .notes))) u)
 unfolding plan runPlan again
 made-anew t n k c x gs b w m u = refl
 
-itself : (t : List ℕ) (n k c : ℕ) (b : Bindings ℕ) (w : List ℕ) (m u : ℕ) → plan t n (again k c [] b) w m u ≡ ended k b (on w m) u
+itself : (t : List ℕ) (n k c : ℕ) (b : Bindings ℕ) (w : List ℕ) (m : Standing) (u : ℕ) → plan t n (again k c [] b) w m u ≡ ended k b (on w m) u
 unfolding plan runPlan again
 itself t n k c b w m u = refl
 
@@ -130,7 +130,7 @@ unfolding walked
 rest-all t w e k b = refl
 
 -- ALL of a term without children gives it back
-pub childless : (t w : List ℕ) (e k n : ℕ) (b : Bindings ℕ) (m u : ℕ) → kindOf t e ≡ 11 → countOf w k ≡ 0 → plan t n (walked t w e k b) w m u ≡ ended k b (on w m) u
+pub childless : (t w : List ℕ) (e k n : ℕ) (b : Bindings ℕ) (m : Standing) (u : ℕ) → kindOf t e ≡ 11 → countOf w k ≡ 0 → plan t n (walked t w e k b) w m u ≡ ended k b (on w m) u
 childless t w e k n b m u h z =
     ap (λ p. plan t n p w m u) (sym (rest-all t w e k b) ∙ rest-end t w e k (λ f. absurd (omega arith)) 0 0 [] b (omega (arith, z)))
     ∙ rw (ne-eqb (kindOf t e) 13 (λ f. omega arith)) (itself t n k (constructorOf w k) b w m u)
@@ -182,7 +182,7 @@ pub record Going (t w₀ st₀ : List ℕ) (e s deep : ℕ) (w st : List ℕ) (u
   pub few : u < 4294967296
   pub begun : i ≡ 0 → u ≡ unitsIn s
   pub won-later : (won ≡ 0 → ⊥) → 0 < i
-  pub left : plan t deep (rest t w₀ e (nodeIn s) i won done (held st)) w (markOf st) u ≡ plan t deep (walked t w₀ e (nodeIn s) (held st₀)) w₀ (markOf st₀) (unitsIn s)
+  pub left : plan t deep (rest t w₀ e (nodeIn s) i won done (held st)) w (standing st) u ≡ plan t deep (walked t w₀ e (nodeIn s) (held st₀)) w₀ (standing st₀) (unitsIn s)
 
 pub going-first : {t w st : List ℕ} {e s : ℕ} (deep : ℕ) → Ready t w st e s → {c n u : ℕ} → c ≡ wordAt w (nodeIn s) 0 → n ≡ countOf w (nodeIn s) → u ≡ unitsIn s
     → Going t w st e s deep w st u 0 (c ∷ n ∷ 0 ∷ 0 ∷ 0 ∷ 0 ∷ 0 ∷ 0 ∷ []) 0
@@ -199,7 +199,7 @@ going-first {t} {w} {st} {e} {s} deep r p q v = record {
   few = rw v (omega arith);
   begun = λ z. v;
   won-later = λ f. absurd (f refl);
-  left = rw v (ap (λ p. plan t deep p w (markOf st) (unitsIn s)) (rest-all t w e (nodeIn s) (held st)));
+  left = rw v (ap (λ p. plan t deep p w (standing st) (unitsIn s)) (rest-all t w e (nodeIn s) (held st)));
 }
 
 module _ {t w₀ st₀ : List ℕ} {e s deep : ℕ} {w st : List ℕ} {u won : ℕ} {made : List ℕ} {i : ℕ} (ready : Ready t w₀ st₀ e s) (same : Counted t w₀ e (nodeIn s))
@@ -228,23 +228,23 @@ module _ {t w₀ st₀ : List ℕ} {e s deep : ℕ} {w st : List ℕ} {u won : �
 
   -- the visit of child i gave `got`
   module _ {x κ c p got : ℕ} {st′ w′ : List ℕ} (oe : x ≡ operandFor t e κ i) (κe : κ ≡ kindOf t e) (ce : c ≡ wordAt w (nodeIn s) (2 + i)) (pe : p ≡ packed c u)
-      (gives : Gives (visit t deep (apply x (nodeIn p) (held st)) w (markOf st) (unitsIn p)) st got st′ w′) {a : Attempt} (attempted : a ≡ attemptOf (answerOf got)) where
+      (gives : Gives (visit t deep (apply x (nodeIn p) (held st)) w (standing st) (unitsIn p)) st got st′ w′) {a : Attempt} (attempted : a ≡ attemptOf (answerOf got)) where
     xe : x ≡ operandFor t e (kindOf t e) i
     xe = oe ∙ ap (λ (k : ℕ). operandFor t e k i) κe
 
     cw : c ≡ wordAt w₀ (nodeIn s) (2 + i)
     cw = ce ∙ child-is
 
-    is : out got st′ w′ ≡ visit t deep (apply (operandFor t e (kindOf t e) i) (wordAt w₀ (nodeIn s) (2 + i)) (held st)) w (markOf st) u
+    is : out got st′ w′ ≡ visit t deep (apply (operandFor t e (kindOf t e) i) (wordAt w₀ (nodeIn s) (2 + i)) (held st)) w (standing st) u
     is = gives .is ∙ rw (pe, node-packed c u (g .few), units-packed c u (g .few), cw, xe)
 
-    next : plan t deep (rest t w₀ e (nodeIn s) i won (g .done) (held st)) w (markOf st) u
+    next : plan t deep (rest t w₀ e (nodeIn s) i won (g .done) (held st)) w (standing st) u
         ≡ plan t deep (ask keep (apply (operandFor t e (kindOf t e) i) (wordAt w₀ (nodeIn s) (2 + i)) (held st)) (λ h c. rest t w₀ e (nodeIn s) (i + 1) 1 (g .done ++ (h ∷ [])) c)
-        (if eqb (kindOf t e) 13 then rest t w₀ e (nodeIn s) (i + 1) won (g .done ++ (wordAt w₀ (nodeIn s) (2 + i) ∷ [])) (held st) else fail)) w (markOf st) u
-    next = ap (λ p. plan t deep p w (markOf st) u) (rest-next t w₀ e (nodeIn s) same i won (g .done) (held st) h)
+        (if eqb (kindOf t e) 13 then rest t w₀ e (nodeIn s) (i + 1) won (g .done ++ (wordAt w₀ (nodeIn s) (2 + i) ∷ [])) (held st) else fail)) w (standing st) u
+    next = ap (λ p. plan t deep p w (standing st) u) (rest-next t w₀ e (nodeIn s) same i won (g .done) (held st) h)
 
     abbrev Whole : Type 0
-    Whole = Gives (plan t deep (walked t w₀ e (nodeIn s) (held st₀)) w₀ (markOf st₀) (unitsIn s)) st₀ got st′ w′
+    Whole = Gives (plan t deep (walked t w₀ e (nodeIn s) (held st₀)) w₀ (standing st₀) (unitsIn s)) st₀ got st′ w′
 
     framed′ : Framed st₀ st′
     framed′ = framed-trans st₀ st st′ (g .frame) (gives .frame)
@@ -255,7 +255,7 @@ module _ {t w₀ st₀ : List ℕ} {e s deep : ℕ} {w st : List ℕ} {u won : �
     -- a cut-off, and a failure that nothing catches
     pub going-off : {d : ℕ} → a ≡ Off d → Whole
     going-off {d} q = record {
-      is = cut-off t deep w (markOf st) u _ got st′ w′ is (answerOf got) refl keep _ _ d (attempt-cut (answerOf got) d (sym attempted ∙ q)) ∙ sym next ∙ g .left;
+      is = cut-off t deep w (standing st) u _ got st′ w′ is (answerOf got) refl keep _ _ d (attempt-cut (answerOf got) d (sym attempted ∙ q)) ∙ sym next ∙ g .left;
       frame = framed′;
     }
 
@@ -266,14 +266,14 @@ module _ {t w₀ st₀ : List ℕ} {e s deep : ℕ} {w st : List ℕ} {u won : �
       done-as : b ≡ true → answerOf got ≡ Done y v
       done-as z = attempt-done (answerOf got) y v (sym attempted ∙ q ∙ ap (λ b. Ended b y v) z)
 
-      leaves : Leaves w (markOf st) (visit t deep (apply x (nodeIn p) (held st)) w (markOf st) (unitsIn p))
-      leaves = apply-leaves (g .steady) t (ready .entries) deep x (nodeIn p) (unitsIn p) (rw (pe, node-packed c u (g .few), cw) child-below)
+      leaves : Leaves w (markOf st) (visit t deep (apply x (nodeIn p) (held st)) w (standing st) (unitsIn p))
+      leaves = apply-leaves (g .steady) t (ready .entries) deep x (nodeIn p) (missOf st) (unitsIn p) (rw (pe, node-packed c u (g .few), cw) child-below)
 
       pub going-stops : {k : ℕ} → k ≡ kindOf t e → (k ≡ 13 → ⊥) → b ≡ false → Whole
       going-stops {k} ke n z = record {
-        is = not-caught t deep w (markOf st) u _ got st′ w′ is (λ h c. rest t w₀ e (nodeIn s) (i + 1) 1 (g .done ++ (h ∷ [])) c) v (failed-as z)
+        is = not-caught t deep w (standing st) u _ got st′ w′ is (λ h c. rest t w₀ e (nodeIn s) (i + 1) 1 (g .done ++ (h ∷ [])) c) v (failed-as z)
             ∙ sym (next ∙ ap (λ z. plan t deep (ask keep (apply (operandFor t e (kindOf t e) i) (wordAt w₀ (nodeIn s) (2 + i)) (held st)) (λ h c. rest t w₀ e (nodeIn s) (i + 1) 1 (g .done ++ (h ∷ [])) c)
-            (if z then rest t w₀ e (nodeIn s) (i + 1) won (g .done ++ (wordAt w₀ (nodeIn s) (2 + i) ∷ [])) (held st) else fail)) w (markOf st) u) (ne-eqb (kindOf t e) 13 (λ f. n (ke ∙ f)))) ∙ g .left;
+            (if z then rest t w₀ e (nodeIn s) (i + 1) won (g .done ++ (wordAt w₀ (nodeIn s) (2 + i) ∷ [])) (held st) else fail)) w (standing st) u) (ne-eqb (kindOf t e) 13 (λ f. n (ke ∙ f)))) ∙ g .left;
         frame = framed′;
       }
 
@@ -289,13 +289,13 @@ module _ {t w₀ st₀ : List ℕ} {e s deep : ℕ} {w st : List ℕ} {u won : �
             within = omega arith;
             kept = kept-trans (g .more) (g .kept) (lv .1);
             more = omega (arith, g .more, lv .0);
-            steady = steady-after (g .steady) w′ (markOf st′) y v (held st′) lv;
+            steady = steady-after (g .steady) w′ (standing st′) y v (held st′) lv;
             frame = framed′;
             wide = gives .frame .long ∙ g .wide;
             few = done-units got y v (answerOf got) refl f;
             begun = λ j. absurd (omega arith);
             won-later = λ j. omega arith;
-            left = sym (next ∙ goes-on t deep w (markOf st) u _ got st′ w′ is (answerOf got) refl (λ h c. rest t w₀ e (nodeIn s) (i + 1) 1 (g .done ++ (h ∷ [])) c) _ y v f) ∙ g .left;
+            left = sym (next ∙ goes-on t deep w (standing st) u _ got st′ w′ is (answerOf got) refl (λ h c. rest t w₀ e (nodeIn s) (i + 1) 1 (g .done ++ (h ∷ [])) c) _ y v f) ∙ g .left;
           })
 
       -- SOME keeps child i, which failed
@@ -307,6 +307,7 @@ module _ {t w₀ st₀ : List ℕ} {e s deep : ℕ} {w st : List ℕ} {u won : �
           let kp = leaves-failed w (markOf st) _ leaves got st′ w′ (gives .is) (answerOf got) refl v f in
           let hd = held-back st st′ long′ (gives .frame) in
           let mk = mark-back st st′ long′ in
+          let ms = miss-back st st′ long′ in
           rw (se, re, me) (record {
             done = g .done ++ (wordAt w₀ (nodeIn s) (2 + i) ∷ []);
             made-is = rw cw (filled-next _ _ i (wordAt w₀ (nodeIn s) (2 + i)) (g .done) made (g .made-is) (g .so-far) (omega arith));
@@ -320,7 +321,7 @@ module _ {t w₀ st₀ : List ℕ} {e s deep : ℕ} {w st : List ℕ} {u won : �
             few = failed-few got v (answerOf got) refl f;
             begun = λ j. absurd (omega arith);
             won-later = λ j. omega arith;
-            left = rw (mk, hd) (sym (next ∙ caught t deep w (markOf st) u _ got st′ w′ is (answerOf got) refl keep _ _ v f ∙ rw (eq-eqb (kindOf t e) 13 (sym ke ∙ k13))) ∙ g .left);
+            left = rw (mk, ms, hd) (sym (next ∙ caught t deep w (standing st) u _ got st′ w′ is (answerOf got) refl keep _ _ v f ∙ rw (eq-eqb (kindOf t e) 13 (sym ke ∙ k13))) ∙ g .left);
           })
 
 -- running out of units is a cut-off
@@ -351,19 +352,19 @@ module _ {t w₀ st₀ : List ℕ} {e s deep : ℕ} {w st : List ℕ} {u won : �
           subject = rw (pe, node-packed c (u - n) less) (subst (λ k. k < markOf st) (node-packed c u (g .few)) (r .subject));
         }
 
-    pub ahead-gives : {got : ℕ} {st′ w′ : List ℕ} → n ≤ u → Gives (visit t (deep - n) (apply x (nodeIn p) (held st)) w (markOf st) (unitsIn p)) st got st′ w′
-        → Gives (visit t deep (apply (operandFor t e κ i) (nodeIn (packed c u)) (held st)) w (markOf st) (unitsIn (packed c u))) st got st′ w′
+    pub ahead-gives : {got : ℕ} {st′ w′ : List ℕ} → n ≤ u → Gives (visit t (deep - n) (apply x (nodeIn p) (held st)) w (standing st) (unitsIn p)) st got st′ w′
+        → Gives (visit t deep (apply (operandFor t e κ i) (nodeIn (packed c u)) (held st)) w (standing st) (unitsIn (packed c u))) st got st′ w′
     ahead-gives l o = record {
-      is = o .is ∙ rw (pe, node-packed c (u - n) less, units-packed c (u - n) less, node-packed c u (g .few), units-packed c u (g .few)) (sym (leads .is c (held st) w (markOf st) deep u (ahead .few) l));
+      is = o .is ∙ rw (pe, node-packed c (u - n) less, units-packed c (u - n) less, node-packed c u (g .few), units-packed c u (g .few)) (sym (leads .is c (held st) w (standing st) deep u (ahead .few) l));
       frame = o .frame;
     }
 
   -- the units are fewer than these visits
-  pub ahead-short : {r : ℕ} → u < n → r ≡ unitsWord → Gives (plan t deep (walked t w₀ e (nodeIn s) (held st₀)) w₀ (markOf st₀) (unitsIn s)) st₀ r st w
+  pub ahead-short : {r : ℕ} → u < n → r ≡ unitsWord → Gives (plan t deep (walked t w₀ e (nodeIn s) (held st₀)) w₀ (standing st₀) (unitsIn s)) st₀ r st w
   ahead-short {r} l re =
       let c = wordAt w (nodeIn s) (2 + i) in
-      let o : out r st w ≡ visit t deep (apply (operandFor t e κ i) (nodeIn (packed c u)) (held st)) w (markOf st) (unitsIn (packed c u))
-      = ap (λ r. out r st w) re ∙ out-units st w ∙ rw (node-packed c u (g .few), units-packed c u (g .few)) (sym (leads .short c (held st) w (markOf st) deep u (ahead .few) l)) in
+      let o : out r st w ≡ visit t deep (apply (operandFor t e κ i) (nodeIn (packed c u)) (held st)) w (standing st) (unitsIn (packed c u))
+      = ap (λ r. out r st w) re ∙ out-units st w ∙ rw (node-packed c u (g .few), units-packed c u (g .few)) (sym (leads .short c (held st) w (standing st) deep u (ahead .few) l)) in
       going-off ready same g h {x = operandFor t e κ i} {κ = κ} {c = c} {p = packed c u} refl κe refl refl (record { is = o; frame = framed-refl st }) {a = attemptOf (answerOf r)} refl (ap (λ r. attemptOf (answerOf r)) re ∙ units-off)
 
 -- the walk's end
@@ -382,37 +383,37 @@ module _ {t w₀ st₀ : List ℕ} {e s deep : ℕ} {w st : List ℕ} {u won : �
   all = omega (arith, g .so-far, g .within)
 
   -- a node of the children that are done
-  new-node : (b : Bindings ℕ) → (length (g .done) ≡ 0 → ⊥) → b ≡ held st → plan t deep (again (nodeIn s) (constructorOf w₀ (nodeIn s)) (g .done) b) w (markOf st) u ≡ noded made st w u
+  new-node : (b : Bindings ℕ) → (length (g .done) ≡ 0 → ⊥) → b ≡ held st → plan t deep (again (nodeIn s) (constructorOf w₀ (nodeIn s)) (g .done) b) w (standing st) u ≡ noded made st w u
   unfolding noded
   new-node b n be = rw (be, filled-row _ _ (g .done) made (g .made-is) all) (go (g .done) n)
     where
-      go : (gs : List ℕ) → (length gs ≡ 0 → ⊥) → plan t deep (again (nodeIn s) (constructorOf w₀ (nodeIn s)) gs (held st)) w (markOf st) u
-          ≡ roomFor (leb (rows w) (markOf st)) (leftWords w) u (ended (markOf st) (held st) (on (putRow w (markOf st) (row (constructorOf w₀ (nodeIn s)) gs)) (markOf st + 1)) u)
+      go : (gs : List ℕ) → (length gs ≡ 0 → ⊥) → plan t deep (again (nodeIn s) (constructorOf w₀ (nodeIn s)) gs (held st)) w (standing st) u
+          ≡ roomFor (leb (rows w) (markOf st)) (leftOf w (standing st)) u (ended (markOf st) (held st) (on (putRow w (markOf st) (row (constructorOf w₀ (nodeIn s)) gs)) (at (markOf st + 1) (missOf st))) u)
       go [] f = absurd (f refl)
-      go (x ∷ gs) f = made-anew t deep (nodeIn s) (constructorOf w₀ (nodeIn s)) x gs (held st) w (markOf st) u
+      go (x ∷ gs) f = made-anew t deep (nodeIn s) (constructorOf w₀ (nodeIn s)) x gs (held st) w (standing st) u
 
   -- nothing to do
-  no-child : length (g .done) ≡ 0 → plan t deep (again (nodeIn s) (constructorOf w₀ (nodeIn s)) (g .done) (held st)) w (markOf st) u ≡ ended (nodeIn s) (held st) (on w (markOf st)) (unitsIn s)
-  no-child z = go (g .done) z ∙ ap (ended (nodeIn s) (held st) (on w (markOf st))) (g .begun (sym (g .so-far) ∙ z))
+  no-child : length (g .done) ≡ 0 → plan t deep (again (nodeIn s) (constructorOf w₀ (nodeIn s)) (g .done) (held st)) w (standing st) u ≡ ended (nodeIn s) (held st) (on w (standing st)) (unitsIn s)
+  no-child z = go (g .done) z ∙ ap (ended (nodeIn s) (held st) (on w (standing st))) (g .begun (sym (g .so-far) ∙ z))
     where
-      go : (gs : List ℕ) → length gs ≡ 0 → plan t deep (again (nodeIn s) (constructorOf w₀ (nodeIn s)) gs (held st)) w (markOf st) u ≡ ended (nodeIn s) (held st) (on w (markOf st)) u
-      go [] f = itself t deep (nodeIn s) (constructorOf w₀ (nodeIn s)) (held st) w (markOf st) u
+      go : (gs : List ℕ) → length gs ≡ 0 → plan t deep (again (nodeIn s) (constructorOf w₀ (nodeIn s)) gs (held st)) w (standing st) u ≡ ended (nodeIn s) (held st) (on w (standing st)) u
+      go [] f = itself t deep (nodeIn s) (constructorOf w₀ (nodeIn s)) (held st) w (standing st) u
       go (x ∷ gs) f = absurd (omega arith)
 
-  finishes : (k n : ℕ) → k ≡ kindOf t e → n ≡ countOf w₀ (nodeIn s) → finished k won n s made st w u ≡ plan t deep (rest t w₀ e (nodeIn s) i won (g .done) (held st)) w (markOf st) u
+  finishes : (k n : ℕ) → k ≡ kindOf t e → n ≡ countOf w₀ (nodeIn s) → finished k won n s made st w u ≡ plan t deep (rest t w₀ e (nodeIn s) i won (g .done) (held st)) w (standing st) u
   unfolding finished when
-  finishes k n ke ne = sym (ap (λ p. plan t deep p w (markOf st) u) (rest-end t w₀ e (nodeIn s) same i won (g .done) (held st) h) ∙ rw (← ke) (go (eqb k 13) (eqb won 0) (eqb n 0) refl refl))
+  finishes k n ke ne = sym (ap (λ p. plan t deep p w (standing st) u) (rest-end t w₀ e (nodeIn s) same i won (g .done) (held st) h) ∙ rw (← ke) (go (eqb k 13) (eqb won 0) (eqb n 0) refl refl))
     where
       go : (z o m : Bool) → eqb won 0 ≡ o → eqb n 0 ≡ m
-          → plan t deep (if z then when (not o) (again (nodeIn s) (constructorOf w₀ (nodeIn s)) (g .done) (held st)) else again (nodeIn s) (constructorOf w₀ (nodeIn s)) (g .done) (held st)) w (markOf st) u
-          ≡ (if z then (if o then lost (leftWords w) u else noded made st w u) else if m then ended (nodeIn s) (held st) (on w (markOf st)) (unitsIn s) else noded made st w u)
-      go true true m a b = fails t deep w (markOf st) u
+          → plan t deep (if z then when (not o) (again (nodeIn s) (constructorOf w₀ (nodeIn s)) (g .done) (held st)) else again (nodeIn s) (constructorOf w₀ (nodeIn s)) (g .done) (held st)) w (standing st) u
+          ≡ (if z then (if o then lost (leftOf w (standing st)) u else noded made st w u) else if m then ended (nodeIn s) (held st) (on w (standing st)) (unitsIn s) else noded made st w u)
+      go true true m a b = fails t deep w (standing st) u
       go true false m a b = new-node (held st) (λ f. let l = g .won-later (eqb-false won 0 a) in omega (arith, g .so-far)) refl
       go false o true a b = no-child (all ∙ sym ne ∙ eqb-true n 0 b)
       go false o false a b = new-node (held st) (λ f. eqb-false n 0 b (ne ∙ sym all ∙ f)) refl
 
   pub going-ends : {k n r : ℕ} {st′ w′ : List ℕ} → k ≡ kindOf t e → n ≡ countOf w₀ (nodeIn s) → Gives (finished k won n s made st w u) st r st′ w′
-      → Gives (plan t deep (walked t w₀ e (nodeIn s) (held st₀)) w₀ (markOf st₀) (unitsIn s)) st₀ r st′ w′
+      → Gives (plan t deep (walked t w₀ e (nodeIn s) (held st₀)) w₀ (standing st₀) (unitsIn s)) st₀ r st′ w′
   going-ends {k} {n} {st′ = st′} ke ne f = record { is = f .is ∙ finishes k n ke ne ∙ g .left; frame = framed-trans st₀ st st′ (g .frame) (f .frame) }
 
 -- the words that `finish` is handed are the children that are made

@@ -14,9 +14,9 @@ use Rattle.meaning.specs.Table.{operands}
 use Rattle.meaning.specs.Rules.{Visit, apply, Do, does, walk, someOf, again, zip}
 use Rattle.meaning.specs.Limits.{units, nesting, ended, lost, cut}
 use Rattle.meaning.specs.Store.{children}
-use Rattle.leaves.specs.Noted.{on, Ran, leftWords}
+use Rattle.leaves.specs.Noted.{Standing, missedAt, on, Ran, leftOf}
 use Rattle.leaves.specs.Answers.{nodeIn, unitsIn}
-use Rattle.leaves.specs.Record.{recordLong, markOf, held}
+use Rattle.leaves.specs.Record.{recordLong, markOf, standing, held}
 use Rattle.leaves.specs.Visits.{countOf, agreeing, visit, plan, ruled, Entries, Steady, Gives, noded}
 
 -- a kind with no operand in a last position: neither SEQ, CHOICE, LEFT, REC nor CALL
@@ -25,19 +25,19 @@ pub record Last (k : ℕ) : Type 0 where
   pub outside : (k < 5) ⊎ (8 < k)
 
 -- entry q applied to node k fails after n visits, where units and nesting are enough for them, whatever the bindings and
--- the mark
-pub record Fails (t w : List ℕ) (q k n : ℕ) : Type 0 where
-  pub is : (b : Bindings ℕ) (m d u : ℕ) → n ≤ d → n ≤ u → visit t d (apply q k b) w m u ≡ lost (leftWords w) (u - n)
+-- the mark; a match gives up at the pattern p last
+pub record Fails (t w : List ℕ) (q k p n : ℕ) : Type 0 where
+  pub is : (b : Bindings ℕ) (m : Standing) (d u : ℕ) → n ≤ d → n ≤ u → visit t d (apply q k b) w m u ≡ lost (leftOf w (missedAt p m)) (u - n)
 
 -- applied to a node, entry x comes to entry y after n visits, where units and nesting are enough for them
 pub record Leads (t : List ℕ) (x y n : ℕ) : Type 0 where
-  pub is : (k : ℕ) (b : Bindings ℕ) (w : List ℕ) (m d u : ℕ) → n ≤ d → n ≤ u → visit t d (apply x k b) w m u ≡ visit t (d - n) (apply y k b) w m (u - n)
-  pub short : (k : ℕ) (b : Bindings ℕ) (w : List ℕ) (m d u : ℕ) → n ≤ d → u < n → visit t d (apply x k b) w m u ≡ cut units (leftWords w) 0
+  pub is : (k : ℕ) (b : Bindings ℕ) (w : List ℕ) (m : Standing) (d u : ℕ) → n ≤ d → n ≤ u → visit t d (apply x k b) w m u ≡ visit t (d - n) (apply y k b) w m (u - n)
+  pub short : (k : ℕ) (b : Bindings ℕ) (w : List ℕ) (m : Standing) (d u : ℕ) → n ≤ d → u < n → visit t d (apply x k b) w m u ≡ cut units (leftOf w m) 0
 
 -- entry x fails after n visits on each node whose constructor and count are not entry p's
 pub record Heads (t : List ℕ) (x p n : ℕ) : Type 0 where
   pub few : n ≤ 4
-  pub fails : (w : List ℕ) (k : ℕ) → agreeing t w p k ≡ false → Fails t w x k n
+  pub fails : (w : List ℕ) (k : ℕ) → agreeing t w p k ≡ false → Fails t w x k p n
 
 -- what words 4 and 5 tell of a first operand where they are no operands and word 5 is not 0: of CHOICE's and LEFT's at which
 -- pattern it fails and after how many visits, of ALL's and SOME's where a CALL and its REC lead
@@ -56,15 +56,15 @@ pub record Ready (t w st : List ℕ) (e g : ℕ) : Type 0 where
 
 -- entry e applied to the state g, and what follows its visit: r with the record and the store at return
 abbrev pub Applied : (t w st : List ℕ) (e g d r : ℕ) → (st′ w′ : List ℕ) → Type 0
-Applied t w st e g d r st′ w′ = Gives (visit t d (apply e (nodeIn g) (held st)) w (markOf st) (unitsIn g)) st r st′ w′
+Applied t w st e g d r st′ w′ = Gives (visit t d (apply e (nodeIn g) (held st)) w (standing st) (unitsIn g)) st r st′ w′
 
 abbrev pub Follows : (t w st : List ℕ) (e g d r : ℕ) → (st′ w′ : List ℕ) → Type 0
-Follows t w st e g d r st′ w′ = Gives (ruled t d e (nodeIn g) (held st) w (markOf st) (unitsIn g)) st r st′ w′
+Follows t w st e g d r st′ w′ = Gives (ruled t d e (nodeIn g) (held st) w (standing st) (unitsIn g)) st r st′ w′
 
--- a number of visits after which entry q fails on node k, or 0 where none is known
-pub record VisitsToFailure (t w : List ℕ) (q k most n : ℕ) : Type 0 where
+-- a number of visits after which entry q fails on node k, at the pattern p, or 0 where none is known
+pub record VisitsToFailure (t w : List ℕ) (q k p most n : ℕ) : Type 0 where
   pub few : n ≤ most
-  pub fails : (n ≡ 0 → ⊥) → Fails t w q k n
+  pub fails : (n ≡ 0 → ⊥) → Fails t w q k p n
 
 -- n visits, no more than the nesting d, that lead from the one operand of entry e to its word 4; 0 where none are known, and
 -- in CONG
@@ -96,10 +96,10 @@ walked t w e k b =
 
 -- what the child walker gives on the node of g
 abbrev pub Walks : (t w st : List ℕ) (e g d r : ℕ) → (st′ w′ : List ℕ) → Type 0
-Walks t w st e g d r st′ w′ = Gives (plan t d (walked t w e (nodeIn g) (held st)) w (markOf st) (unitsIn g)) st r st′ w′
+Walks t w st e g d r st′ w′ = Gives (plan t d (walked t w e (nodeIn g) (held st)) w (standing st) (unitsIn g)) st r st′ w′
 
 -- the walk's end: SOME needs a success, and a term without children is returned itself
 unfoldable pub finished : (k won n g : ℕ) → List ℕ → List ℕ → List ℕ → ℕ → Ran
 finished k won n g made st w u =
-    if eqb k 13 then (if eqb won 0 then lost (leftWords w) u else noded made st w u)
-    else if eqb n 0 then ended (nodeIn g) (held st) (on w (markOf st)) (unitsIn g) else noded made st w u
+    if eqb k 13 then (if eqb won 0 then lost (leftOf w (standing st)) u else noded made st w u)
+    else if eqb n 0 then ended (nodeIn g) (held st) (on w (standing st)) (unitsIn g) else noded made st w u

@@ -17,7 +17,7 @@ ghost use Rattle.cycle.specs.Cycle.{Hinted, VisitsToFailure};
 // to fail, or where units or nesting might end before.
 pub(crate) fn visits_to_failure(table: &[u32; 32768], store: &[u32], e: u32, s: u64, d: u32) -> u32
     requires { ⌜ Hinted (now table) × (e < 4096) × (wordAt (now table) e 4 < 4096) × ((kindOf (now table) e ≡ 5) ⊎ (kindOf (now table) e ≡ 6)) ⌝ }
-    ensures { λ r. ⌜ VisitsToFailure (now (table .entry)) (now (store .entry)) (wordAt (now (table .entry)) e 2) (nodeIn s) (min d (unitsIn s)) r ⌝ }
+    ensures { λ r. ⌜ VisitsToFailure (now (table .entry)) (now (store .entry)) (wordAt (now (table .entry)) e 2) (nodeIn s) (wordAt (now (table .entry)) e 4) (min d (unitsIn s)) r ⌝ }
 {
     let n = entry(table, e, HINT_VISITS);
     if n == 0 {

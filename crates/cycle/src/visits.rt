@@ -39,6 +39,7 @@ use leaves::reading::kind;
 use leaves::reading::row;
 use leaves::record::MARK;
 use leaves::record::MASK;
+use leaves::record::MISS;
 use leaves::record::RECORD;
 use leaves::record::hide;
 use leaves::record::put_back;
@@ -129,6 +130,7 @@ fn apply_loop(
                 let first = entry(table, e, 2);
                 let fails = visits_to_failure(table, store, e, s, d);
                 if fails != 0 {
+                    st[MISS] = entry(table, e, HINT_ENTRY);
                     s -= fails as u64;
                     e = entry(table, e, 3);
                     continue;

@@ -11,14 +11,14 @@ use denote.Enum.Declared.{tagOf}
 use Rattle.words.specs.Tests.{if_then_else_}
 use Rattle.meaning.specs.Bindings.{Bindings}
 use Rattle.meaning.specs.Limits.{Limit, units, room, nesting, unbound, ended, lost, cut}
-use Rattle.leaves.specs.Noted.{on, Ran, leftWords}
+use Rattle.leaves.specs.Noted.{Standing, on, Ran, leftOf}
 use Rattle.leaves.proofs.answers.Answer.{the-type}
 use Rattle.leaves.specs.declared.answers.Answer.{Answer}
 use Rattle.leaves.specs.declared.answers.Answer.the-variants.{Done, Failed, Cut}
 use Rattle.leaves.specs.declared.answers.Attempt.{Attempt}
 use Rattle.leaves.specs.declared.answers.Attempt.the-variants.{Ended, Cut as Off}
 use Rattle.leaves.specs.Answers.{packed, nodeIn, unitsIn, failedHalf, cutHalf, unitsHalf, roomHalf, nestingHalf, failedWord, unboundWord, unitsWord, roomWord, nestingWord, stoppedWord, answerOf, attemptOf}
-use Rattle.leaves.specs.Record.{markOf, held}
+use Rattle.leaves.specs.Record.{standing, held}
 use Rattle.leaves.specs.Visits.{limitOf, meaning, out, giving, kept}
 
 -- a node and units in a word
@@ -66,34 +66,34 @@ answer-stopped u l = go (eqb u 0) refl
 
 -- what an answer's word says with record and store
 module _ (st w : List ℕ) where
-  pub out-done : (x u : ℕ) → x < failedHalf → u < 4294967296 → out (packed x u) st w ≡ ended x (held st) (on w (markOf st)) u
+  pub out-done : (x u : ℕ) → x < failedHalf → u < 4294967296 → out (packed x u) st w ≡ ended x (held st) (on w (standing st)) u
   unfolding out meaning
   out-done x u h l = rw (answer-done x u h l)
 
-  pub out-failed : (u : ℕ) → u < 4294967296 → out (failedWord u) st w ≡ lost (leftWords w) u
+  pub out-failed : (u : ℕ) → u < 4294967296 → out (failedWord u) st w ≡ lost (leftOf w (standing st)) u
   unfolding out meaning
   out-failed u l = rw (answer-failed u l)
 
   -- the same by a word that is known, of a node in a store
-  pub gave : (r x u : ℕ) → r ≡ packed x u → x < 131072 → u < 4294967296 → out r st w ≡ ended x (held st) (on w (markOf st)) u
+  pub gave : (r x u : ℕ) → r ≡ packed x u → x < 131072 → u < 4294967296 → out r st w ≡ ended x (held st) (on w (standing st)) u
   gave r x u e h l = rw e (out-done x u (omega arith) l)
 
-  pub gave-failed : (r u : ℕ) → r ≡ failedWord u → u < 4294967296 → out r st w ≡ lost (leftWords w) u
+  pub gave-failed : (r u : ℕ) → r ≡ failedWord u → u < 4294967296 → out r st w ≡ lost (leftOf w (standing st)) u
   gave-failed r u e l = rw e (out-failed u l)
 
-  pub out-units : out unitsWord st w ≡ cut units (leftWords w) 0
+  pub out-units : out unitsWord st w ≡ cut units (leftOf w (standing st)) 0
   unfolding out meaning answerOf limitOf
   out-units = refl
 
-  pub out-room : (u : ℕ) → u < 4294967296 → out (roomWord u) st w ≡ cut room (leftWords w) u
+  pub out-room : (u : ℕ) → u < 4294967296 → out (roomWord u) st w ≡ cut room (leftOf w (standing st)) u
   unfolding out meaning limitOf
   out-room u l = rw (cut-packed roomHalf u (omega arith) l, node-packed roomHalf u l, units-packed roomHalf u l)
 
-  pub out-nesting : (u : ℕ) → u < 4294967296 → out (nestingWord u) st w ≡ cut nesting (leftWords w) u
+  pub out-nesting : (u : ℕ) → u < 4294967296 → out (nestingWord u) st w ≡ cut nesting (leftOf w (standing st)) u
   unfolding out meaning limitOf
   out-nesting u l = rw (cut-packed nestingHalf u (omega arith) l, node-packed nestingHalf u l, units-packed nestingHalf u l)
 
-  pub out-unbound : (v u : ℕ) → v < 64 → u < 4294967296 → out (unboundWord v u) st w ≡ cut (unbound v) (leftWords w) u
+  pub out-unbound : (v u : ℕ) → v < 64 → u < 4294967296 → out (unboundWord v u) st w ≡ cut (unbound v) (leftOf w (standing st)) u
   unfolding out meaning limitOf
   out-unbound v u h l =
       let m : (cutHalf + v) % 64 ≡ v = omega arith in
@@ -105,20 +105,20 @@ module _ (st w : List ℕ) where
   out-answer r a e = rw e
 
   -- where only the units count
-  module _ (k : ℕ) (b : Bindings ℕ) (m : ℕ) where
+  module _ (k : ℕ) (b : Bindings ℕ) (m : Standing) where
     pub kept-done : (x u : ℕ) → x < failedHalf → u < 4294967296 → kept (packed x u) k b w m ≡ ended k b (on w m) u
     unfolding kept giving
     kept-done x u h l = rw (answer-done x u h l)
 
-    pub kept-failed : (u : ℕ) → u < 4294967296 → kept (failedWord u) k b w m ≡ lost (leftWords w) u
+    pub kept-failed : (u : ℕ) → u < 4294967296 → kept (failedWord u) k b w m ≡ lost (leftOf w m) u
     unfolding kept giving
     kept-failed u l = rw (answer-failed u l)
 
-    pub kept-units : kept unitsWord k b w m ≡ cut units (leftWords w) 0
+    pub kept-units : kept unitsWord k b w m ≡ cut units (leftOf w m) 0
     unfolding kept giving answerOf limitOf
     kept-units = refl
 
-    pub kept-nesting : (u : ℕ) → u < 4294967296 → kept (nestingWord u) k b w m ≡ cut nesting (leftWords w) u
+    pub kept-nesting : (u : ℕ) → u < 4294967296 → kept (nestingWord u) k b w m ≡ cut nesting (leftOf w m) u
     unfolding kept giving limitOf
     kept-nesting u l = rw (cut-packed nestingHalf u (omega arith) l, node-packed nestingHalf u l, units-packed nestingHalf u l)
 

@@ -12,7 +12,7 @@ use Rattle.meaning.specs.Plan.{ret}
 use Rattle.meaning.specs.Rules.{compare, Do, does, comparing, agree, when, walk, zip}
 use Rattle.meaning.specs.Limits.{lost, runPlan}
 use Rattle.meaning.specs.Store.{children}
-use Rattle.leaves.specs.Noted.{on, Ran, leftWords}
+use Rattle.leaves.specs.Noted.{Standing, on, Ran, leftOf}
 use Rattle.leaves.specs.declared.answers.Answer.{Answer}
 use Rattle.leaves.specs.declared.answers.Answer.the-variants.{Done, Failed, Cut}
 use Rattle.leaves.specs.Answers.{answerOf, packed, failedWord}
@@ -28,11 +28,11 @@ abbrev pub pairs : List ℕ → ℕ → ℕ → ℕ → List ℕ → Bindings �
 pairs w a b i gs β = walk (zip compare (drop i (children w a)) (drop i (children w b))) gs β (λ ks b′. ret b b′)
 
 -- from the i-th pair on, after the pairs gs, all ends as o
-abbrev pub Goes-on : List ℕ → ℕ → List ℕ → ℕ → ℕ → ℕ → Bindings ℕ → ℕ → ℕ → Ran → Type 0
+abbrev pub Goes-on : List ℕ → ℕ → List ℕ → ℕ → ℕ → ℕ → Bindings ℕ → Standing → ℕ → Ran → Type 0
 Goes-on t n w a b i β m u o = (gs : List ℕ) × (plan t n (pairs w a b i gs β) w m u ≡ o)
 
 -- a word that answers o for the pair with the second node y answers o′ for that with b
-abbrev pub Carried : List ℕ → ℕ → ℕ → Bindings ℕ → ℕ → Ran → Ran → Type 0
+abbrev pub Carried : List ℕ → ℕ → ℕ → Bindings ℕ → Standing → Ran → Ran → Type 0
 Carried w y b β m o o′ = (r : ℕ) → kept r y β w m ≡ o → kept r b β w m ≡ o′
 
 module _ (w : List ℕ) (a b : ℕ) where
@@ -40,8 +40,8 @@ module _ (w : List ℕ) (a b : ℕ) where
   same-count : countOf w a ≡ countOf w b → length (children w a) ≡ length (children w b)
   same-count e = part-length w a (wordAt w a 1) ∙ e ∙ sym (part-length w b (wordAt w b 1))
 
-  module _ (t : List ℕ) (n : ℕ) (m u : ℕ) (β : Bindings ℕ) (h : u ≡ 0 → ⊥) (d : n ≡ 0 → ⊥) where
-    failed-word : (r : ℕ) → r ≡ failedWord (u - 1) → u < 4294967296 → kept r b β w m ≡ lost (leftWords w) (u - 1)
+  module _ (t : List ℕ) (n : ℕ) (m : Standing) (u : ℕ) (β : Bindings ℕ) (h : u ≡ 0 → ⊥) (d : n ≡ 0 → ⊥) where
+    failed-word : (r : ℕ) → r ≡ failedWord (u - 1) → u < 4294967296 → kept r b β w m ≡ lost (leftOf w m) (u - 1)
     failed-word r f l = ap (λ r. kept r b β w m) f ∙ kept-failed w w b β m (u - 1) (omega arith)
 
     opened : visit t n (compare a b β) w m u ≡ plan t (n - 1) (when (agree (wordAt w a 0) (children w a) (wordAt w b 0) (children w b)) (pairs w a b 0 [] β)) w m (u - 1)
@@ -65,7 +65,7 @@ module _ (w : List ℕ) (a b : ℕ) where
     unfolding agree when
     agreed c e = ([], sym (opened ∙ rw (eq-eqb _ _ c, eq-eqb _ _ (same-count e))))
 
-  module _ (t : List ℕ) (n i : ℕ) (β : Bindings ℕ) (m u : ℕ) {o : Ran} (g : Goes-on t n w a b i β m u o) where
+  module _ (t : List ℕ) (n i : ℕ) (β : Bindings ℕ) (m : Standing) (u : ℕ) {o : Ran} (g : Goes-on t n w a b i β m u o) where
     -- no pair is left
     pub compared : (r : ℕ) → r ≡ packed 0 u → u < 4294967296 → countOf w a ≤ i → kept r b β w m ≡ o
     unfolding zip
@@ -78,10 +78,10 @@ module _ (w : List ℕ) (a b : ℕ) where
       next = rw (xe, ye) (sym (rw (part-next w a _ i ha, part-next w b _ i hb)) ∙ g .1)
 
       pub pair-done : (z v : ℕ) → a′ ≡ Done z v → Goes-on t n w a b (i + 1) β m v o
-      pair-done z v e = (g .0 ++ (y ∷ []), sym (kept-on t n w m u (g .0) β _ (compare x y) _ r y β is a′ read z v e) ∙ next)
+      pair-done z v e = (g .0 ++ (y ∷ []), sym (kept-on t n w m u (g .0) β _ (compare x y) _ r y β m is a′ read z v e) ∙ next)
 
       pub pair-stops : Tagged a′ 1 2 → kept r b β w m ≡ o
-      pair-stops e = kept-stop t n w m u (g .0) β _ (compare x y) _ r y β is a′ read e b β ∙ next
+      pair-stops e = kept-stop t n w m u (g .0) β _ (compare x y) _ r y β m is a′ read e b β ∙ next
 
     -- the last pair: its answer is the answer of all
     module _ (ha : i + 1 ≡ countOf w a) (hb : i + 1 ≡ countOf w b) (x y : ℕ) (xe : x ≡ wordAt w a (2 + i)) (ye : y ≡ wordAt w b (2 + i)) where

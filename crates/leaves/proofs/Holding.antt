@@ -17,7 +17,7 @@ use Rattle.words.specs.Tests.{if_then_else_}
 use Rattle.words.proofs.Tests.{below-or-from}
 use Rattle.checks.specs.Kinds.{variables}
 use Rattle.meaning.specs.Bindings.{Bindings, bind, has, masked, unbound}
-use Rattle.leaves.specs.Record.{markAt, maskAt, first, recordLong, markOf, maskOf, wordOf, marking, masking, wording, bitOf, held, bound, without, putBack, back, Framed}
+use Rattle.leaves.specs.Record.{markAt, maskAt, missAt, first, recordLong, markOf, maskOf, missOf, wordOf, marking, masking, missing, wording, bitOf, held, bound, without, putBack, back, Framed}
 use Rattle.meaning.proofs.Bits.{bit-has, has-bit, no-bit-has, has-nothing, has-zero, has-suc, has-and, has-or, has-one, has-not}
 
 -- a mask without the variables of another
@@ -52,14 +52,32 @@ module _ (st : List ℕ) (x : ℕ) where
   mask-marking : maskOf (marking st x) ≡ maskOf st
   mask-marking = getD-set-other st markAt maskAt x 0 (λ e. omega arith)
 
+  pub miss-marking : missOf (marking st x) ≡ missOf st
+  miss-marking = getD-set-other st markAt missAt x 0 (λ e. omega arith)
+
   word-marking : (v : ℕ) → wordOf (marking st x) v ≡ wordOf st v
   word-marking v = getD-set-other st markAt (first + v) x 0 (λ e. omega arith)
 
   pub mark-masking : markOf (masking st x) ≡ markOf st
   mark-masking = getD-set-other st maskAt markAt x 0 (λ e. omega arith)
 
+  miss-masking : missOf (masking st x) ≡ missOf st
+  miss-masking = getD-set-other st maskAt missAt x 0 (λ e. omega arith)
+
   word-masking : (v : ℕ) → wordOf (masking st x) v ≡ wordOf st v
   word-masking v = getD-set-other st maskAt (first + v) x 0 (λ e. omega arith)
+
+  pub mark-missing : markOf (missing st x) ≡ markOf st
+  mark-missing = getD-set-other st missAt markAt x 0 (λ e. omega arith)
+
+  mask-missing : maskOf (missing st x) ≡ maskOf st
+  mask-missing = getD-set-other st missAt maskAt x 0 (λ e. omega arith)
+
+  word-missing : (v : ℕ) → wordOf (missing st x) v ≡ wordOf st v
+  word-missing v = getD-set-other st missAt (first + v) x 0 (λ e. omega arith)
+
+  miss-wording : (v : ℕ) → missOf (wording st v x) ≡ missOf st
+  miss-wording v = getD-set-other st (first + v) missAt x 0 (λ e. omega arith)
 
   mark-wording : (v : ℕ) → markOf (wording st v x) ≡ markOf st
   mark-wording v = getD-set-other st (first + v) markAt x 0 (λ e. omega arith)
@@ -77,6 +95,9 @@ module _ (st : List ℕ) (x : ℕ) where
 
     mask-masking : maskOf (masking st x) ≡ x
     mask-masking = getD-set-same st maskAt x 0 (omega arith)
+
+    pub miss-missing : missOf (missing st x) ≡ x
+    miss-missing = getD-set-same st missAt x 0 (omega arith)
 
     word-wording : (v : ℕ) → v < variables → wordOf (wording st v x) v ≡ x
     word-wording v l = getD-set-same st (first + v) x 0 (omega arith)
@@ -99,6 +120,14 @@ module _ (st : List ℕ) (x : ℕ) where
 
   pub framed-mark : Framed st (marking st x)
   framed-mark = record { long = length-set st markAt x; bound = λ v l h. rw (mask-marking st x) h; word = λ v l h. word-marking st x v }
+
+-- the miss set
+module _ (st : List ℕ) (x : ℕ) where
+  pub held-missing : held (missing st x) ≡ held st
+  held-missing = held-is (missing st x) (held st) (λ v l. rw (mask-missing st x, word-missing st x v) (sym (held-below st v l))) (λ v l. sym (held-above st v l))
+
+  pub framed-missing : Framed st (missing st x)
+  framed-missing = record { long = length-set st missAt x; bound = λ v l h. rw (mask-missing st x) h; word = λ v l h. word-missing st x v }
 
 -- the mask set
 module _ (st : List ℕ) (x : ℕ) (long : length st ≡ recordLong) where
@@ -127,6 +156,10 @@ module _ (st : List ℕ) (v t : ℕ) (small : v < variables) where
   pub mark-bound : markOf (bound st v t) ≡ markOf st
   unfolding bound
   mark-bound = mark-masking (wording st v t) (bitOr (maskOf st) (2 ^ v)) ∙ mark-wording st t v
+
+  pub miss-bound : missOf (bound st v t) ≡ missOf st
+  unfolding bound
+  miss-bound = miss-masking (wording st v t) (bitOr (maskOf st) (2 ^ v)) ∙ miss-wording st t v
 
   abbrev mask′ : ℕ
   mask′ = bitOr (maskOf st) (2 ^ v)
@@ -171,6 +204,10 @@ module _ (st st′ : List ℕ) (long : length st′ ≡ recordLong) where
   pub mark-back : markOf (back st st′) ≡ markOf st
   mark-back = mark-masking marked (maskOf st) ∙ mark-marking st′ (markOf st) long
 
+  -- what was noted since stays
+  pub miss-back : missOf (back st st′) ≡ missOf st′
+  miss-back = miss-masking marked (maskOf st) ∙ miss-marking st′ (markOf st)
+
   pub held-back : Framed st st′ → held (back st st′) ≡ held st
   held-back f = held-mask marked (maskOf st) long-marked (held st) (λ v l. at v l (has (maskOf st) v) refl ∙ sym (held-below st v l)) (λ v l. sym (held-above st v l))
     where
@@ -212,6 +249,9 @@ module _ (st : List ℕ) (m : ℕ) (long : length st ≡ recordLong) (small : m 
 
   pub mark-hidden : markOf (hidden st m) ≡ markOf st
   mark-hidden = mark-masking st (without (maskOf st) m)
+
+  pub miss-hidden : missOf (hidden st m) ≡ missOf st
+  miss-hidden = miss-masking st (without (maskOf st) m)
 
   pub held-hidden : held (hidden st m) ≡ masked m unbound (held st)
   unfolding masked
@@ -322,6 +362,9 @@ module _ (st : List ℕ) (m : ℕ) (st′ : List ℕ) (long : length st′ ≡ r
 
   pub mark-shown : markOf (shown st m st′) ≡ markOf st′
   mark-shown = mark-masking (restored st m st′) mask ∙ putBack-control st variables 0 (bitAnd (maskOf st) m) st′ markAt (omega arith)
+
+  pub miss-shown : missOf (shown st m st′) ≡ missOf st′
+  miss-shown = miss-masking (restored st m st′) mask ∙ putBack-control st variables 0 (bitAnd (maskOf st) m) st′ missAt (omega arith)
 
   pub held-shown : held (shown st m st′) ≡ masked m (held st) (held st′)
   unfolding masked

@@ -13,10 +13,10 @@ use Rattle.checks.specs.Good.{kindOf, operandCount, argumentOf, goodNode}
 use Rattle.meaning.specs.Bindings.{Bindings}
 use Rattle.meaning.specs.Table.{PVAR, PCON, operands, table}
 use Rattle.meaning.specs.Rules.{Visit, apply, build, does}
-use Rattle.meaning.specs.Derivation.{quiet}
-use Rattle.meaning.specs.Limits.{ended, lost, cut, run}
+use Rattle.meaning.specs.Derivation.{places}
+use Rattle.meaning.specs.Limits.{ended, lost, cut, at, run}
 use Rattle.meaning.specs.Store.{term, termOf, meant}
-use Rattle.leaves.specs.Noted.{on, stored, Ran}
+use Rattle.leaves.specs.Noted.{Standing, on, stored, Ran}
 use Rattle.meaning.specs.Demands.{Kept, Sound, Leaves}
 use Rattle.meaning.proofs.Alike.{Holdable, Makeable, ORel, o-none, o-some, BRel, QRel, q-apply, q-build}
 use Rattle.meaning.proofs.Checked.{Node, node-of-good, good-of-node, Filled}
@@ -26,7 +26,7 @@ use Rattle.meaning.proofs.Demand2.{alike-value}
 use Rattle.leaves.specs.declared.answers.Answer.{Answer}
 use Rattle.leaves.specs.declared.answers.Answer.the-variants.{Done, Failed, Cut}
 use Rattle.leaves.specs.Answers.{answerOf, nodeIn, unitsIn}
-use Rattle.leaves.specs.Record.{markOf, held}
+use Rattle.leaves.specs.Record.{markOf, standing, held}
 use Rattle.leaves.specs.Visits.{visit, meaning, out, Entries, Steady, Roomy}
 use Rattle.leaves.proofs.AnswerWords.{out-answer}
 
@@ -65,13 +65,13 @@ module _ {w : List ℕ} {m : ℕ} {b : Bindings ℕ} (s : Steady w m b) where
       go (some k) f = o-some (record { below = f k refl; is = refl })
 
   -- what a visit leaves: of an entry applied, and of a pattern built
-  pub apply-leaves : (t : List ℕ) → Entries t → (n e k u : ℕ) → k < m → Leaves w m (visit t n (apply e k b) w m u)
+  pub apply-leaves : (t : List ℕ) → Entries t → (n e k z u : ℕ) → k < m → Leaves w m (visit t n (apply e k b) w (at m z) u)
   unfolding visit
-  apply-leaves t n d e k u h = alike-value world (together (rows w) quiet (table t) (makeable t n) d world (apply e k b) (apply e (term w k) (meant w b)) tt u (q-apply (record { below = h; is = refl }) bound-names)) .1
+  apply-leaves t n d e k z u h = alike-value world (together (rows w) places (table t) (makeable t n) d world (apply e k b) (apply e (term w k) (meant w b)) z u (q-apply (record { below = h; is = refl }) bound-names)) .1
 
-  pub build-leaves : (t : List ℕ) → Entries t → (n p k u : ℕ) → k < m → Leaves w m (visit t n (build p k b) w m u)
+  pub build-leaves : (t : List ℕ) → Entries t → (n p k z u : ℕ) → k < m → Leaves w m (visit t n (build p k b) w (at m z) u)
   unfolding visit
-  build-leaves t n d p k u h = alike-value world (together (rows w) quiet (table t) (makeable t n) d world (build p k b) (build p (term w k) (meant w b)) tt u (q-build (record { below = h; is = refl }) bound-names)) .1
+  build-leaves t n d p k z u h = alike-value world (together (rows w) places (table t) (makeable t n) d world (build p k b) (build p (term w k) (meant w b)) z u (q-build (record { below = h; is = refl }) bound-names)) .1
 
   -- the store may change above the mark
   pub steady-kept : {w′ : List ℕ} → Kept w m w′ → Steady w′ m b
@@ -88,7 +88,7 @@ module _ {w : List ℕ} {m : ℕ} {b : Bindings ℕ} (s : Steady w m b) where
   roomy = record { nodes = s .nodes; small = s .small; fits = s .fits }
 
   -- after a success the new store is steady, and the new node lies in it
-  pub steady-after : (w′ : List ℕ) (m′ k v : ℕ) (b′ : Bindings ℕ) → Leaves w m (ended k b′ (on w′ m′) v) → Steady w′ m′ b′
+  pub steady-after : (w′ : List ℕ) (m′ : Standing) (k v : ℕ) (b′ : Bindings ℕ) → Leaves w m (ended k b′ (on w′ m′) v) → Steady w′ (m′ .mark) b′
   steady-after w′ m′ k v b′ l = record {
     nodes = ap (λ (n : ℕ). n % 8) (l .1 .long) ∙ s .nodes;
     small = rw (l .1 .long) (s .small);
@@ -107,7 +107,7 @@ module _ (w : List ℕ) (m : ℕ) (o : Ran) (l : Leaves w m o) (r : ℕ) (st w�
   leaves-answer : Leaves w m (meaning a st w′)
   leaves-answer = subst (Leaves w m) (sym is ∙ out-answer st w′ r a read) l
 
-  pub leaves-done : (x v : ℕ) → a ≡ Done x v → Leaves w m (ended x (held st) (on w′ (markOf st)) v)
+  pub leaves-done : (x v : ℕ) → a ≡ Done x v → Leaves w m (ended x (held st) (on w′ (standing st)) v)
   unfolding meaning
   leaves-done x v e = subst (λ a. Leaves w m (meaning a st w′)) e leaves-answer
 

@@ -10,32 +10,32 @@ use Rattle.meaning.specs.Bindings.{Bindings}
 use Rattle.meaning.specs.Table.{Strategy, ID, FAIL, TEST, NOT, SEQ, CHOICE, LEFT, REC, CALL, PATH, CONG, ALL, ONE, SOME, MATCH, BUILD, SCOPE, WHERE, Pattern, PVAR, PCON, table, byKind, operands}
 use Rattle.meaning.specs.Rules.{Visit, apply, match, build, Do, does, strategy, matching, building}
 use Rattle.meaning.specs.Limits.{units, nesting, ended, lost, cut, closed, run, runPlan}
-use Rattle.leaves.specs.Noted.{on, stored, Ran, leftWords}
+use Rattle.leaves.specs.Noted.{Standing, on, stored, Ran, leftOf}
 use Rattle.leaves.specs.Visits.{visit, plan, ruled}
 
--- a visit's end is noted, and the quiet ledger keeps nothing of it
-closed-quiet : (q : Visit ℕ) (r : Ran) → closed stored q r ≡ r
+-- a visit's end is noted, and no place comes of it
+closed-places : (q : Visit ℕ) (r : Ran) → closed stored q r ≡ r
 unfolding closed
-closed-quiet q (ended k b s u) = refl
-closed-quiet q (lost l u) = refl
-closed-quiet q (cut c l u) = refl
+closed-places q (ended k b s u) = refl
+closed-places q (lost l u) = refl
+closed-places q (cut c l u) = refl
 
-module _ (t : List ℕ) (n : ℕ) (q : Visit ℕ) (w : List ℕ) (m u : ℕ) where
+module _ (t : List ℕ) (n : ℕ) (q : Visit ℕ) (w : List ℕ) (m : Standing) (u : ℕ) where
   -- all units are used
-  pub no-units : u ≡ 0 → visit t n q w m u ≡ cut units (leftWords w) 0
+  pub no-units : u ≡ 0 → visit t n q w m u ≡ cut units (leftOf w m) 0
   unfolding visit run
   no-units e = rw e (go n)
     where
-      go : (n : ℕ) → run stored (does (table t)) n q (on w m) 0 ≡ cut units (leftWords w) 0
+      go : (n : ℕ) → run stored (does (table t)) n q (on w m) 0 ≡ cut units (leftOf w m) 0
       go zero = refl
       go (suc n) = refl
 
   -- the nesting would be exceeded
-  pub no-nesting : (u ≡ 0 → ⊥) → n ≡ 0 → visit t n q w m u ≡ cut nesting (leftWords w) u
+  pub no-nesting : (u ≡ 0 → ⊥) → n ≡ 0 → visit t n q w m u ≡ cut nesting (leftOf w m) u
   unfolding visit run
   no-nesting h e = rw e (go u h)
     where
-      go : (u : ℕ) → (u ≡ 0 → ⊥) → run stored (does (table t)) 0 q (on w m) u ≡ cut nesting (leftWords w) u
+      go : (u : ℕ) → (u ≡ 0 → ⊥) → run stored (does (table t)) 0 q (on w m) u ≡ cut nesting (leftOf w m) u
       go zero h = absurd (h refl)
       go (suc u) h = refl
 
@@ -50,7 +50,7 @@ module _ (t : List ℕ) (n : ℕ) (q : Visit ℕ) (w : List ℕ) (m u : ℕ) whe
       go (suc n) (suc u) h k =
           let a : suc n - 1 ≡ n = omega arith in
           let b : suc u - 1 ≡ u = omega arith in
-          rw (a, b) (closed-quiet q _)
+          rw (a, b) (closed-places q _)
 
 -- an entry's strategy and its pattern, by its kind
 module _ (t : List ℕ) (e : ℕ) where
@@ -67,9 +67,9 @@ module _ (t : List ℕ) (e : ℕ) where
   pattern-con h = ap (λ (k : ℕ). getD (PVAR (argumentOf t e) ∷ PCON (argumentOf t e) (operands t e) ∷ []) (k - 18) (PVAR 0)) h
 
 -- the rule of a visited entry
-pub rule-is : (t : List ℕ) (n e k : ℕ) (b : Bindings ℕ) (w : List ℕ) (m u : ℕ) (s : Strategy) → table t .strategies e ≡ s → ruled t n e k b w m u ≡ plan t n (strategy s k b) w m u
+pub rule-is : (t : List ℕ) (n e k : ℕ) (b : Bindings ℕ) (w : List ℕ) (m : Standing) (u : ℕ) (s : Strategy) → table t .strategies e ≡ s → ruled t n e k b w m u ≡ plan t n (strategy s k b) w m u
 rule-is t n e k b w m u s h = ap (λ s. plan t n (strategy s k b) w m u) h
 
-pub applied : (t : List ℕ) (n e k : ℕ) (b : Bindings ℕ) (w : List ℕ) (m u : ℕ) → (u ≡ 0 → ⊥) → (n ≡ 0 → ⊥) → visit t n (apply e k b) w m u ≡ ruled t (n - 1) e k b w m (u - 1)
+pub applied : (t : List ℕ) (n e k : ℕ) (b : Bindings ℕ) (w : List ℕ) (m : Standing) (u : ℕ) → (u ≡ 0 → ⊥) → (n ≡ 0 → ⊥) → visit t n (apply e k b) w m u ≡ ruled t (n - 1) e k b w m (u - 1)
 unfolding does
 applied t n e k b w m u h l = counted t n (apply e k b) w m u h l

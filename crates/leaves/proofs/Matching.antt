@@ -1,5 +1,5 @@
 -- MATCH over the store's words: a visit of a pattern by its kind, and the children of a PCON one at a time.
-use mathlib.Core.Path.{_≡_, refl, ap, sym, _∙_}
+use mathlib.Core.Path.{_≡_, refl, ap, sym, _∙_, subst}
 use mathlib.Core.Bool.{Bool, true, false}
 use mathlib.Core.Option.{none, some}
 use mathlib.Core.Logic.{⊎-elim, inl, inr}
@@ -16,22 +16,22 @@ use Rattle.meaning.specs.Bindings.{Bindings, bind}
 use Rattle.meaning.specs.Table.{table, operands}
 use Rattle.meaning.specs.Plan.{ret}
 use Rattle.meaning.specs.Rules.{Visit, match, compare, Do, does, matching, variable, agree, whenAt, walk, zip}
-use Rattle.meaning.specs.Limits.{units, nesting, ended, lost, runPlan}
+use Rattle.meaning.specs.Limits.{units, nesting, ended, lost, at, runPlan}
 use Rattle.meaning.specs.Store.{children}
-use Rattle.leaves.specs.Noted.{on, Ran, leftWords}
+use Rattle.leaves.specs.Noted.{Standing, missedAt, on, Ran, leftOf}
 use Rattle.leaves.specs.declared.answers.Answer.{Answer}
 use Rattle.leaves.specs.declared.answers.Answer.the-variants.{Done, Failed, Cut}
 use Rattle.leaves.specs.Answers.{answerOf, packed, nodeIn, unitsIn, failedWord, unitsWord, nestingWord, stoppedWord}
-use Rattle.leaves.specs.Record.{recordLong, wordOf, markOf, maskOf, bitOf, held, bound, Framed}
+use Rattle.leaves.specs.Record.{recordLong, wordOf, markOf, maskOf, missOf, standing, missing, givenUp, bitOf, held, bound, Framed}
 use Rattle.leaves.specs.Visits.{countOf, agreeing, visit, plan, meaning, out, giving, kept, Pattern, Entries, Matchable, Gives, MatchesChildren}
 use Rattle.leaves.proofs.AnswerWords.{stopped-units, stopped-nesting, answer-stopped, out-done, out-failed, out-answer, kept-done, kept-failed, kept-units, kept-nesting, kept-answer, node-packed, units-packed, packed-again, done-node}
-use Rattle.leaves.proofs.Asking.{Tagged, last-match}
+use Rattle.leaves.proofs.Asking.{Tagged, gives-up, last-match}
 use Rattle.leaves.proofs.Kind.{counted, no-units, no-nesting, pattern-variable, pattern-con}
 use Rattle.leaves.proofs.Keeping.{node-small}
 use Rattle.leaves.proofs.Limited.{units-out, nesting-out}
-use Rattle.leaves.proofs.Holding.{framed-refl, framed-trans, framed-bound, held-bound, mark-bound, held-some, held-none}
+use Rattle.leaves.proofs.Holding.{framed-refl, framed-trans, framed-bound, held-bound, mark-bound, miss-bound, mark-missing, miss-missing, framed-missing, held-some, held-none}
 use Rattle.leaves.proofs.Children.{part-next, part-end}
-use Rattle.leaves.proofs.Walking.{walk-end, walk-done, walk-failed, walk-cut, kept-on, kept-stop, returned, missing}
+use Rattle.leaves.proofs.Walking.{walk-end, walk-done, walk-failed, walk-cut, kept-on, kept-stop, returned, plan-missed}
 use Rattle.leaves.proofs.Patterns.{no-variable, operand-pattern, agree-is, agreed-count}
 
 -- the children of node k by the operands of entry p, from the i-th on
@@ -39,7 +39,7 @@ abbrev pub pairs : List ℕ → List ℕ → ℕ → ℕ → ℕ → List ℕ �
 pairs t w p k i gs b = walk (zip match (drop i (operands t p)) (drop i (children w k))) gs b (λ gs b′. ret k b′)
 
 -- a visit of the pattern q on node x
-module _ (t : List ℕ) (n q x : ℕ) (b : Bindings ℕ) (w : List ℕ) (m u : ℕ) (h : u ≡ 0 → ⊥) (d : n ≡ 0 → ⊥) where
+module _ (t : List ℕ) (n q x : ℕ) (b : Bindings ℕ) (w : List ℕ) (m : Standing) (u : ℕ) (h : u ≡ 0 → ⊥) (d : n ≡ 0 → ⊥) where
   opened : visit t n (match q x b) w m u ≡ plan t (n - 1) (matching q (table t .patterns q) x b) w m (u - 1)
   unfolding does
   opened = counted t n (match q x b) w m u h d
@@ -50,7 +50,7 @@ module _ (t : List ℕ) (n q x : ℕ) (b : Bindings ℕ) (w : List ℕ) (m u : �
     unfolding matching
     at-variable = opened ∙ rw (pattern-variable t q kind, ve)
 
-    pub variable-bound : (g : ℕ) → b v ≡ some g → visit t n (match q x b) w m u ≡ visit t (n - 1) (compare g x b) w m (u - 1)
+    pub variable-bound : (g : ℕ) → b v ≡ some g → visit t n (match q x b) w m u ≡ gives-up q (visit t (n - 1) (compare g x b) w m (u - 1))
     unfolding variable
     variable-bound g e = at-variable ∙ rw e (last-match t (n - 1) w m (u - 1) q (compare g x b))
 
@@ -67,9 +67,9 @@ module _ (t : List ℕ) (n q x : ℕ) (b : Bindings ℕ) (w : List ℕ) (m u : �
     at-constructor : (a : Bool) → agreeing t w q x ≡ a → visit t n (match q x b) w m u ≡ plan t (n - 1) (whenAt q a (pairs t w q x 0 [] b)) w m (u - 1)
     at-constructor a e = looked ∙ ap (λ a. plan t (n - 1) (whenAt q a (pairs t w q x 0 [] b)) w m (u - 1)) (agree-is t en w q x inside ∙ e)
 
-    pub differs : agreeing t w q x ≡ false → visit t n (match q x b) w m u ≡ lost (leftWords w) (u - 1)
+    pub differs : agreeing t w q x ≡ false → visit t n (match q x b) w m u ≡ lost (leftOf w (missedAt q m)) (u - 1)
     unfolding whenAt
-    differs e = at-constructor false e ∙ missing t (n - 1) w m (u - 1) q
+    differs e = at-constructor false e ∙ plan-missed t (n - 1) w m (u - 1) q
 
     pub agrees : agreeing t w q x ≡ true → visit t n (match q x b) w m u ≡ plan t (n - 1) (pairs t w q x 0 [] b) w m (u - 1)
     unfolding whenAt
@@ -79,10 +79,43 @@ module _ (t : List ℕ) (n q x : ℕ) (b : Bindings ℕ) (w : List ℕ) (m u : �
     unfolding zip
     agrees-leaf e z = agrees e ∙ walk-end t (n - 1) w m (u - 1) [] b _ _ (rw z) ∙ returned t (n - 1) w m (u - 1) x b
 
+-- the mark m with what the record notes
+abbrev pub stands : ℕ → List ℕ → Standing
+stands m st = at m (missOf st)
+
+-- a comparison's answer, and the answer of the match that asked for it: where it failed, the match gives up at q
+module _ (a : Answer) (st : List ℕ) (q : ℕ) where
+  framed-given-up : Framed st (givenUp a st q)
+  unfolding givenUp
+  framed-given-up = go a
+    where
+      go : (a : Answer) → Framed st (givenUp a st q)
+      go (Done x u) = framed-refl st
+      go (Failed u) = framed-missing st q
+      go (Cut c) = framed-refl st
+
+  mark-given-up : markOf (givenUp a st q) ≡ markOf st
+  unfolding givenUp
+  mark-given-up = go a
+    where
+      go : (a : Answer) → markOf (givenUp a st q) ≡ markOf st
+      go (Done x u) = refl
+      go (Failed u) = mark-missing st q
+      go (Cut c) = refl
+
+  giving-up : (x : ℕ) (w : List ℕ) (m : ℕ) → length st ≡ recordLong → giving a x (held (givenUp a st q)) w (stands m (givenUp a st q)) ≡ gives-up q (giving a x (held st) w (stands m st))
+  unfolding givenUp giving gives-up
+  giving-up x w m long = go a
+    where
+      go : (a : Answer) → giving a x (held (givenUp a st q)) w (stands m (givenUp a st q)) ≡ gives-up q (giving a x (held st) w (stands m st))
+      go (Done y u) = refl
+      go (Failed u) = rw (miss-missing st q long)
+      go (Cut c) = refl
+
 -- what holds before child i, with the record st and the units u, in what follows the visit of entry p on the node of g: the
 -- rest goes on to the whole, whatever the mark
 pub record Matched (t w : List ℕ) (n p g : ℕ) (b st : List ℕ) (u i : ℕ) : Type 0 where
-  pub goes-on : (m : ℕ) → (gs : List ℕ) × (plan t n (pairs t w p (nodeIn g) i gs (held st)) w m u ≡ plan t n (pairs t w p (nodeIn g) 0 [] (held b)) w m (unitsIn g))
+  pub goes-on : (m : ℕ) → (gs : List ℕ) × (plan t n (pairs t w p (nodeIn g) i gs (held st)) w (stands m st) u ≡ plan t n (pairs t w p (nodeIn g) 0 [] (held b)) w (stands m b) (unitsIn g))
   pub frame : Framed b st
   pub mark : markOf st ≡ markOf b
 
@@ -94,17 +127,17 @@ pub matched-at : (t w : List ℕ) (n p g : ℕ) (b st st′ : List ℕ) (u u′ 
 matched-at t w n p g b st st′ u u′ i e f l c = rw (e, f) (l, c)
 
 -- a word read as a success
-kept-is : (w : List ℕ) (r x : ℕ) (b : Bindings ℕ) (m : ℕ) (a : Answer) → a ≡ answerOf r → (y v : ℕ) → a ≡ Done y v → kept r x b w m ≡ ended x b (on w m) v
+kept-is : (w : List ℕ) (r x : ℕ) (b : Bindings ℕ) (m : Standing) (a : Answer) → a ≡ answerOf r → (y v : ℕ) → a ≡ Done y v → kept r x b w m ≡ ended x b (on w m) v
 unfolding giving
 kept-is w r x b m a e y v f = kept-answer w w x b m r a e ∙ rw f
 
 -- all children fit, and the word r says so
-matched-end : (t w : List ℕ) (n p g : ℕ) (b st : List ℕ) (u i r : ℕ) → Matched t w n p g b st u i → operandCount t p ≤ i → ((m : ℕ) → kept r (nodeIn g) (held st) w m ≡ ended (nodeIn g) (held st) (on w m) u) → MatchesChildren t w n p g b r st
+matched-end : (t w : List ℕ) (n p g : ℕ) (b st : List ℕ) (u i r : ℕ) → Matched t w n p g b st u i → operandCount t p ≤ i → ((m : ℕ) → kept r (nodeIn g) (held st) w (stands m st) ≡ ended (nodeIn g) (held st) (on w (stands m st)) u) → MatchesChildren t w n p g b r st
 unfolding zip
 matched-end t w n p g b st u i r c h e = record {
   is = λ m.
       e m
-      ∙ sym (walk-end t n w m u (c .goes-on m .0) (held st) _ _ (rw (part-end t p (operandCount t p) i (omega arith))) ∙ returned t n w m u (nodeIn g) (held st))
+      ∙ sym (walk-end t n w (stands m st) u (c .goes-on m .0) (held st) _ _ (rw (part-end t p (operandCount t p) i (omega arith))) ∙ returned t n w (stands m st) u (nodeIn g) (held st))
       ∙ c .goes-on m .1;
   frame = c .frame;
   mark = c .mark;
@@ -112,7 +145,7 @@ matched-end t w n p g b st u i r c h e = record {
 
 pub matched-all : (t w : List ℕ) (n p g : ℕ) (b st : List ℕ) (u i r : ℕ) → Matched t w n p g b st u i → operandCount t p ≤ i → r ≡ packed 0 u → u < 4294967296 → MatchesChildren t w n p g b r st
 matched-all t w n p g b st u i r c h e l =
-    matched-end t w n p g b st u i r c h (λ m. ap (λ r. kept r (nodeIn g) (held st) w m) e ∙ kept-done w w (nodeIn g) (held st) m 0 u (omega arith) l)
+    matched-end t w n p g b st u i r c h (λ m. ap (λ r. kept r (nodeIn g) (held st) w (stands m st)) e ∙ kept-done w w (nodeIn g) (held st) (stands m st) 0 u (omega arith) l)
 
 -- before child i: the operand q is next, on the child x
 pub record Turn (t w : List ℕ) (n p g : ℕ) (b st : List ℕ) (u i q x : ℕ) : Type 0 where
@@ -142,33 +175,33 @@ module _ {t w : List ℕ} {n p g : ℕ} {b st : List ℕ} {u i q x : ℕ} (c : T
   abbrev rest : List (Bindings ℕ → Visit ℕ)
   rest = zip match (drop (i + 1) (operands t p)) (drop (i + 1) (children w (nodeIn g)))
 
-  next : (m : ℕ) → plan t n (walk (match q x ∷ rest) (before m) (held st) (λ gs b′. ret (nodeIn g) b′)) w m u ≡ plan t n (pairs t w p (nodeIn g) 0 [] (held b)) w m (unitsIn g)
+  next : (m : ℕ) → plan t n (walk (match q x ∷ rest) (before m) (held st) (λ gs b′. ret (nodeIn g) b′)) w (stands m st) u ≡ plan t n (pairs t w p (nodeIn g) 0 [] (held b)) w (stands m b) (unitsIn g)
   unfolding zip
   next m =
       let e : operandCount t p ≡ countOf w (nodeIn g) = agreed-count t w p (nodeIn g) (c .agreed) in
       let f : operandCount t p ≤ 6 = c .entries .few p (c .inside) in
       let h : i < operandCount t p = c .below in
-      (λ k. plan t n (walk (match (c .operand k) (c .child k) ∷ rest) (before m) (held st) (λ gs b′. ret (nodeIn g) b′)) w m u)
+      (λ k. plan t n (walk (match (c .operand k) (c .child k) ∷ rest) (before m) (held st) (λ gs b′. ret (nodeIn g) b′)) w (stands m st) u)
       ∙ sym (rw (part-next t p (operandCount t p) i (omega arith), part-next w (nodeIn g) (wordAt w (nodeIn g) 1) i (omega arith)))
       ∙ c .so-far .goes-on m .1
 
-  -- its visit does not succeed, and the word r says so
-  from-here : (r : ℕ) → ((m : ℕ) → kept r (nodeIn g) (held st) w m ≡ plan t n (walk (match q x ∷ rest) (before m) (held st) (λ gs b′. ret (nodeIn g) b′)) w m u) → MatchesChildren t w n p g b r st
-  from-here r e = record { is = λ m. e m ∙ next m; frame = c .so-far .frame; mark = c .so-far .mark }
+  -- its visit does not succeed, and the word r says so, with the record st′
+  from-here : (r : ℕ) (st′ : List ℕ) → Framed st st′ → markOf st′ ≡ markOf st → ((m : ℕ) → kept r (nodeIn g) (held st′) w (stands m st′) ≡ plan t n (walk (match q x ∷ rest) (before m) (held st) (λ gs b′. ret (nodeIn g) b′)) w (stands m st) u) → MatchesChildren t w n p g b r st′
+  from-here r st′ f k e = record { is = λ m. e m ∙ next m; frame = framed-trans b st st′ (c .so-far .frame) f; mark = k ∙ c .so-far .mark }
 
   pub child-units : {r : ℕ} → r ≡ unitsWord → u ≡ 0 → MatchesChildren t w n p g b r st
   child-units {r} e z =
-      from-here r (λ m.
-      ap (λ r. kept r (nodeIn g) (held st) w m) e
-      ∙ kept-units w w (nodeIn g) (held st) m
-      ∙ sym (walk-cut t n w m u (before m) (held st) _ (match q x) rest 0 w units (no-units t n _ w m u z)))
+      from-here r st (framed-refl st) refl (λ m.
+      ap (λ r. kept r (nodeIn g) (held st) w (stands m st)) e
+      ∙ kept-units w w (nodeIn g) (held st) (stands m st)
+      ∙ sym (walk-cut t n w (stands m st) u (before m) (held st) _ (match q x) rest 0 w (stands m st) units (no-units t n _ w (stands m st) u z)))
 
   pub child-nesting : {r : ℕ} → r ≡ nestingWord u → (u ≡ 0 → ⊥) → n ≡ 0 → MatchesChildren t w n p g b r st
   child-nesting {r} e z d =
-      from-here r (λ m.
-      ap (λ r. kept r (nodeIn g) (held st) w m) e
-      ∙ kept-nesting w w (nodeIn g) (held st) m u (c .few)
-      ∙ sym (walk-cut t n w m u (before m) (held st) _ (match q x) rest u w nesting (no-nesting t n _ w m u z d)))
+      from-here r st (framed-refl st) refl (λ m.
+      ap (λ r. kept r (nodeIn g) (held st) w (stands m st)) e
+      ∙ kept-nesting w w (nodeIn g) (held st) (stands m st) u (c .few)
+      ∙ sym (walk-cut t n w (stands m st) u (before m) (held st) _ (match q x) rest u w (stands m st) nesting (no-nesting t n _ w (stands m st) u z d)))
 
   child-stopped : {r : ℕ} → r ≡ stoppedWord u → n ≡ 0 → MatchesChildren t w n p g b r st
   child-stopped {r} e d = go (eqb u 0) refl
@@ -182,32 +215,35 @@ module _ {t w : List ℕ} {n p g : ℕ} {b st : List ℕ} {u i q x : ℕ} (c : T
     less = let l : u < 4294967296 = c .few in omega arith
 
     -- it succeeds with the record st′
-    ended-by : (st′ : List ℕ) (v : ℕ) → Framed st st′ → markOf st′ ≡ markOf st → ((m : ℕ) → visit t n (match q x (held st)) w m u ≡ ended x (held st′) (on w m) v) → Matched t w n p g b st′ v (i + 1)
+    ended-by : (st′ : List ℕ) (v : ℕ) → Framed st st′ → markOf st′ ≡ markOf st → ((m : ℕ) → visit t n (match q x (held st)) w (stands m st) u ≡ ended x (held st′) (on w (stands m st′)) v) → Matched t w n p g b st′ v (i + 1)
     ended-by st′ v f k e = record {
-      goes-on = λ m. (before m ++ (x ∷ []), sym (walk-done t n w m u (before m) (held st) _ (match q x) rest x m v w (held st′) (e m)) ∙ next m);
+      goes-on = λ m. (before m ++ (x ∷ []), sym (walk-done t n w (stands m st) u (before m) (held st) _ (match q x) rest x (stands m st′) v w (held st′) (e m)) ∙ next m);
       frame = framed-trans b st st′ (c .so-far .frame) f;
       mark = k ∙ c .so-far .mark;
     }
 
     -- its answer's word r, read as a, with the record st′
-    module _ (r : ℕ) (st′ : List ℕ) (f : Framed st st′) (k : markOf st′ ≡ markOf st) (is : (m : ℕ) → kept r x (held st′) w m ≡ visit t n (match q x (held st)) w m u) (a : Answer) (read : a ≡ answerOf r) where
+    module _ (r : ℕ) (st′ : List ℕ) (f : Framed st st′) (k : markOf st′ ≡ markOf st) (is : (m : ℕ) → kept r x (held st′) w (stands m st′) ≡ visit t n (match q x (held st)) w (stands m st) u) (a : Answer) (read : a ≡ answerOf r) where
       answered : (y v : ℕ) → a ≡ Done y v → Matched t w n p g b st′ v (i + 1)
       answered y v e = record {
-        goes-on = λ m. (before m ++ (x ∷ []), sym (kept-on t n w m u (before m) (held st) _ (match q x) rest r x (held st′) (is m) a read y v e) ∙ next m);
+        goes-on = λ m. (before m ++ (x ∷ []), sym (kept-on t n w (stands m st) u (before m) (held st) _ (match q x) rest r x (held st′) (stands m st′) (is m) a read y v e) ∙ next m);
         frame = framed-trans b st st′ (c .so-far .frame) f;
         mark = k ∙ c .so-far .mark;
       }
+
+      -- the notes of a record c at return are those of st′
+      stopped-with : (c′ : List ℕ) → Framed st c′ → markOf c′ ≡ markOf st → missOf c′ ≡ missOf st′ → Tagged a 1 2 → MatchesChildren t w n p g b r c′
+      stopped-with c′ g′ k′ j e =
+          from-here r c′ g′ k′ (λ m.
+          ap (λ z. kept r (nodeIn g) (held c′) w (at m z)) j
+          ∙ kept-stop t n w (stands m st) u (before m) (held st) _ (match q x) rest r x (held st′) (stands m st′) (is m) a read e (nodeIn g) (held c′))
 
       stopped : Tagged a 1 2 → MatchesChildren t w n p g b r st′
-      stopped e = record {
-        is = λ m. kept-stop t n w m u (before m) (held st) _ (match q x) rest r x (held st′) (is m) a read e (nodeIn g) (held st′) ∙ next m;
-        frame = framed-trans b st st′ (c .so-far .frame) f;
-        mark = k ∙ c .so-far .mark;
-      }
+      stopped e = stopped-with st′ f k refl e
 
-      -- the same with the record as it was
-      refused : Tagged a 1 2 → MatchesChildren t w n p g b r st
-      refused e = from-here r (λ m. kept-stop t n w m u (before m) (held st) _ (match q x) rest r x (held st′) (is m) a read e (nodeIn g) (held st))
+      -- the same with the record as it was, but for the miss
+      refused : length st ≡ recordLong → Tagged a 1 2 → MatchesChildren t w n p g b r (missing st (missOf st′))
+      refused long e = stopped-with (missing st (missOf st′)) (framed-missing st (missOf st′)) (mark-missing st (missOf st′)) (miss-missing st (missOf st′) long) e
 
     -- a variable
     module _ {v : ℕ} (kind : kindOf t q ≡ 18) (ve : v ≡ argumentOf t q) where
@@ -215,31 +251,36 @@ module _ {t w : List ℕ} {n p g : ℕ} {b st : List ℕ} {u i q x : ℕ} (c : T
       free-matched long e s =
           let l : v < variables = variable-small kind ve in
           rw s (ended-by (bound st v x) (u - 1) (framed-bound st v x l long e) (mark-bound st v x l)
-          (λ m. variable-free t n q x (held st) w m u z d v kind ve (held-none st v e) ∙ rw (held-bound st v x l long)))
+          (λ m. variable-free t n q x (held st) w (stands m st) u z d v kind ve (held-none st v e) ∙ rw (held-bound st v x l long, miss-bound st v x l)))
 
       -- a bound one: the comparison's word r
-      module _ (e : bitOf (maskOf st) v ≡ 1) {y : ℕ} (ye : y ≡ wordOf st v) (r : ℕ) (is : (m : ℕ) → kept r x (held st) w m ≡ visit t (n - 1) (compare y x (held st)) w m (u - 1)) (a : Answer) (read : a ≡ answerOf r) where
-        compared : (m : ℕ) → kept r x (held st) w m ≡ visit t n (match q x (held st)) w m u
-        compared m = is m ∙ ap (λ y. visit t (n - 1) (compare y x (held st)) w m (u - 1)) ye ∙ sym (variable-bound t n q x (held st) w m u z d v kind ve (wordOf st v) (held-some st v (variable-small kind ve) e))
+      module _ (long : length st ≡ recordLong) (e : bitOf (maskOf st) v ≡ 1) {y : ℕ} (ye : y ≡ wordOf st v) (r : ℕ) (is : (m : Standing) → kept r x (held st) w m ≡ visit t (n - 1) (compare y x (held st)) w m (u - 1)) (a : Answer) (read : a ≡ answerOf r) where
+        compared : (m : ℕ) → kept r x (held (givenUp a st q)) w (stands m (givenUp a st q)) ≡ visit t n (match q x (held st)) w (stands m st) u
+        compared m =
+            kept-answer w w x (held (givenUp a st q)) (stands m (givenUp a st q)) r a read
+            ∙ giving-up a st q x w m long
+            ∙ ap (gives-up q) (sym (kept-answer w w x (held st) (stands m st) r a read) ∙ is (stands m st) ∙ ap (λ y. visit t (n - 1) (compare y x (held st)) w (stands m st) (u - 1)) ye)
+            ∙ sym (variable-bound t n q x (held st) w (stands m st) u z d v kind ve (wordOf st v) (held-some st v (variable-small kind ve) e))
 
         pub bound-matched : (j k : ℕ) → a ≡ Done j k → Matched t w n p g b st k (i + 1)
-        bound-matched j k f = answered r st (framed-refl st) refl compared a read j k f
+        unfolding givenUp
+        bound-matched j k f = subst (λ a. Matched t w n p g b (givenUp a st q) k (i + 1)) f (answered r (givenUp a st q) (framed-given-up a st q) (mark-given-up a st q) compared a read j k f)
 
-        pub bound-stops : Tagged a 1 2 → MatchesChildren t w n p g b r st
-        bound-stops f = stopped r st (framed-refl st) refl compared a read f
+        pub bound-stops : {st′ : List ℕ} → st′ ≡ givenUp (answerOf r) st q → Tagged a 1 2 → MatchesChildren t w n p g b r st′
+        bound-stops s f = rw (s ∙ ap (λ a. givenUp a st q) (sym read)) (stopped r (givenUp a st q) (framed-given-up a st q) (mark-given-up a st q) compared a read f)
 
     -- a constructor
     module _ (kind : kindOf t q ≡ 19) where
-      pub other : {r : ℕ} → r ≡ failedWord (u - 1) → agreeing t w q x ≡ false → MatchesChildren t w n p g b r st
-      other {r} e f =
-          from-here r (λ m.
-          ap (λ r. kept r (nodeIn g) (held st) w m) e
-          ∙ kept-failed w w (nodeIn g) (held st) m (u - 1) less
-          ∙ sym (walk-failed t n w m u (before m) (held st) _ (match q x) rest (u - 1) w (differs t n q x (held st) w m u z d (c .entries) (operand-is .0) kind f)))
+      pub other : {r : ℕ} → length st ≡ recordLong → r ≡ failedWord (u - 1) → agreeing t w q x ≡ false → MatchesChildren t w n p g b r (missing st q)
+      other {r} long e f =
+          from-here r (missing st q) (framed-missing st q) (mark-missing st q) (λ m.
+          ap (λ r. kept r (nodeIn g) (held (missing st q)) w (stands m (missing st q))) e
+          ∙ kept-failed w w (nodeIn g) (held (missing st q)) (stands m (missing st q)) (u - 1) less
+          ∙ rw (miss-missing st q long) (sym (walk-failed t n w (stands m st) u (before m) (held st) _ (match q x) rest (u - 1) w (missedAt q (stands m st)) (differs t n q x (held st) w (stands m st) u z d (c .entries) (operand-is .0) kind f))))
 
       module _ (e : agreeing t w q x ≡ true) where
         pub leaf-matched : operandCount t q ≡ 0 → Matched t w n p g b st (u - 1) (i + 1)
-        leaf-matched f = ended-by st (u - 1) (framed-refl st) refl (λ m. agrees-leaf t n q x (held st) w m u z d (c .entries) (operand-is .0) kind e f)
+        leaf-matched f = ended-by st (u - 1) (framed-refl st) refl (λ m. agrees-leaf t n q x (held st) w (stands m st) u z d (c .entries) (operand-is .0) kind e f)
 
         -- its own children: the word s is handed over
         module _ {s : ℕ} (se : s ≡ packed x (u - 1)) where
@@ -254,8 +295,8 @@ module _ {t w : List ℕ} {n p g : ℕ} {b st : List ℕ} {u i q x : ℕ} (c : T
 
           -- and the word r comes back
           module _ (r : ℕ) (st′ : List ℕ) (f : MatchesChildren t w (n - 1) q s st r st′) (a : Answer) (read : a ≡ answerOf r) where
-            child-matched : (m : ℕ) → kept r x (held st′) w m ≡ visit t n (match q x (held st)) w m u
-            child-matched m = (rw (node-handed, units-handed) at (f .is m)) ∙ sym (agrees t n q x (held st) w m u z d (c .entries) (operand-is .0) kind e)
+            child-matched : (m : ℕ) → kept r x (held st′) w (stands m st′) ≡ visit t n (match q x (held st)) w (stands m st) u
+            child-matched m = (rw (node-handed, units-handed) at (f .is m)) ∙ sym (agrees t n q x (held st) w (stands m st) u z d (c .entries) (operand-is .0) kind e)
 
             pub inner-matched : (y k : ℕ) → a ≡ Done y k → Matched t w n p g b st′ k (i + 1)
             inner-matched y k j = answered r st′ (f .frame) (f .mark) child-matched a read y k j
@@ -263,8 +304,8 @@ module _ {t w : List ℕ} {n p g : ℕ} {b st : List ℕ} {u i q x : ℕ} (c : T
             pub inner-stops : Tagged a 1 2 → MatchesChildren t w n p g b r st′
             inner-stops j = stopped r st′ (f .frame) (f .mark) child-matched a read j
 
-            pub inner-refused : Tagged a 1 2 → MatchesChildren t w n p g b r st
-            inner-refused j = refused r st′ (f .frame) (f .mark) child-matched a read j
+            pub inner-refused : length st ≡ recordLong → Tagged a 1 2 → MatchesChildren t w n p g b r (missing st (missOf st′))
+            inner-refused long j = refused r st′ (f .frame) (f .mark) child-matched a read long j
 
           -- the last child's: what answers them answers all
           pub last-fits : i + 1 ≡ operandCount t p → (r : ℕ) (st′ : List ℕ) → MatchesChildren t w (n - 1) q s st r st′ → MatchesChildren t w n p g b r st′
@@ -273,7 +314,7 @@ module _ {t w : List ℕ} {n p g : ℕ} {b st : List ℕ} {u i q x : ℕ} (c : T
               go : (a : Answer) → a ≡ answerOf r → MatchesChildren t w n p g b r st′
               go (Done y v) e =
                   matched-end t w n p g b st′ v (i + 1) r (inner-matched r st′ f (Done y v) e y v refl) (omega arith)
-                  (λ m. kept-is w r (nodeIn g) (held st′) m (Done y v) e y v refl)
+                  (λ m. kept-is w r (nodeIn g) (held st′) (stands m st′) (Done y v) e y v refl)
               go (Failed v) e = inner-stops r st′ f (Failed v) e (inl refl)
               go (Cut k) e = inner-stops r st′ f (Cut k) e (inr refl)
 
@@ -379,12 +420,12 @@ module _ {t w : List ℕ} {n₀ p₀ g₀ : ℕ} {b₀ : List ℕ} {n p k : ℕ}
         whole = λ r st′ f. c .whole r st′ (last-fits a z d kind e refl h r st′ f);
       }
 
--- an answer's word, read as a: with any record where it is no success
-out-kept : (st w : List ℕ) (r x : ℕ) (b : Bindings ℕ) (m : ℕ) (a : Answer) → a ≡ answerOf r → Tagged a 1 2 → out r st w ≡ kept r x b w m
+-- an answer's word, read as a: with any mark where it is no success
+out-kept : (st w : List ℕ) (r x : ℕ) (b : Bindings ℕ) (m : ℕ) (a : Answer) → a ≡ answerOf r → Tagged a 1 2 → out r st w ≡ kept r x b w (stands m st)
 unfolding meaning giving
-out-kept st w r x b m a e h = out-answer st w r a e ∙ go a h ∙ sym (kept-answer st w x b m r a e)
+out-kept st w r x b m a e h = out-answer st w r a e ∙ go a h ∙ sym (kept-answer st w x b (stands m st) r a e)
   where
-    go : (a : Answer) → Tagged a 1 2 → meaning a st w ≡ giving a x b w m
+    go : (a : Answer) → Tagged a 1 2 → meaning a st w ≡ giving a x b w (stands m st)
     go (Done y v) h = absurd (⊎-elim (λ z. omega arith) (λ z. omega arith) h)
     go (Failed v) h = refl
     go (Cut d) h = refl
@@ -392,27 +433,27 @@ out-kept st w r x b m a e h = out-answer st w r a e ∙ go a h ∙ sym (kept-ans
 -- the root: a visit of the pattern p on the node of g, with the record st
 module _ {t w st : List ℕ} {p g : ℕ} (c : Matchable t w st p g) (n : ℕ) where
   abbrev root : Ran
-  root = visit t n (match p (nodeIn g) (held st)) w (markOf st) (unitsIn g)
+  root = visit t n (match p (nodeIn g) (held st)) w (standing st) (unitsIn g)
 
   pub root-units : {r : ℕ} → r ≡ unitsWord → unitsIn g ≡ 0 → Gives root st r st w
-  root-units {r} e z = record { is = units-out t n _ w (markOf st) (unitsIn g) r st e z; frame = framed-refl st }
+  root-units {r} e z = record { is = units-out t n _ w (unitsIn g) r st e z; frame = framed-refl st }
 
   pub root-nesting : {r : ℕ} → r ≡ nestingWord (unitsIn g) → (unitsIn g ≡ 0 → ⊥) → n ≡ 0 → Gives root st r st w
-  root-nesting {r} e z d = record { is = nesting-out t n _ w (markOf st) (unitsIn g) r st e (omega arith) z d; frame = framed-refl st }
+  root-nesting {r} e z d = record { is = nesting-out t n _ w (unitsIn g) r st e (omega arith) z d; frame = framed-refl st }
 
   -- the root's node with the units v, and the record st′
-  ended-root : (r v : ℕ) (st′ : List ℕ) → r ≡ packed (nodeIn g) v → v < 4294967296 → markOf st′ ≡ markOf st → Framed st st′ → root ≡ ended (nodeIn g) (held st′) (on w (markOf st)) v → Gives root st r st′ w
+  ended-root : (r v : ℕ) (st′ : List ℕ) → r ≡ packed (nodeIn g) v → v < 4294967296 → markOf st′ ≡ markOf st → Framed st st′ → root ≡ ended (nodeIn g) (held st′) (on w (stands (markOf st) st′)) v → Gives root st r st′ w
   ended-root r v st′ e l k f o = record {
     is =
         ap (λ r. out r st′ w) e
         ∙ out-done st′ w (nodeIn g) v (omega (arith, node-small (c .steady) (nodeIn g) (c .subject))) l
-        ∙ ap (λ (m : ℕ). ended (nodeIn g) (held st′) (on w m) v) k
+        ∙ ap (λ (m : ℕ). ended (nodeIn g) (held st′) (on w (stands m st′)) v) k
         ∙ sym o;
     frame = f;
   }
 
   -- a word that is no success, whose units are the root's
-  stopped-root : (r : ℕ) (st′ : List ℕ) → Framed st st′ → (a : Answer) → a ≡ answerOf r → Tagged a 1 2 → kept r (nodeIn g) (held st′) w (markOf st) ≡ root → Gives root st r st′ w
+  stopped-root : (r : ℕ) (st′ : List ℕ) → Framed st st′ → (a : Answer) → a ≡ answerOf r → Tagged a 1 2 → kept r (nodeIn g) (held st′) w (stands (markOf st) st′) ≡ root → Gives root st r st′ w
   stopped-root r st′ f a e h o = record { is = out-kept st′ w r (nodeIn g) (held st′) (markOf st) a e h ∙ o; frame = f }
 
   module _ (z : unitsIn g ≡ 0 → ⊥) (d : n ≡ 0 → ⊥) where
@@ -434,46 +475,51 @@ module _ {t w st : List ℕ} {p g : ℕ} (c : Matchable t w st p g) (n : ℕ) wh
       pub root-free : {st′ : List ℕ} → (bitOf (maskOf st) v ≡ 1 → ⊥) → st′ ≡ bound st v (nodeIn g) → Gives root st (g - 1) st′ w
       root-free e s =
           rw s (ended-root (g - 1) (unitsIn g - 1) (bound st v (nodeIn g)) one-less (omega arith) (mark-bound st v (nodeIn g) root-small) (framed-bound st v (nodeIn g) root-small (c .long) e)
-          (variable-free t n p (nodeIn g) (held st) w (markOf st) (unitsIn g) z d v kind ve (held-none st v e) ∙ rw (held-bound st v (nodeIn g) root-small (c .long))))
+          (variable-free t n p (nodeIn g) (held st) w (standing st) (unitsIn g) z d v kind ve (held-none st v e) ∙ rw (held-bound st v (nodeIn g) root-small (c .long), miss-bound st v (nodeIn g) root-small)))
 
-      module _ (e : bitOf (maskOf st) v ≡ 1) {y : ℕ} (ye : y ≡ wordOf st v) (r : ℕ) (is : kept r (nodeIn g) (held st) w (markOf st) ≡ visit t (n - 1) (compare y (nodeIn g) (held st)) w (markOf st) (unitsIn g - 1)) (a : Answer) (read : a ≡ answerOf r) where
-        root-compared : kept r (nodeIn g) (held st) w (markOf st) ≡ root
-        root-compared = is ∙ ap (λ y. visit t (n - 1) (compare y (nodeIn g) (held st)) w (markOf st) (unitsIn g - 1)) ye ∙ sym (variable-bound t n p (nodeIn g) (held st) w (markOf st) (unitsIn g) z d v kind ve (wordOf st v) (held-some st v root-small e))
+      module _ (e : bitOf (maskOf st) v ≡ 1) {y : ℕ} (ye : y ≡ wordOf st v) (r : ℕ) (is : kept r (nodeIn g) (held st) w (standing st) ≡ visit t (n - 1) (compare y (nodeIn g) (held st)) w (standing st) (unitsIn g - 1)) (a : Answer) (read : a ≡ answerOf r) where
+        root-compared : kept r (nodeIn g) (held (givenUp a st p)) w (stands (markOf st) (givenUp a st p)) ≡ root
+        root-compared =
+            kept-answer w w (nodeIn g) (held (givenUp a st p)) (stands (markOf st) (givenUp a st p)) r a read
+            ∙ giving-up a st p (nodeIn g) w (markOf st) (c .long)
+            ∙ ap (gives-up p) (sym (kept-answer w w (nodeIn g) (held st) (standing st) r a read) ∙ is ∙ ap (λ y. visit t (n - 1) (compare y (nodeIn g) (held st)) w (standing st) (unitsIn g - 1)) ye)
+            ∙ sym (variable-bound t n p (nodeIn g) (held st) w (standing st) (unitsIn g) z d v kind ve (wordOf st v) (held-some st v root-small e))
 
-        pub root-bound-stops : Tagged a 1 2 → Gives root st r st w
-        root-bound-stops h = stopped-root r st (framed-refl st) a read h root-compared
+        pub root-bound-stops : {st′ : List ℕ} → st′ ≡ givenUp (answerOf r) st p → Tagged a 1 2 → Gives root st r st′ w
+        root-bound-stops s h = rw (s ∙ ap (λ a. givenUp a st p) (sym read)) (stopped-root r (givenUp a st p) (framed-given-up a st p) a read h root-compared)
 
         pub root-bound : (j k r′ : ℕ) → a ≡ Done j k → r′ ≡ packed (nodeIn g) k → Gives root st r′ st w
+        unfolding givenUp
         root-bound j k r′ f s =
             ended-root r′ k st s (omega (arith, done-node r j k (sym read ∙ f))) refl (framed-refl st)
-            (sym root-compared ∙ kept-is w r (nodeIn g) (held st) (markOf st) a read j k f)
+            (sym (subst (λ a. kept r (nodeIn g) (held (givenUp a st p)) w (stands (markOf st) (givenUp a st p)) ≡ root) f root-compared) ∙ kept-is w r (nodeIn g) (held st) (standing st) a read j k f)
 
     -- a constructor
     module _ (kind : kindOf t p ≡ 19) where
-      pub root-other : {r : ℕ} → r ≡ failedWord (unitsIn g - 1) → agreeing t w p (nodeIn g) ≡ false → Gives root st r st w
+      pub root-other : {r : ℕ} → r ≡ failedWord (unitsIn g - 1) → agreeing t w p (nodeIn g) ≡ false → Gives root st r (missing st p) w
       root-other {r} e f = record {
         is =
-            ap (λ r. out r st w) e
-            ∙ out-failed st w (unitsIn g - 1) (omega arith)
-            ∙ sym (differs t n p (nodeIn g) (held st) w (markOf st) (unitsIn g) z d (c .entries) (c .inside) kind f);
-        frame = framed-refl st;
+            ap (λ r. out r (missing st p) w) e
+            ∙ out-failed (missing st p) w (unitsIn g - 1) (omega arith)
+            ∙ rw (miss-missing st p (c .long)) (sym (differs t n p (nodeIn g) (held st) w (standing st) (unitsIn g) z d (c .entries) (c .inside) kind f));
+        frame = framed-missing st p;
       }
 
       module _ (e : agreeing t w p (nodeIn g) ≡ true) where
         pub root-leaf : operandCount t p ≡ 0 → Gives root st (g - 1) st w
         root-leaf f =
             ended-root (g - 1) (unitsIn g - 1) st one-less (omega arith) refl (framed-refl st)
-            (agrees-leaf t n p (nodeIn g) (held st) w (markOf st) (unitsIn g) z d (c .entries) (c .inside) kind e f)
+            (agrees-leaf t n p (nodeIn g) (held st) w (standing st) (unitsIn g) z d (c .entries) (c .inside) kind e f)
 
         pub root-handed : agreeing t w p (nodeIn (g - 1)) ≡ true
         root-handed = ap (λ x. agreeing t w p x) node-less ∙ e
 
         -- its children: the word r comes back, with the record st′
         module _ (r : ℕ) (st′ : List ℕ) (f : MatchesChildren t w (n - 1) p (g - 1) st r st′) (a : Answer) (read : a ≡ answerOf r) where
-          root-answered : kept r (nodeIn g) (held st′) w (markOf st) ≡ root
+          root-answered : kept r (nodeIn g) (held st′) w (stands (markOf st) st′) ≡ root
           root-answered =
               (rw (node-less, units-less) at (f .is (markOf st)))
-              ∙ sym (agrees t n p (nodeIn g) (held st) w (markOf st) (unitsIn g) z d (c .entries) (c .inside) kind e)
+              ∙ sym (agrees t n p (nodeIn g) (held st) w (standing st) (unitsIn g) z d (c .entries) (c .inside) kind e)
 
           pub root-stops : Tagged a 1 2 → Gives root st r st′ w
           root-stops h = stopped-root r st′ (f .frame) a read h root-answered
@@ -481,7 +527,7 @@ module _ {t w st : List ℕ} {p g : ℕ} (c : Matchable t w st p g) (n : ℕ) wh
           pub root-matched : (y k r′ : ℕ) → a ≡ Done y k → r′ ≡ packed (nodeIn g) k → Gives root st r′ st′ w
           root-matched y k r′ h s =
               ended-root r′ k st′ s (omega (arith, done-node r y k (sym read ∙ h))) (f .mark) (f .frame)
-              (sym root-answered ∙ kept-is w r (nodeIn g) (held st′) (markOf st) a read y k h)
+              (sym root-answered ∙ kept-is w r (nodeIn g) (held st′) (stands (markOf st) st′) a read y k h)
 
         -- no nesting is left for them
         pub root-stopped : (operandCount t p ≡ 0 → ⊥) → n ≡ 1 → {r : ℕ} → r ≡ stoppedWord (unitsIn g - 1) → Gives root st r st w

@@ -1,4 +1,4 @@
 pub mod Answers
-pub mod Record
 pub mod Noted
+pub mod Record
 pub mod Visits

@@ -1,28 +1,40 @@
--- The store of a run with what it notes on its way. Nothing is noted: the quiet ledger. What is said of a run elsewhere names
--- these, so that a run that notes something changes them here.
+-- The store of a run with what it notes on its way: the pattern at which a match gave up last. What is said of a run elsewhere names
+-- these, so that a run that notes something else changes them here.
 use mathlib.Core.List.{List}
 use Prim.Native.Nat.{ℕ}
 use Rattle.meaning.specs.Rules.{Visit}
-use Rattle.meaning.specs.Derivation.{quiet}
-use Rattle.meaning.specs.Limits.{Store}
+use Rattle.meaning.specs.Derivation.{places}
+use Rattle.meaning.specs.Limits.{Store, Counted, at}
 use Rattle.meaning.specs.Store as store
 
 -- the store's state, what a failure or a cut-off leaves of it, and how a run over it ends
 abbrev pub State : Type 0
-State = store.State (Unit {0})
+State = store.State ℕ
 
 abbrev pub Left : Type 0
-Left = store.Left (Unit {0})
+Left = store.Left ℕ
 
 abbrev pub Ran : Type 0
-Ran = store.Ran (Unit {0})
+Ran = store.Ran ℕ
 
--- the words w with the mark m; the words w that are left
-abbrev pub on : List ℕ → ℕ → State
-on w m = store.on w m tt
+-- what a run has beside the store's words: the mark, and the place that was noted last
+abbrev pub Standing : Type 0
+Standing = Counted ℕ
 
-abbrev pub leftWords : List ℕ → Left
-leftWords w = store.rest w tt
+-- the mark is back, and what was noted since stays
+abbrev pub backTo : Standing → Standing → Standing
+backTo m m′ = at (m .mark) (m′ .notes)
+
+-- a match gives up at the pattern p
+abbrev pub missedAt : ℕ → Standing → Standing
+missedAt p m = at (m .mark) p
+
+-- the words w with the mark and the notes m; what is left of them
+abbrev pub on : List ℕ → Standing → State
+on w m = store.on w (m .mark) (m .notes)
+
+abbrev pub leftOf : List ℕ → Standing → Left
+leftOf w m = store.rest w (m .notes)
 
 abbrev pub stored : Store ℕ (Visit ℕ) State Left
-stored = store.stored quiet
+stored = store.stored places

@@ -15,13 +15,13 @@ use Rattle.meaning.specs.Bindings.{Bindings}
 use Rattle.meaning.specs.Table.{table, operands}
 use Rattle.meaning.specs.Plan.{ret}
 use Rattle.meaning.specs.Rules.{Visit, build, compare, match, Do, does, strategy, walk, zip}
-use Rattle.meaning.specs.Limits.{Limit, units, room, nesting, unbound, ended, lost, cut, run, runPlan, roomFor}
+use Rattle.meaning.specs.Limits.{Limit, units, room, nesting, unbound, ended, lost, cut, at, run, runPlan, roomFor}
 use Rattle.meaning.specs.Store.{children}
-use Rattle.leaves.specs.Noted.{on, stored, Ran, leftWords}
+use Rattle.leaves.specs.Noted.{Standing, on, stored, Ran, leftOf}
 use Rattle.leaves.specs.declared.answers.Answer.{Answer}
 use Rattle.leaves.specs.declared.answers.Answer.the-variants.{Done, Failed, Cut}
 use Rattle.leaves.specs.Answers.{answerOf, nodeIn, unitsIn, unitsHalf, roomHalf}
-use Rattle.leaves.specs.Record.{recordLong, markOf, held, Framed}
+use Rattle.leaves.specs.Record.{recordLong, markOf, missOf, standing, held, Framed}
 
 -- a node's child count, read as at most 6; its eight words
 abbrev pub countOf : List ℕ → ℕ → ℕ
@@ -35,14 +35,14 @@ unfoldable pub agreeing : List ℕ → List ℕ → ℕ → ℕ → Bool
 agreeing t w p k = eqb (argumentOf t p) (wordAt w k 0) && eqb (operandCount t p) (countOf w k)
 
 -- a visit by the table t with nesting n; a plan whose visits have nesting n
-unfoldable pub visit : List ℕ → ℕ → Visit ℕ → List ℕ → ℕ → ℕ → Ran
+unfoldable pub visit : List ℕ → ℕ → Visit ℕ → List ℕ → Standing → ℕ → Ran
 visit t n q w m u = run stored (does (table t)) n q (on w m) u
 
-unfoldable pub plan : List ℕ → ℕ → Do ℕ → List ℕ → ℕ → ℕ → Ran
+unfoldable pub plan : List ℕ → ℕ → Do ℕ → List ℕ → Standing → ℕ → Ran
 plan t n p w m u = runPlan stored (run stored (does (table t)) n) p (on w m) u
 
 -- what follows the visit of entry e as a strategy
-abbrev pub ruled : List ℕ → ℕ → ℕ → ℕ → Bindings ℕ → List ℕ → ℕ → ℕ → Ran
+abbrev pub ruled : List ℕ → ℕ → ℕ → ℕ → Bindings ℕ → List ℕ → Standing → ℕ → Ran
 ruled t n e k b w m u = plan t n (strategy (table t .strategies e) k b) w m u
 
 -- what a cut-off's word names: the variable that has no binding, or the limit
@@ -55,25 +55,25 @@ limitOf c =
 
 -- an answer with the record and the store at its return
 unfoldable pub meaning : Answer → List ℕ → List ℕ → Ran
-meaning (Done x u) st w = ended x (held st) (on w (markOf st)) u
-meaning (Failed u) st w = lost (leftWords w) u
-meaning (Cut c) st w = cut (limitOf c) (leftWords w) (unitsIn c)
+meaning (Done x u) st w = ended x (held st) (on w (standing st)) u
+meaning (Failed u) st w = lost (leftOf w (standing st)) u
+meaning (Cut c) st w = cut (limitOf c) (leftOf w (standing st)) (unitsIn c)
 
 unfoldable pub out : ℕ → List ℕ → List ℕ → Ran
 out r st w = meaning (answerOf r) st w
 
 -- an answer of which only the units count: success gives the node k and the bindings b back, with nothing made
-unfoldable pub giving : Answer → ℕ → Bindings ℕ → List ℕ → ℕ → Ran
+unfoldable pub giving : Answer → ℕ → Bindings ℕ → List ℕ → Standing → Ran
 giving (Done x u) k b w m = ended k b (on w m) u
-giving (Failed u) k b w m = lost (leftWords w) u
-giving (Cut c) k b w m = cut (limitOf c) (leftWords w) (unitsIn c)
+giving (Failed u) k b w m = lost (leftOf w m) u
+giving (Cut c) k b w m = cut (limitOf c) (leftOf w m) (unitsIn c)
 
-unfoldable pub kept : ℕ → ℕ → Bindings ℕ → List ℕ → ℕ → Ran
+unfoldable pub kept : ℕ → ℕ → Bindings ℕ → List ℕ → Standing → Ran
 kept r k b w m = giving (answerOf r) k b w m
 
--- r answers the comparison of nodes a and b: by every table, whatever the bindings and the mark, which it leaves
+-- r answers the comparison of nodes a and b: by every table, whatever the bindings, the mark and the notes, which it leaves
 abbrev pub Compares : (w : List ℕ) (a b u d r : ℕ) → Type 0
-Compares w a b u d r = (t : List ℕ) (β : Bindings ℕ) (m : ℕ) → kept r b β w m ≡ visit t d (compare a b β) w m u
+Compares w a b u d r = (t : List ℕ) (β : Bindings ℕ) (m : Standing) → kept r b β w m ≡ visit t d (compare a b β) w m u
 
 -- entry p is a pattern
 abbrev pub Pattern : List ℕ → ℕ → Type 0
@@ -123,11 +123,11 @@ abbrev pub Buildable : (t w st : List ℕ) (p : ℕ) → Type 0
 Buildable t w st p = Entries t × (p < 4096) × Pattern t p × Steady w (markOf st) (held st) × (length st ≡ recordLong)
 
 abbrev pub Builds : (t w st : List ℕ) (p u d r : ℕ) → (st′ w′ : List ℕ) → Type 0
-Builds t w st p u d r st′ w′ = (k : ℕ) → Gives (visit t d (build p k (held st)) w (markOf st) u) st r st′ w′
+Builds t w st p u d r st′ w′ = (k : ℕ) → Gives (visit t d (build p k (held st)) w (standing st) u) st r st′ w′
 
 -- MATCH of entry p gives r with the record st′
 abbrev pub Matches : (t w st : List ℕ) (p g d r : ℕ) (st′ : List ℕ) → Type 0
-Matches t w st p g d r st′ = Gives (visit t d (match p (nodeIn g) (held st)) w (markOf st) (unitsIn g)) st r st′ w
+Matches t w st p g d r st′ = Gives (visit t d (match p (nodeIn g) (held st)) w (standing st) (unitsIn g)) st r st′ w
 
 -- entry p is a PCON whose constructor and count are the node's, and nesting is left for its children
 abbrev pub Agreed : (t w : List ℕ) (p g d : ℕ) → Type 0
@@ -136,10 +136,10 @@ Agreed t w p g d = Entries t × (p < 4096) × (kindOf t p ≡ 19) × (agreeing t
 -- what follows a MATCH of entry p on node k, whose constructor and count agree, whatever the mark: the record is b before
 -- and c after, and its mark is as it was
 pub record MatchesChildren (t w : List ℕ) (n p g : ℕ) (b : List ℕ) (r : ℕ) (c : List ℕ) : Type 0 where
-  pub is : (m : ℕ) → kept r (nodeIn g) (held c) w m ≡ plan t n (walk (zip match (operands t p) (children w (nodeIn g))) [] (held b) (λ gs b′. ret (nodeIn g) b′)) w m (unitsIn g)
+  pub is : (m : ℕ) → kept r (nodeIn g) (held c) w (at m (missOf c)) ≡ plan t n (walk (zip match (operands t p) (children w (nodeIn g))) [] (held b) (λ gs b′. ret (nodeIn g) b′)) w (at m (missOf b)) (unitsIn g)
   pub frame : Framed b c
   pub mark : markOf c ≡ markOf b
 
 -- a new node of these eight words
 unfoldable pub noded : List ℕ → List ℕ → List ℕ → ℕ → Ran
-noded made st w u = roomFor (leb (rows w) (markOf st)) (leftWords w) u (ended (markOf st) (held st) (on (putRow w (markOf st) made) (markOf st + 1)) u)
+noded made st w u = roomFor (leb (rows w) (markOf st)) (leftOf w (standing st)) u (ended (markOf st) (held st) (on (putRow w (markOf st) made) (at (markOf st + 1) (missOf st))) u)

@@ -15,9 +15,11 @@ use crate::reading::kind;
 use crate::reading::operands;
 use crate::record::Bindings;
 use crate::record::MASK;
+use crate::record::MISS;
 use crate::record::RECORD;
 use crate::record::bind;
 use crate::record::bit;
+use crate::record::give_up;
 use crate::record::put_variable;
 use crate::record::word_of;
 use checks::kinds::PVAR;
@@ -66,6 +68,7 @@ fn match_children(
             if bit(words[MASK], v) == 1 {
                 let got = same(store, word_of(&words, v), c, left, deep - 1);
                 let Answer::Done(_, rest) = answer_of(got) else {
+                    give_up(&mut words, q, got);
                     return MatchedChildren {
                         got,
                         binds: Bindings { words },
@@ -77,6 +80,7 @@ fn match_children(
             }
         } else {
             if !agree(table, store, q, c) {
+                words[MISS] = q;
                 return MatchedChildren {
                     got: failure(left),
                     binds: Bindings { words },
@@ -148,6 +152,7 @@ fn match_in_place(
                 let words = store;
                 let got = same(words, word_of(st, v), c, left, d - 1);
                 let Answer::Done(_, rest) = answer_of(got) else {
+                    give_up(st, q, got);
                     return got;
                 };
                 left = rest;
@@ -156,6 +161,7 @@ fn match_in_place(
             }
         } else {
             if !agree(table, store, q, c) {
+                st[MISS] = q;
                 return failure(left);
             }
             let m = operands(table, q);
@@ -180,12 +186,13 @@ fn match_in_place(
                         d - 1,
                     );
                     let got = f.got;
+                    let b = f.binds;
+                    let w = b.words;
                     let Answer::Done(_, rest) = answer_of(got) else {
+                        st[MISS] = w[MISS];
                         return got;
                     };
                     left = rest;
-                    let b = f.binds;
-                    let w = b.words;
                     *st = w;
                 }
             }
@@ -220,6 +227,7 @@ pub fn match_node(
             let words = store;
             let got = same(words, word_of(st, v), t, left - 1, deep - 1);
             let Answer::Done(_, rest) = answer_of(got) else {
+                give_up(st, p, got);
                 return got;
             };
             return done(t, rest);
@@ -230,6 +238,7 @@ pub fn match_node(
         return s - 1;
     }
     if !agree(table, store, p, t) {
+        st[MISS] = p;
         return failure(left - 1);
     }
     if operands(table, p) == 0 {

@@ -1,17 +1,22 @@
-// The run's one record: control words, and then a node for each variable. The control words are the mark and the mask of the
-// variables that are bound. The word of an unbound variable means nothing.
+// The run's one record: control words, and then a node for each variable. The control words are the mark, the mask of the
+// variables that are bound, and the pattern at which a match gave up last. The word of an unbound variable means nothing.
+use crate::answers::Answer;
+use crate::answers::answer_of;
 ghost use mathlib.Core.Path.{_≡_};
 ghost use Prim.Native.Nat.{_<_};
 ghost use Rattle.checks.specs.Kinds.{variables};
-ghost use Rattle.leaves.specs.Record.{wordOf, bitOf, bound, without, putBack, marking, masking};
+ghost use Rattle.leaves.specs.Answers.{answerOf};
+ghost use Rattle.leaves.specs.Record.{wordOf, bitOf, bound, givenUp, without, putBack, marking, masking};
 
 // The control words.
 pub const MARK: usize = 0;
 
 pub const MASK: usize = 1;
 
+pub const MISS: usize = 2;
+
 // Where the words of the variables begin, how many variables there are, and the record's words in all.
-pub const FIRST: usize = 2;
+pub const FIRST: usize = 3;
 
 pub const VARIABLES: usize = 32;
 
@@ -65,7 +70,17 @@ pub(crate) fn put_variable(st: &mut [u32; RECORD], v: u32, t: u32)
     st[MASK] = st[MASK] | (1 << v);
 }
 
-// Puts mark and mask back: a failure leaves no node and no binding.
+// Where a comparison failed, by its answer's word, the match gives up at the pattern p. A cut-off is no failure.
+pub(crate) fn give_up(st: &mut [u32; RECORD], p: u32, got: u64)
+    ensures { λ _. ⌜ now (st .exit) ≡ givenUp (answerOf got) (now (st .entry)) p ⌝ }
+{
+    let Answer::Failed(_) = answer_of(got) else {
+        return;
+    };
+    st[MISS] = p;
+}
+
+// Puts mark and mask back: a failure leaves no node and no binding. Where a match gave up stays.
 pub fn restore(st: &mut [u32; RECORD], mark: u32, mask: u32)
     ensures { λ _. ⌜ now (st .exit) ≡ masking (marking (now (st .entry)) mark) mask ⌝ }
 {

@@ -74,7 +74,7 @@ module _ {t c : List ℕ} (ch : tableChecked t ≡ checked 0 0) (l : Loaded t c)
   first-inside e i = rw (first-same e) (entries-loaded ch l .operand e 0 i (omega arith))
 
   -- where constructor and count differ, a strategy fails in the visit of the PCON that it begins with
-  head-fails : {p q n : ℕ} → HasHead t p q n → q < 4096 → (w : List ℕ) (k : ℕ) → agreeing c w p k ≡ false → VisitsToFailure c w q k n n
+  head-fails : {p q n : ℕ} → HasHead t p q n → q < 4096 → (w : List ℕ) (k : ℕ) → agreeing c w p k ≡ false → VisitsToFailure c w q k p n n
   head-fails {p} (MATCH q h e g) i w k a =
       match-fails (entries-loaded ch l) i (kind-same l q ∙ h) (e ∙ first-same q) (kind-same l p ∙ g) a
   head-fails (SEQ q n h b) i w k a =

@@ -25,12 +25,12 @@ use Rattle.meaning.specs.Free.{Closed}
 use Rattle.meaning.specs.Term.{Term}
 use Rattle.meaning.specs.Table.{SEQ, Table, table}
 use Rattle.meaning.specs.Rules.{Visit, apply}
-use Rattle.meaning.specs.Derivation.{Out, quiet}
-use Rattle.meaning.specs.System.{Env, _∶_is_, _⊢_⇒_}
+use Rattle.meaning.specs.Derivation.{Out, failed, fails, quiet, places, nowhere, shut, noted, misses, lastOf}
+use Rattle.meaning.specs.System.{Env, _∶_is_, _⊢_⇒_, trace}
 use Rattle.meaning.specs.Limits.{Limit, units, room, nesting, unbound as without-binding, ended, lost, cut, at as counted-at}
 use Rattle.meaning.specs.Store.{Input, Accepted, Kept, Sound, Leaves, named, bindings, term, termOf, meant, value, ran}
 use Rattle.meaning.specs.Answer.{Returned, number, placeOf, bindingWord, bindingWords, returned}
-use Rattle.meaning.specs.Demands.{Says, limits, startVisit, Agreed, started}
+use Rattle.meaning.specs.Demands.{Says, limits, startVisit, unnoted, Agreed, started}
 use Rattle.meaning.proofs.Tests.{impossible}
 use Rattle.meaning.proofs.Checked.{Filled, node-of-good}
 use Rattle.meaning.proofs.Words.{kept-refl, kept-trans, kept-term}
@@ -70,7 +70,7 @@ agreeing i o o′ s s′ b b′ p q =
 
 module _ (i : Input) where
   -- the run of an accepted input
-  pub runs : Accepted i → runOf i ≡ returned i (ran quiet tt i)
+  pub runs : Accepted i → runOf i ≡ returned i (ran places nowhere i)
   unfolding runWith
   runs a = rw (accepted-back (i .table) (i .store) (i .bindings) (i .mark) (i .start) (i .subject) (i .units) a)
 
@@ -129,7 +129,7 @@ refusal-not-three n of-start e = omega arith
 
 module _ (i : Input) (o : Outcome) (s b : List ℕ) (p : Runs i o s b) where
   -- what comes back from a run, and from a refusal
-  pub came : Accepted i → atReturn o s b ≡ returned i (ran quiet tt i)
+  pub came : Accepted i → atReturn o s b ≡ returned i (ran places nowhere i)
   came a = p ∙ runs i a
 
   refused-came : eqb (verdict i .answer) 0 ≡ false → atReturn o s b ≡ refusing i (verdict i)
@@ -139,13 +139,13 @@ module _ (i : Input) (o : Outcome) (s b : List ℕ) (p : Runs i o s b) where
   answer-of e = ap (λ (r : Returned). r .answer) e
 
   ran-answer : Accepted i → OfRun (o .answer)
-  ran-answer a = subst OfRun (sym (answer-of (came a))) (of-run i (ran quiet tt i))
+  ran-answer a = subst OfRun (sym (answer-of (came a))) (of-run i (ran places nowhere i))
 
   refused-answer : eqb (verdict i .answer) 0 ≡ false → Refusal (o .answer)
   refused-answer e = subst Refusal (sym (answer-of (refused-came e))) (accepting.verdict-refusal i e)
 
   listed : InList (o .answer)
-  listed = ⊎-elim (λ a. subst InList (sym (answer-of (came a))) (listed-ran i (ran quiet tt i))) (λ e. when-refused (o .answer) (refused-answer e)) (judged i)
+  listed = ⊎-elim (λ a. subst InList (sym (answer-of (came a))) (listed-ran i (ran places nowhere i))) (λ e. when-refused (o .answer) (refused-answer e)) (judged i)
 
   malformed : Refusal (o .answer) ↔ (Accepted i → ⊥)
   malformed = (
@@ -157,15 +157,15 @@ module _ (i : Input) (o : Outcome) (s b : List ℕ) (p : Runs i o s b) where
   not-three h =
       ⊎-elim (λ a. not-of-run (o .answer) (omega arith) (inl (omega arith)) (ran-answer a)) (λ e. refusal-not-three (o .answer) (refused-answer e) h) (judged i)
 
--- a run's own answers below 12 have place 0
-ran-place : (i : Input) (r : Ran) → returned i r .answer < 12 → returned i r .place ≡ 0
+-- a run's own answers below 12 but 1 have place 0
+ran-place : (i : Input) (r : Ran) → returned i r .answer ≢ 1 → returned i r .answer < 12 → returned i r .place ≡ 0
 unfolding returned number placeOf
-ran-place i (ended k b s u) l = refl
-ran-place i (lost w u) l = refl
-ran-place i (cut units w u) l = refl
-ran-place i (cut room w u) l = refl
-ran-place i (cut nesting w u) l = refl
-ran-place i (cut (without-binding v) w u) l = absurd (omega arith)
+ran-place i (ended k b s u) n l = refl
+ran-place i (lost w u) n l = absurd (n refl)
+ran-place i (cut units w u) n l = refl
+ran-place i (cut room w u) n l = refl
+ran-place i (cut nesting w u) n l = refl
+ran-place i (cut (without-binding v) w u) n l = absurd (omega arith)
 
 module _ (i : Input) (o : Outcome) (s b : List ℕ) (p : Runs i o s b) where
   -- a refusal's answer and place are the verdict's
@@ -198,9 +198,9 @@ module _ (i : Input) (o : Outcome) (s b : List ℕ) (p : Runs i o s b) where
     λ f. by-verdict 5 0 (omega arith) (inl (omega arith)) .1 (accepting.plain-start i 0 .1 (f .0, (f .1, (f .2, (refl, f .3))))) .0,
   )
 
-  unplaced : o .answer ≢ 4 → o .answer < 12 → o .place ≡ 0
-  unplaced m n =
-      ⊎-elim (λ a. let e = came i o s b p a in ap (λ (r : Returned). r .place) e ∙ ran-place i (ran quiet tt i) (omega (arith, ap (λ (r : Returned). r .answer) e)))
+  unplaced : o .answer ≢ 1 → o .answer ≢ 4 → o .answer < 12 → o .place ≡ 0
+  unplaced f m n =
+      ⊎-elim (λ a. let e = came i o s b p a in ap (λ (r : Returned). r .place) e ∙ ran-place i (ran places nowhere i) (λ z. f (ap (λ (r : Returned). r .answer) e ∙ z)) (omega (arith, ap (λ (r : Returned). r .answer) e)))
       (λ z. let w : atReturn o s b ≡ refusing i (verdict i) = refused-came i o s b p z in
       let x : o .answer ≡ verdict i .answer = ap (λ (r : Returned). r .answer) w in
       ap (λ (r : Returned). r .place) w ∙ accepting.verdict-placed i (λ e. m (x ∙ e)) (omega (arith, x)))
@@ -271,7 +271,7 @@ writes-nothing i o s b p n =
 
 pub gives-back : promises.Gives-back
 gives-back i o s b p n =
-    ⊎-elim (λ a. as-given-ran i o s b (ran quiet tt i) (came i o s b p a) n) (λ e. as-given i o s b (refused-came i o s b p e)) (judged i)
+    ⊎-elim (λ a. as-given-ran i o s b (ran places nowhere i) (came i o s b p a) n) (λ e. as-given i o s b (refused-came i o s b p e)) (judged i)
 
 -- ---- the store
 
@@ -285,8 +285,8 @@ returned-kept i (ended k b s u) l = kept-trans (omega arith) (l .1) (cleared-kep
 returned-kept i (lost w u) l = kept-trans (omega arith) l (cleared-kept (w .words) (i .mark) (i .mark) (omega arith))
 returned-kept i (cut c w u) l = kept-trans (omega arith) l (cleared-kept (w .words) (i .mark) (i .mark) (omega arith))
 
-pub ran-kept : (i : Input) → Accepted i → Kept (i .store) (i .mark) (returned i (ran quiet tt i) .store)
-ran-kept i a = returned-kept i (ran quiet tt i) (meant-demands.over-the-words (Unit {0}) quiet tt i a .1)
+pub ran-kept : (i : Input) → Accepted i → Kept (i .store) (i .mark) (returned i (ran places nowhere i) .store)
+ran-kept i a = returned-kept i (ran places nowhere i) (meant-demands.over-the-words ℕ places nowhere i a .1)
 
 pub keeps : promises.Keeps
 keeps i o s b p =
@@ -301,7 +301,7 @@ returned-cleared i (lost w u) k l = getD-clearedFrom-from (w .words) (8 * i .mar
 returned-cleared i (cut c w u) k l = getD-clearedFrom-from (w .words) (8 * i .mark) k l
 
 pub clears : promises.Clears
-clears i o s b a p = subst (λ (r : Returned). (k : ℕ) → 8 * r .mark ≤ k → getD (r .store) k 0 ≡ 0) (sym (came i o s b p a)) (returned-cleared i (ran quiet tt i))
+clears i o s b a p = subst (λ (r : Returned). (k : ℕ) → 8 * r .mark ≤ k → getD (r .store) k 0 ≡ 0) (sym (came i o s b p a)) (returned-cleared i (ran places nowhere i))
 
 -- ---- what comes back, as values
 
@@ -330,10 +330,10 @@ module _ (i : Input) (a : Accepted i) where
   unfolding meant bindings named termOf
   none-given v l = let e : getD (i .bindings) v 0 ≡ 0 = List·getD-eq-default (i .bindings) 0 (omega (arith, a .bindings)) in rw e
 
-  none-left : (k : ℕ) (b : Bindings ℕ) (s : State) (u : ℕ) → ran quiet tt i ≡ ended k b s u → (v : ℕ) → variables ≤ v → b v ≡ none
+  none-left : (k : ℕ) (b : Bindings ℕ) (s : State) (u : ℕ) → ran places nowhere i ≡ ended k b s u → (v : ℕ) → variables ≤ v → b v ≡ none
   unfolding value meant
   none-left k b s u e v l =
-      let d = meant-demands.demand-2 (Unit {0}) quiet tt i a (value (ended k b s u)) .0 (ap value e) in
+      let d = meant-demands.demand-2 ℕ places nowhere i a (value (ended k b s u)) .0 (ap value e) in
       let n = meant-demands.outside-free (table (i .table)) (i .start) _ _ _ _ (d .0) v (λ f. omega (arith, below-32 (i .table) (tablePasses (i .table) .0 (ap (λ (c : Checked). c .answer) (a .table))) (i .start) v (a .inside, a .strategy) f)) in
       unbound (s .words) (b v) (n ∙ none-given v l)
 
@@ -359,10 +359,10 @@ module _ (i : Input) (a : Accepted i) where
     meant-stays = fun-ext (λ v. option-stays (b v) (sound .bound v))
 
   -- what comes back of a run that ends so says just that
-  told-ran : (r : Ran) → ran quiet tt i ≡ r → Told i (returned i r) (value r)
-  unfolding returned value unitsLeft cleared
+  told-ran : (r : Ran) → ran places nowhere i ≡ r → Told i (returned i r) (unnoted (value r))
+  unfolding returned value unnoted unitsLeft cleared
   told-ran (ended k b s u) e =
-      let l : Leaves (i .store) (i .mark) (ended k b s u) = subst (Leaves (i .store) (i .mark)) e (meant-demands.over-the-words (Unit {0}) quiet tt i a .1) in
+      let l : Leaves (i .store) (i .mark) (ended k b s u) = subst (Leaves (i .store) (i .mark)) e (meant-demands.over-the-words ℕ places nowhere i a .1) in
       let n : u ≤ i .units = subst (λ (r : Ran). unitsLeft r ≤ i .units) e (units-left i) in (
         refl,
         term-stays k b s (l .2) k (l .2 .subject),
@@ -374,7 +374,9 @@ module _ (i : Input) (a : Accepted i) where
   told-ran (cut c w u) e = let n : u ≤ i .units = subst (λ (r : Ran). unitsLeft r ≤ i .units) e (units-left i) in (refl, refl, omega arith)
 
   came-told : (o : Outcome) (s b : List ℕ) → Runs i o s b → Told i (atReturn o s b) (value (ran quiet tt i))
-  came-told o s b p = subst (λ (r : Returned). Told i r (value (ran quiet tt i))) (sym (came i o s b p a)) (told-ran (ran quiet tt i) refl)
+  came-told o s b p =
+      subst (Told i (atReturn o s b)) (meant-demands.notes-apart ℕ places nowhere i a)
+      (subst (λ (r : Returned). Told i r (unnoted (value (ran places nowhere i)))) (sym (came i o s b p a)) (told-ran (ran places nowhere i) refl))
 
 -- a cut-off's number is above those of done and failed
 number-above : (c : Limit) → 6 ≤ number c
@@ -437,6 +439,25 @@ unbound-said T g q i x (cut units l u) h e s = absurd (omega (arith, h .0, e))
 unbound-said T g q i x (cut room l u) h e s = absurd (omega (arith, h .0, e))
 unbound-said T g q i x (cut nesting l u) h e s = absurd (omega (arith, h .0, e))
 unbound-said T g q i x (cut (without-binding v) l u) h e s = (v, s .0)
+
+-- what answers 1 has the place that was noted of its derivation
+placed-by : (i : Input) (o : Outcome) (s b : List ℕ) (r : Ran) → atReturn o s b ≡ returned i r → o .answer ≡ 1 → (T : Table) (g : Given) (q : Visit Term) → Says places nowhere T g q (value r)
+    → (d : T ⊢ q ⇒ failed) × (o .place ≡ noted places (trace d) nowhere)
+unfolding returned value number noted shut
+placed-by i o s b (ended k c w u) e z T g q h = absurd (omega (arith, ap (λ (r : Returned). r .answer) e, z))
+placed-by i o s b (lost l u) e z T g q h = (h .0, ap (λ (r : Returned). r .place) e ∙ h .2)
+placed-by i o s b (cut units l u) e z T g q h = absurd (omega (arith, ap (λ (r : Returned). r .answer) e, z))
+placed-by i o s b (cut room l u) e z T g q h = absurd (omega (arith, ap (λ (r : Returned). r .answer) e, z))
+placed-by i o s b (cut nesting l u) e z T g q h = absurd (omega (arith, ap (λ (r : Returned). r .answer) e, z))
+placed-by i o s b (cut (without-binding v) l u) e z T g q h = absurd (omega (arith, ap (λ (r : Returned). r .answer) e, z))
+
+pub last-miss : promises.Last-miss
+last-miss i o s b a p z d =
+    let h = meant-demands.demand-2 ℕ places nowhere i a (value (ran places nowhere i)) .0 refl in
+    let f = placed-by i o s b (ran places nowhere i) (came i o s b p a) z (table (i .table)) (limits i) (startVisit i) h in
+    f .1
+    ∙ ap (λ t. noted places t nowhere) (meant-demands.deterministic (table (i .table)) (startVisit i) failed failed (f .0) d .1)
+    ∙ meant-demands.places-are-last (trace d) nowhere
 
 pub unbound-underivable : promises.Unbound-underivable
 unbound-underivable i o s b a p e x d =

@@ -17,7 +17,7 @@ use Rattle.checks.specs.Signature.{Signature, declares, nodeObeys}
 use Rattle.checks.specs.Promises.{AllGood}
 use Rattle.checks.proofs.Good.{faulty-within}
 use Rattle.meaning.specs.Limits.{ended, lost, cut}
-use Rattle.meaning.specs.Derivation.{quiet}
+use Rattle.meaning.specs.Derivation.{places, nowhere}
 use Rattle.meaning.specs.Store.{Input, Accepted, Kept, ran}
 use Rattle.meaning.specs.Answer.{Returned, returned}
 use Rattle.meaning.proofs.Words.{kept-word}
@@ -202,8 +202,8 @@ refuses-start g i o s b p =
     ))
 
 pub no-place : promises.No-place
-no-place g i o s b p k l m n =
-    ⊎-elim (λ z. plain.no-place i o s b (runs-as-without g i o s b (z .0) p) k n)
+no-place g i o s b p f k l m n =
+    ⊎-elim (λ z. plain.no-place i o s b (runs-as-without g i o s b (z .0) p) f k n)
     (λ z. let w : atReturn o s b ≡ refusing i (verdictWith (some g) i) = refused-came g i o s b p z in
     let x : o .answer ≡ verdictWith (some g) i .answer = ap (λ (r : Returned). r .answer) w in
     ap (λ (r : Returned). r .place) w ∙ accepting.placed-with (some g) i (λ e. k (x ∙ e)) (λ e. l (x ∙ e)) (λ e. m (x ∙ e)) (omega (arith, x)))
@@ -216,16 +216,16 @@ unfolding nodeObeys
 kept-obeys g w w′ m k f j l = rw (kept-word k j 0 l (omega arith), kept-word k j 1 l (omega arith)) (f j l)
 
 -- the nodes below the mark of what comes back obey
-returned-obeys : (g : List ℕ) (i : Input) → Obeying g i → Accepted i → (r : Ran) → ran quiet tt i ≡ r → AllGood (nodeObeys g (returned i r .store)) (returned i r .mark)
+returned-obeys : (g : List ℕ) (i : Input) → Obeying g i → Accepted i → (r : Ran) → ran places nowhere i ≡ r → AllGood (nodeObeys g (returned i r .store)) (returned i r .mark)
 unfolding returned
 returned-obeys g i ob a (ended k b s u) e =
     kept-obeys g (s .words) _ (s .mark) (plain.cleared-kept (s .words) (s .mark) (s .mark) (omega arith))
-    (above.obeyed (Unit {0}) quiet tt i g a (ob .entries) (ob .nodes) k u b s e)
+    (above.obeyed ℕ places nowhere i g a (ob .entries) (ob .nodes) k u b s e)
 returned-obeys g i ob a (lost w u) e = kept-obeys g (i .store) _ (i .mark) (subst (λ (r : Ran). Kept (i .store) (i .mark) (returned i r .store)) e (plain.ran-kept i a)) (ob .nodes)
 returned-obeys g i ob a (cut c w u) e = kept-obeys g (i .store) _ (i .mark) (subst (λ (r : Ran). Kept (i .store) (i .mark) (returned i r .store)) e (plain.ran-kept i a)) (ob .nodes)
 
 pub leaves-obeying : promises.Leaves-obeying
 leaves-obeying g i o s b p n =
     ⊎-elim (λ z. subst (λ (r : Returned). AllGood (nodeObeys g (r .store)) (r .mark)) (sym (plain.came i o s b (runs-as-without g i o s b (z .0) p) (z .1)))
-    (returned-obeys g i (z .0) (z .1) (ran quiet tt i) refl))
+    (returned-obeys g i (z .0) (z .1) (ran places nowhere i) refl))
     (λ e. absurd (n (refused-answer g i o s b p e))) (judged g i)

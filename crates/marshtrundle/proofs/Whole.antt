@@ -20,8 +20,8 @@ use Rattle.checks.proofs.Promises.{tablePasses, storePasses}
 use Rattle.meaning.specs.Bindings.{Bindings}
 use Rattle.meaning.specs.Table.{Table, table}
 use Rattle.meaning.specs.Rules.{apply, does}
-use Rattle.meaning.specs.Limits.{Limit, units, room, nesting, unbound, ended, lost, cut, run}
-use Rattle.meaning.specs.Derivation.{quiet}
+use Rattle.meaning.specs.Limits.{Limit, units, room, nesting, unbound, ended, lost, cut, at, run}
+use Rattle.meaning.specs.Derivation.{places, nowhere}
 use Rattle.meaning.specs.Store.{Input, Accepted, named, bindings, ran, deepest}
 use Rattle.meaning.specs.Answer.{number, placeOf, bindingWords, returned}
 use Rattle.meaning.specs.Demands.{Leaves}
@@ -31,10 +31,11 @@ use Rattle.meaning.proofs.Demands.{over-the-words}
 use Rattle.leaves.specs.declared.answers.Answer.{Answer}
 use Rattle.leaves.specs.declared.answers.Answer.the-variants.{Done, Failed, Cut}
 use Rattle.leaves.specs.Answers.{packed, nodeIn, unitsIn, unitsHalf, roomHalf, answerOf}
-use Rattle.leaves.specs.Noted.{State, Ran, on, leftWords, stored}
-use Rattle.leaves.specs.Record.{markOf, held}
+use Rattle.leaves.specs.Noted.{State, Ran, on, leftOf, stored}
+use Rattle.leaves.specs.Record.{recordLong, markOf, missOf, standing, missing, held}
 use Rattle.leaves.specs.Visits.{visit, limitOf, meaning, out, Entries, Steady, Gives}
 use Rattle.cycle.specs.Cycle.{Hinted, Ready}
+use Rattle.leaves.proofs.Holding.{mark-missing, miss-missing, held-missing, framed-missing}
 use Rattle.leaves.proofs.AnswerWords.{node-packed, units-packed, out-answer}
 use Rattle.marshtrundle.specs.Loaded.{Loaded, Opened}
 use Rattle.marshtrundle.specs.Refused.{refusedWith}
@@ -42,9 +43,9 @@ use Rattle.marshtrundle.specs.Run.{atReturn, refusing, runWith, cutNumbe
 use Rattle.marshtrundle.specs.declared.running.Outcome.{Outcome}
 
 -- the units that a run has left are not more than it was given
-pub units-left : (i : Input) → unitsLeft (ran quiet tt i) ≤ i .units
+pub units-left : (i : Input) → unitsLeft (ran places nowhere i) ≤ i .units
 unfolding ran
-units-left i = units-fall stored (does (table (i .table))) deepest (apply (i .start) (i .subject) (bindings (i .bindings))) (on (i .store) (i .mark)) (i .units)
+units-left i = units-fall stored (does (table (i .table))) deepest (apply (i .start) (i .subject) (bindings (i .bindings))) (on (i .store) (at (i .mark) nowhere)) (i .units)
 
 -- a binding's word that is not above the mark names a node below it
 below : (n j m : ℕ) → n ≤ m → named n ≡ some j → j < m
@@ -90,31 +91,43 @@ module _ (i : Input) (a : Accepted i) (c st : List ℕ) (g : ℕ) (same : table 
   }
 
   -- the run that the engine makes is the run over the words
-  pub is-ran : visit c 4096 (apply (i .start) (i .subject) (held st)) (i .store) (markOf st) (i .units) ≡ ran quiet tt i
+  pub is-ran : visit c 4096 (apply (i .start) (i .subject) (held st)) (i .store) (at (markOf st) nowhere) (i .units) ≡ ran places nowhere i
   unfolding visit ran
-  is-ran = λ z. run stored (does (same z)) 4096 (apply (i .start) (i .subject) (o .holds z)) (on (i .store) (o .mark z)) (i .units)
+  is-ran = λ z. run stored (does (same z)) 4096 (apply (i .start) (i .subject) (o .holds z)) (on (i .store) (at (o .mark z) nowhere)) (i .units)
 
   -- so its end is that of the run over the words
-  pub ended-as : (r : Outcome) (st′ w′ : List ℕ) → Ends (visit c 4096 (apply (i .start) (i .subject) (held st)) (i .store) (markOf st) (i .units)) (i .subject) (markOf st) (i .units) r st′ w′ → Ends (ran quiet tt i) (i .subject) (i .mark) (i .units) r st′ w′
-  ended-as r st′ w′ e = subst (λ m. Ends (ran quiet tt i) (i .subject) m (i .units) r st′ w′) (o .mark) (subst (λ x. Ends x (i .subject) (markOf st) (i .units) r st′ w′) is-ran e)
+  pub ended-as : (r : Outcome) (st′ w′ : List ℕ) → Ends (visit c 4096 (apply (i .start) (i .subject) (held st)) (i .store) (at (markOf st) nowhere) (i .units)) (i .subject) (markOf st) (i .units) r st′ w′ → Ends (ran places nowhere i) (i .subject) (i .mark) (i .units) r st′ w′
+  ended-as r st′ w′ e = subst (λ m. Ends (ran places nowhere i) (i .subject) m (i .units) r st′ w′) (o .mark) (subst (λ x. Ends x (i .subject) (markOf st) (i .units) r st′ w′) is-ran e)
 
--- What the engine answers, read, as a run's end: the numbers are those of the end, and the units left are at most those given.
-module _ (c w st : List ℕ) (e k u : ℕ) (few : u < 4294967296) (got : ℕ) (g : ℕ) (ge : g ≡ packed k u) (st′ w′ : List ℕ)
-    (gives : Gives (visit c 4096 (apply e (nodeIn g) (held st)) w (markOf st) (unitsIn g)) st got st′ w′) (a : Answer) (read : a ≡ answerOf got) where
+-- where a match gave up is of no account for what a visit requires
+pub ready-missing : {c w st : List ℕ} {e g : ℕ} (p : ℕ) → Ready c w st e g → Ready c w (missing st p) e g
+ready-missing {st = st} p r = record {
+  entries = r .entries;
+  hints = r .hints;
+  long = framed-missing st p .long ∙ r .long;
+  inside = r .inside;
+  steady = rw (mark-missing st p, held-missing st p) (r .steady);
+  subject = rw (mark-missing st p) (r .subject);
+}
+
+-- What the engine answers, read, as a run's end: the numbers are those of the end, and the units left are at most those given. No
+-- match has given up when it begins.
+module _ (c w st : List ℕ) (e k u : ℕ) (long : length st ≡ recordLong) (few : u < 4294967296) (got : ℕ) (g : ℕ) (ge : g ≡ packed k u) (st′ w′ : List ℕ)
+    (gives : Gives (visit c 4096 (apply e (nodeIn g) (held (missing st nowhere))) w (standing (missing st nowhere)) (unitsIn g)) (missing st nowhere) got st′ w′) (a : Answer) (read : a ≡ answerOf got) where
   abbrev ends : Ran
-  ends = visit c 4096 (apply e k (held st)) w (markOf st) u
+  ends = visit c 4096 (apply e k (held st)) w (at (markOf st) nowhere) u
 
   ends-answer : ends ≡ meaning a st′ w′
   ends-answer =
-      (λ z. visit c 4096 (apply e (sym (ap nodeIn ge ∙ node-packed k u few) z) (held st)) w (markOf st) (sym (ap unitsIn ge ∙ units-packed k u few) z))
+      (λ z. visit c 4096 (apply e (sym (ap nodeIn ge ∙ node-packed k u few) z) (sym (held-missing st nowhere) z)) w (at (sym (mark-missing st nowhere) z) (sym (miss-missing st nowhere long) z)) (sym (ap unitsIn ge ∙ units-packed k u few) z))
       ∙ sym (gives .is) ∙ out-answer st′ w′ got a read
 
   few-left : unitsLeft ends ≤ u
   unfolding visit
-  few-left = units-fall stored (does (table c)) 4096 (apply e k (held st)) (on w (markOf st)) u
+  few-left = units-fall stored (does (table c)) 4096 (apply e k (held st)) (on w (at (markOf st) nowhere)) u
 
   module _ (x v : ℕ) (q : a ≡ Done x v) where
-    is-done : ends ≡ ended x (held st′) (on w′ (markOf st′)) v
+    is-done : ends ≡ ended x (held st′) (on w′ (standing st′)) v
     unfolding meaning
     is-done = ends-answer ∙ rw q
 
@@ -127,7 +140,7 @@ module _ (c w st : List ℕ) (e k u : ℕ) (few : u < 4294967296) (got : ℕ) (g
     done-ends = record { numbers = rw is-done; words = rw is-done; bound = λ y z b s f. let h = sym is-done ∙ f in cc }
 
   module _ (v : ℕ) (q : a ≡ Failed v) where
-    is-failed : ends ≡ lost (leftWords w′) v
+    is-failed : ends ≡ lost (leftOf w′ (standing st′)) v
     unfolding meaning
     is-failed = ends-answer ∙ rw q
 
@@ -135,12 +148,12 @@ module _ (c w st : List ℕ) (e k u : ℕ) (few : u < 4294967296) (got : ℕ) (g
     unfolding unitsLeft
     failed-left = subst (λ r. unitsLeft r ≤ u) is-failed few-left
 
-    pub failed-ends : Ends ends k (markOf st) u (record { answer = 1; place = 0; subject = k; mark = markOf st; units = u - v }) st′ w′
+    pub failed-ends : Ends ends k (markOf st) u (record { answer = 1; place = missOf st′; subject = k; mark = markOf st; units = u - v }) st′ w′
     unfolding numbers wordsOf
     failed-ends = record { numbers = rw is-failed; words = rw is-failed; bound = λ y z b s f. impossible (let h = sym is-failed ∙ f in cc) }
 
   module _ (d : ℕ) (q : a ≡ Cut d) where
-    is-cut : ends ≡ cut (limitOf d) (leftWords w′) (unitsIn d)
+    is-cut : ends ≡ cut (limitOf d) (leftOf w′ (standing st′)) (unitsIn d)
     unfolding meaning
     is-cut = ends-answer ∙ rw q
 
@@ -171,32 +184,32 @@ is-ended k m u (cut nesting l v) e = absurd (omega arith)
 is-ended k m u (cut (unbound y) l v) e = absurd (omega arith)
 
 -- the end of an accepted run: r are its numbers, st is the record and w the store's words
-module _ (i : Input) (a : Accepted i) (r : Outcome) (st w : List ℕ) (ends : Ends (ran quiet tt i) (i .subject) (i .mark) (i .units) r st w) where
+module _ (i : Input) (a : Accepted i) (r : Outcome) (st w : List ℕ) (ends : Ends (ran places nowhere i) (i .subject) (i .mark) (i .units) r st w) where
   passes : StoreFits (i .store) (i .mark) × AllGood (goodNode (i .store)) (i .mark)
   passes = storePasses (i .store) (i .mark) .0 (ap (λ (c : Checked). c .answer) (a .store))
 
   -- the mark is at most that of a full store
   pub mark-left : r .mark ≤ 131072
   unfolding numbers
-  mark-left = subst (λ (r : Outcome). r .mark ≤ 131072) (sym (ends .numbers)) (go (ran quiet tt i) (over-the-words (Unit {0}) quiet tt i a .1))
+  mark-left = subst (λ (r : Outcome). r .mark ≤ 131072) (sym (ends .numbers)) (go (ran places nowhere i) (over-the-words ℕ places nowhere i a .1))
     where
       go : (o : Ran) → Leaves (i .store) (i .mark) o → numbers (i .subject) (i .mark) (i .units) o .mark ≤ 131072
       go (ended x b s v) l = omega (arith, l .2 .fits, l .1 .long, passes .0 .0 .most)
       go (lost l v) k = omega (arith, passes .0 .0 .most, passes .0 .1)
       go (cut c l v) k = omega (arith, passes .0 .0 .most, passes .0 .1)
 
-  done-end : r .answer ≡ 0 → (x v : ℕ) × (b : Bindings ℕ) × (s : State) × (ran quiet tt i ≡ ended x b s v)
-  done-end z = is-ended (i .subject) (i .mark) (i .units) (ran quiet tt i) (sym (ap (λ (r : Outcome). r .answer) (ends .numbers)) ∙ z)
+  done-end : r .answer ≡ 0 → (x v : ℕ) × (b : Bindings ℕ) × (s : State) × (ran places nowhere i ≡ ended x b s v)
+  done-end z = is-ended (i .subject) (i .mark) (i .units) (ran places nowhere i) (sym (ap (λ (r : Outcome). r .answer) (ends .numbers)) ∙ z)
 
   -- where it is done the bound nodes are in the store
   pub bound-left : r .answer ≡ 0 → (v j : ℕ) → held st v ≡ some j → j < 131072
   bound-left z v j f =
       let (x, u, b, s, e) = done-end z in
-      let l = subst (Leaves (i .store) (i .mark)) e (over-the-words (Unit {0}) quiet tt i a .1) in
+      let l = subst (Leaves (i .store) (i .mark)) e (over-the-words ℕ places nowhere i a .1) in
       omega (arith, l .2 .bound v j (ap (λ (g : Bindings ℕ). g v) (sym (ends .bound x u b s e)) ∙ f), l .2 .fits, l .1 .long, passes .0 .0 .most)
 
   -- what comes back: the store is cleared from the mark on; the bindings are the record's where it is done, else as given
-  come : (o : Ran) → ran quiet tt i ≡ o → (b′ : List ℕ) → (r .answer ≡ 0 → b′ ≡ bindingWords variables (held st)) → ((r .answer ≡ 0 → ⊥) → b′ ≡ i .bindings)
+  come : (o : Ran) → ran places nowhere i ≡ o → (b′ : List ℕ) → (r .answer ≡ 0 → b′ ≡ bindingWords variables (held st)) → ((r .answer ≡ 0 → ⊥) → b′ ≡ i .bindings)
       → atReturn r (clearedFrom w (8 * r .mark)) b′ ≡ returned i o
   unfolding numbers wordsOf returned number placeOf
   come (ended x b s v) e b′ y n =
@@ -215,8 +228,8 @@ module _ (i : Input) (a : Accepted i) (r : Outcome) (st w : List ℕ) (ends : En
       let h : b′ ≡ i .bindings = n (λ z. omega (arith, ap (λ (r : Outcome). r .answer) p, limit-answer c)) in
       λ z. atReturn (p z) (clearedFrom (q z) (8 * p z .mark)) (h z)
 
-  pub comes-back : (b′ : List ℕ) → (r .answer ≡ 0 → b′ ≡ bindingWords variables (held st)) → ((r .answer ≡ 0 → ⊥) → b′ ≡ i .bindings) → atReturn r (clearedFrom w (8 * r .mark)) b′ ≡ returned i (ran quiet tt i)
-  comes-back b′ y n = come (ran quiet tt i) refl b′ y n
+  pub comes-back : (b′ : List ℕ) → (r .answer ≡ 0 → b′ ≡ bindingWords variables (held st)) → ((r .answer ≡ 0 → ⊥) → b′ ≡ i .bindings) → atReturn r (clearedFrom w (8 * r .mark)) b′ ≡ returned i (ran places nowhere i)
+  comes-back b′ y n = come (ran places nowhere i) refl b′ y n
 
 -- a refusal, and none
 module _ (g : Option (List ℕ)) (i : Input) (r : Checked) (is : r ≡ refusedWith g (i .table) (i .store) (i .bindings) (i .mark) (i .start) (i .subject)) where
@@ -224,7 +237,7 @@ module _ (g : Option (List ℕ)) (i : Input) (r : Checked) (is : r ≡ refusedWi
   unfolding runWith
   run-refused n = rw is (sym (rw (ne-eqb (refusedWith g (i .table) (i .store) (i .bindings) (i .mark) (i .start) (i .subject) .answer) 0 (λ z. n (ap (λ (c : Checked). c .answer) is ∙ z)))))
 
-  pub run-ran : r .answer ≡ 0 → returned i (ran quiet tt i) ≡ runWith g i
+  pub run-ran : r .answer ≡ 0 → returned i (ran places nowhere i) ≡ runWith g i
   unfolding runWith
   run-ran z = sym (rw (eq-eqb (refusedWith g (i .table) (i .store) (i .bindings) (i .mark) (i .start) (i .subject) .answer) 0 (sym (ap (λ (c : Checked). c .answer) is) ∙ z)))
 

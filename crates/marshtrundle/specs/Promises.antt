@@ -14,9 +14,9 @@ use Rattle.checks.specs.declared.Checked.{Checked}
 use Rattle.checks.specs.Checked.{checked, tableChecked, storeChecked}
 use Rattle.checks.specs.Promises.{AllGood, Lowest}
 use Rattle.meaning.specs.Term.{Term}
-use Rattle.meaning.specs.System.{Env, _∶_is_, _⊢_⇒_}
+use Rattle.meaning.specs.System.{Env, _∶_is_, _⊢_⇒_, trace}
 use Rattle.meaning.specs.Table.{SEQ, table}
-use Rattle.meaning.specs.Derivation.{Out, quiet}
+use Rattle.meaning.specs.Derivation.{Out, failed, quiet, nowhere, misses, lastOf}
 use Rattle.meaning.specs.Limits.{Res, ended, lost, cut, Counted}
 use Rattle.meaning.specs.Store.{Input, Accepted, term, meant, bindings, Kept}
 use Rattle.meaning.specs.Answer.{Returned, number, placeOf}
@@ -113,9 +113,9 @@ Refuses-start =
     (i : Input) (o : Outcome) (s b : List ℕ) → Runs i o s b
     → (o .answer ≡ 5) ↔ (SizesFit i × EntriesGood i × NodesGood i × (StartFits i → ⊥))
 
--- Every answer below 12 but 4 has place 0.
+-- Every answer below 12 but 1 and 4 has place 0.
 abbrev pub No-place : Type 0
-No-place = (i : Input) (o : Outcome) (s b : List ℕ) → Runs i o s b → o .answer ≢ 4 → o .answer < 12 → o .place ≡ 0
+No-place = (i : Input) (o : Outcome) (s b : List ℕ) → Runs i o s b → o .answer ≢ 1 → o .answer ≢ 4 → o .answer < 12 → o .place ≡ 0
 
 -- What is accepted is just what is not refused; and it is all of the above.
 abbrev pub Not-refused : Type 0
@@ -148,7 +148,7 @@ Keeps = (i : Input) (o : Outcome) (s b : List ℕ) → Runs i o s b → Kept (i 
 abbrev pub Clears : Type 0
 Clears = (i : Input) (o : Outcome) (s b : List ℕ) → Accepted i → Runs i o s b → (k : ℕ) → 8 * o .mark ≤ k → getD s k 0 ≡ 0
 
--- how a run ends, terms as values; nothing is noted on its way
+-- how a run ends, terms as values; what it notes on its way is left out, and `Last-miss` says it
 abbrev pub Ended : Type 0
 Ended = Res Term Env (Counted (Unit {0})) (Unit {0})
 
@@ -167,6 +167,13 @@ abbrev pub Demand-2 : Type 0
 Demand-2 =
     (i : Input) (o : Outcome) (s b : List ℕ) → Accepted i → Runs i o s b
     → (r : Ended) → Told i (atReturn o s b) r ↔ Says quiet tt (table (i .table)) (limits i) (startVisit i) r
+
+-- Wish 10: the place of a failed run is the pattern at which the last match in it gave up, in the order of time, caught or not; 4,096
+-- where no match did.
+abbrev pub Last-miss : Type 0
+Last-miss =
+    (i : Input) (o : Outcome) (s b : List ℕ) → Accepted i → Runs i o s b → o .answer ≡ 1
+    → (d : table (i .table) ⊢ startVisit i ⇒ failed) → o .place ≡ lastOf nowhere (misses (trace d))
 
 -- Where 12 is answered there is no derivation, whatever the limits.
 abbrev pub Unbound-underivable : Type 0

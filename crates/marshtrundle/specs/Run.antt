@@ -8,7 +8,7 @@ use Rattle.words.specs.Tests.{if_then_else_}
 use Rattle.checks.specs.declared.Checked.{Checked}
 use Rattle.meaning.specs.Bindings.{Bindings}
 use Rattle.meaning.specs.Limits.{ended, lost, cut}
-use Rattle.meaning.specs.Derivation.{quiet}
+use Rattle.meaning.specs.Derivation.{places, nowhere}
 use Rattle.meaning.specs.Store.{Input, ran}
 use Rattle.meaning.specs.Answer.{Returned, number, placeOf, returned}
 use Rattle.leaves.specs.Noted.{State, Ran}
@@ -32,7 +32,7 @@ refusing i c = record { answer = c .answer; place = c .place; subject = i .subje
 -- refused, or run, with the signature g where one is lent
 unfoldable pub runWith : Option (List ℕ) → Input → Returned
 runWith g i =
-    if eqb (refusedWith g (i .table) (i .store) (i .bindings) (i .mark) (i .start) (i .subject) .answer) 0 then returned i (ran quiet tt i)
+    if eqb (refusedWith g (i .table) (i .store) (i .bindings) (i .mark) (i .start) (i .subject) .answer) 0 then returned i (ran places nowhere i)
     else refusing i (refusedWith g (i .table) (i .store) (i .bindings) (i .mark) (i .start) (i .subject))
 
 -- the run where no signature is lent
@@ -49,7 +49,7 @@ cutPlace c = placeOf (limitOf c)
 -- the five numbers of a run's end, k being the subject, m the mark and u the units that it was given
 unfoldable pub numbers : (k m u : ℕ) → Ran → Outcome
 numbers k m u (ended x b s v) = record { answer = 0; place = 0; subject = x; mark = s .mark; units = u - v }
-numbers k m u (lost l v) = record { answer = 1; place = 0; subject = k; mark = m; units = u - v }
+numbers k m u (lost l v) = record { answer = 1; place = l .notes; subject = k; mark = m; units = u - v }
 numbers k m u (cut c l v) = record { answer = number c; place = placeOf c; subject = k; mark = m; units = u - v }
 
 -- the store's words at a run's end

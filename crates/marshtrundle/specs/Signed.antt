@@ -99,11 +99,11 @@ Refuses-start =
     (g : List ℕ) (i : Input) (o : Outcome) (s b : List ℕ) → RunsSigned g i o s b
     → (o .answer ≡ 5) ↔ (SizesFit i × Signature g × EntriesGood i × NodesGood i × EntriesObey g i × NodesObey g i × (StartFits i → ⊥))
 
--- Every answer below 12 but 4, 10 and 11 has place 0.
+-- Every answer below 12 but 1, 4, 10 and 11 has place 0.
 abbrev pub No-place : Type 0
 No-place =
     (g : List ℕ) (i : Input) (o : Outcome) (s b : List ℕ) → RunsSigned g i o s b
-    → o .answer ≢ 4 → o .answer ≢ 10 → o .answer ≢ 11 → o .answer < 12 → o .place ≡ 0
+    → o .answer ≢ 1 → o .answer ≢ 4 → o .answer ≢ 10 → o .answer ≢ 11 → o .answer < 12 → o .place ≡ 0
 
 -- ---- what a run leaves
 

@@ -11,10 +11,13 @@ use leaves::answers::UNITS;
 use leaves::answers::answer_of;
 use leaves::answers::done;
 use leaves::record::MARK;
+use leaves::record::MISS;
 use leaves::record::RECORD;
 use words::clear_from;
 ghost use mathlib.Core.Path.{_≡_};
 ghost use mathlib.Core.Option.{some};
+ghost use Rattle.meaning.specs.Derivation.{nowhere};
+ghost use Rattle.meaning.specs.Limits.{at};
 ghost use Rattle.meaning.specs.Rules.{apply as applied};
 ghost use Rattle.leaves.specs.Answers.{packed};
 ghost use Rattle.leaves.specs.Record.{markOf, held};
@@ -22,6 +25,9 @@ ghost use Rattle.leaves.specs.Visits.{visit};
 ghost use Rattle.cycle.specs.Cycle.{Ready};
 ghost use Rattle.marshtrundle.specs.Refused.{lentIf};
 ghost use Rattle.marshtrundle.specs.Run.{input, atReturn, runWith, runOf, cutNumber, cutPlace, Ends};
+
+// The place of a failed run in which no match gave up: no table has such an entry.
+pub const NOWHERE: u32 = 4096;
 
 // The five numbers that a run returns.
 pub struct Outcome {
@@ -61,7 +67,7 @@ pub fn cut_place(c: u64) -> u32
 }
 
 // A run of accepted input, over a loaded table and an opened record. Where it is done the record holds the new mark and the new
-// bindings. The words above the mark are left as they are.
+// bindings; where it failed, the pattern at which the last match gave up. The words above the mark are left as they are.
 pub(crate) fn run_accepted(
     code: &[u32; 32768],
     store: &mut [u32],
@@ -71,9 +77,10 @@ pub(crate) fn run_accepted(
     units: u32,
 ) -> Outcome
     requires { ⌜ Ready (now code) (now store) (now st) start (packed subject units) ⌝ }
-    ensures { λ r. ⌜ Ends (visit (now (code .entry)) 4096 (applied start subject (held (now (st .entry)))) (now (store .entry)) (markOf (now (st .entry))) units) subject (markOf (now (st .entry))) units r (now (st .exit)) (now (store .exit)) ⌝ }
+    ensures { λ r. ⌜ Ends (visit (now (code .entry)) 4096 (applied start subject (held (now (st .entry)))) (now (store .entry)) (at (markOf (now (st .entry))) nowhere) units) subject (markOf (now (st .entry))) units r (now (st .exit)) (now (store .exit)) ⌝ }
 {
     let mark = st[MARK];
+    st[MISS] = NOWHERE;
     let got = apply(code, store, st, start, done(subject, units), 4096);
     let a = answer_of(got);
     match a {
@@ -86,7 +93,7 @@ pub(crate) fn run_accepted(
         },
         Answer::Failed(left) => Outcome {
             answer: 1,
-            place: 0,
+            place: st[MISS],
             subject,
             mark,
             units: units - left,

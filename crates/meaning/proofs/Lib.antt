@@ -9,6 +9,8 @@ pub mod Compare
 pub mod Paper
 pub mod Limits
 pub mod Unbound
+pub mod Last
+pub mod Apart
 pub mod Falling
 pub mod Alike
 pub mod Checked

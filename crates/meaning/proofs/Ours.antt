@@ -11,13 +11,13 @@ use Rattle.meaning.specs.Rules.{nth, put, zip, agree, when, given as giv
 use Rattle.meaning.specs.Limits.{roomFor, settled, after, runPlan, closed, run}
 use Rattle.meaning.specs.Store.{row, named, bindings, ran}
 use Rattle.meaning.specs.Answer.{number, placeOf, bindingWord, bindingWords, returned}
-use Rattle.meaning.specs.Small.{entry, roomy, bound, three, four, given, gives, matchX, seen, expected}
-use Rattle.meaning.specs.Ours.{paired, build7, build-v3, no-v3, build-pair, two, scopes, ours, Our-runs}
+use Rattle.meaning.specs.Small.{entry, roomy, bound, three, four, given, gives, fails-at, matchX, seen, expected}
+use Rattle.meaning.specs.Ours.{paired, build7, match7, build-v3, no-v3, build-pair, two, scopes, ours, Our-runs}
 
 pub our-runs : Our-runs
 unfolding every rejected putRow clearedFrom lines lineOf kind sortOf takes countFits argumentFits operandPlaced
     operandSorted operandsFault unusedZero fault goodEntry goodNode tableLengthFits storeLengthFits tableChecked storeChecked bind has masked byKind
     table nth put zip agree when given-of again walk oneOf someOf strategy variable whenAt matching needed building comparing does
     roomFor settled after runPlan closed run row named bindings ran number placeOf bindingWord bindingWords returned entry roomy bound
-    three four given gives matchX seen expected paired build7 build-v3 no-v3 build-pair two scopes ours
+    three four given gives fails-at matchX seen expected paired build7 match7 build-v3 no-v3 build-pair two scopes ours
 our-runs = refl

@@ -44,8 +44,9 @@ pub record Returned : Type 0 where
 abbrev pub asGiven : Input → (answer place : ℕ) → List ℕ → ℕ → Returned
 asGiven i a p w u = record { answer = a; place = p; subject = i .subject; mark = i .mark; units = i .units - u; store = clearedFrom w (8 * i .mark); bindings = i .bindings }
 
--- 0 with the new subject, mark and bindings; else as given. The units are those used, and from the mark on the store is zero
-unfoldable pub returned : {N : Type 0} → Input → Ran N → Returned
+-- 0 with the new subject, mark and bindings; else as given, failed with the place that was noted. The units are those used, and
+-- from the mark on the store is zero
+unfoldable pub returned : Input → Ran ℕ → Returned
 returned i (ended k b s u) = record { answer = 0; place = 0; subject = k; mark = s .mark; units = i .units - u; store = clearedFrom (s .words) (8 * s .mark); bindings = bindingWords variables b }
-returned i (lost l u) = asGiven i 1 0 (l .words) u
+returned i (lost l u) = asGiven i 1 (l .notes) (l .words) u
 returned i (cut c l u) = asGiven i (number c) (placeOf c) (l .words) u

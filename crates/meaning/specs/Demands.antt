@@ -9,7 +9,7 @@ use Rattle.meaning.specs.Term.{Term}
 use Rattle.meaning.specs.Table.{Table, SEQ, PATH, table}
 use Rattle.meaning.specs.Plan.{keep, ret, fail, ask}
 use Rattle.meaning.specs.Rules.{Visit, apply, does, compare}
-use Rattle.meaning.specs.Derivation.{Out, done, failed, what, Fate, stays, fails, Trace, over, visit, left, Notes, noted, terms, Der, trace as traceDer}
+use Rattle.meaning.specs.Derivation.{Out, done, failed, what, Fate, stays, fails, Trace, over, visit, left, Notes, noted, quiet, places, misses, lastOf, terms, Der, trace as traceDer}
 use Rattle.meaning.specs.Limits.{Res, ended, lost, cut, Counted, at, counting, run}
 use Rattle.meaning.specs.System.{Env, _∶_is_, _⊢_⇒_, trace}
 use Rattle.meaning.specs.Beginning.{at-unbound, Begun, Given, Fits, Met, stop, level, trace as traceBegun}
@@ -44,6 +44,10 @@ Demand-2-values =
     (N : Type 0) (Λ : Notes N) (n : N) (T : Table) (g : Given) (q : Visit Term) (r : Res Term Env (Counted N) N) → g .mark ≤ g .size
     → (run (counting terms Λ (g .size)) (does T) (g .nesting) q (at (g .mark) n) (g .units) ≡ r) ↔ Says Λ n T g q r
 
+-- What the notes of places say of a trace: the last pattern at which a match gives up in it, in the order of time, n where none does.
+abbrev pub Places-are-last : Type 0
+Places-are-last = (t : Trace) (n : ℕ) → noted places t n ≡ lastOf n (misses t)
+
 -- What meets a variable without its binding has no derivation, whatever the limits.
 abbrev pub Unbound-underivable : Type 0
 Unbound-underivable = (T : Table) (q : Visit Term) (v : ℕ) → Begun T (ask keep q ret fail) (at-unbound v) → (o : Out Term Env) → T ⊢ q ⇒ o → ⊥
@@ -58,6 +62,16 @@ startVisit i = apply (i .start) (term (i .store) (i .subject)) (meant (i .store)
 -- Demand 2 over the words: on an accepted input the run answers r exactly when r says what is so of the terms that the words name.
 abbrev pub Demand-2 : Type 1
 Demand-2 = (N : Type 0) (Λ : Notes N) (n : N) (i : Input) → Accepted i → (r : Res Term Env (Counted N) N) → (value (ran Λ n i) ≡ r) ↔ Says Λ n (table (i .table)) (limits i) (startVisit i) r
+
+-- how a run ends, without what it noted
+unfoldable pub unnoted : {N : Type 0} → Res Term Env (Counted N) N → Res Term Env (Counted (Unit {0})) (Unit {0})
+unnoted (ended t b s u) = ended t b (at (s .mark) tt) u
+unnoted (lost l u) = lost tt u
+unnoted (cut c l u) = cut c tt u
+
+-- What a run notes changes nothing else: it ends as the run that notes nothing.
+abbrev pub Notes-apart : Type 1
+Notes-apart = (N : Type 0) (Λ : Notes N) (n : N) (i : Input) → Accepted i → unnoted (value (ran Λ n i)) ≡ value (ran quiet tt i)
 
 -- Over the words and over values a run ends alike; nodes in use stay, new ones come after, and what is left is sound.
 abbrev pub Over-the-words : Type 1

@@ -1,6 +1,6 @@
 -- What a run does, in order, and what document 01 counts of it; and derivations by plans.
 use mathlib.Core.Bool.{Bool, true, false}
-use mathlib.Core.List.{List}
+use mathlib.Core.List.{List, [], _∷_, _++_}
 use Prim.Native.Nat.{ℕ, suc, _+_, max}
 use Rattle.meaning.specs.Term.{Term, con as conOf, kids as kidsOf, mk as mkOf}
 use Rattle.meaning.specs.Rules.{Visit, apply, match, build, compare}
@@ -85,6 +85,14 @@ pub record Notes (N : Type 0) : Type 0 where
 abbrev pub quiet : Notes (Unit {0})
 quiet = record { missed = λ p n. n; begins = λ w n. n; ends = λ w t n. n }
 
+-- notes of the last match that gave up: its pattern
+abbrev pub places : Notes ℕ
+places = record { missed = λ p n. p; begins = λ w n. n; ends = λ w t n. n }
+
+-- the place of a run in which no match gives up: no table has such an entry
+abbrev pub nowhere : ℕ
+nowhere = 4096
+
 -- a visit's end is noted
 unfoldable pub shut : {N : Type 0} → Notes N → What → Fate → N → N
 shut Λ w stays n = Λ .ends w true n
@@ -98,6 +106,17 @@ noted Λ over n = n
 noted Λ (missed p) n = Λ .missed p n
 noted Λ (node t) n = noted Λ t n
 noted Λ (visit w f s t) n = noted Λ t (shut Λ w f (noted Λ s (Λ .begins w n)))
+
+-- the patterns at which a match gives up, in the order of time; the last of them, n where there is none
+unfoldable pub misses : Trace → List ℕ
+misses over = []
+misses (missed p) = p ∷ []
+misses (node t) = misses t
+misses (visit w f s t) = misses s ++ misses t
+
+unfoldable pub lastOf : ℕ → List ℕ → ℕ
+lastOf n [] = n
+lastOf n (p ∷ ps) = lastOf p ps
 
 -- terms as values
 pub record Values (H Q : Type 0) : Type 0 where

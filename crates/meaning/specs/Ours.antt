@@ -1,11 +1,12 @@
 -- Small runs of our own beside document 01's, for the kinds and the rules that S1 to S12 leave out: one table, one statement.
 use mathlib.Core.Path.{_≡_}
 use mathlib.Core.List.{List, [], _∷_, _++_, map}
-use Prim.Native.Nat.{ℕ}
+use Prim.Native.Nat.{ℕ, _+_}
 use lib.ListN.{set}
 use Rattle.meaning.specs.Store.{row}
+use Rattle.meaning.specs.Derivation.{nowhere}
 use Rattle.meaning.specs.Answer.{Returned}
-use Rattle.meaning.specs.Small.{entry, free, roomy, bound, three, four, given, gives, Case, case, matchX, seen, expected}
+use Rattle.meaning.specs.Small.{entry, free, roomy, bound, three, four, given, gives, Case, case, matchX, fails-at, seen, expected}
 
 -- the store above, but node 2 is 5(0, 0)
 unfoldable pub paired : List ℕ
@@ -14,6 +15,10 @@ paired = row 1 [] ++ row 2 [] ++ row 5 (0 ∷ 0 ∷ [])
 -- BUILD of the constant 7, whose pattern is entry e
 unfoldable pub build7 : ℕ → List ℕ
 build7 e = entry 15 0 (e ∷ []) ++ entry 19 7 []
+
+-- MATCH of the constant 7 as entry e, with its pattern after it
+unfoldable pub match7 : ℕ → List ℕ
+match7 e = entry 14 0 ((e + 1) ∷ []) ++ entry 19 7 []
 
 -- BUILD of variable 3, whose pattern is entry e; what comes back where it has no binding, with these units used
 unfoldable pub build-v3 : ℕ → List ℕ
@@ -41,10 +46,10 @@ unfoldable pub ours : List Case
 ours =
     -- TEST: a term that it made is given back, and so is the room; where its operand fails, it fails
     case 2 (given (entry 2 0 (1 ∷ []) ++ build7 2) three 8 2 99) (gives 0 2 3 3 three 8 free)
-    ∷ case 2 (given (entry 2 0 (1 ∷ []) ++ entry 1 0 []) three 8 2 99) (gives 1 2 3 2 three 8 free)
+    ∷ case 2 (given (entry 2 0 (1 ∷ []) ++ entry 1 0 []) three 8 2 99) (fails-at nowhere 2 2 three 8)
     -- NOT: FAIL; a success, whose binding is lost; a failure after a binding and a node
     ∷ case 3 (given (entry 3 0 (1 ∷ []) ++ entry 1 0 []) three 8 2 99) (gives 0 2 3 2 three 8 free)
-    ∷ case 3 (given (entry 3 0 (1 ∷ []) ++ matchX 1) three 8 2 99) (gives 1 2 3 3 three 8 free)
+    ∷ case 3 (given (entry 3 0 (1 ∷ []) ++ matchX 1) three 8 2 99) (fails-at nowhere 2 3 three 8)
     ∷ case 3 (given (entry 3 0 (1 ∷ []) ++ entry 4 0 (2 ∷ 4 ∷ []) ++ matchX 2 ++ entry 1 0 []) three 8 2 99) (gives 0 2 3 5 three 8 free)
     -- CHOICE: the first; the second from the beginning state
     ∷ case 5 (given (entry 5 0 (1 ∷ 3 ∷ []) ++ matchX 1 ++ entry 1 0 []) three 8 2 99) (gives 0 2 3 3 three 8 (bound 0 2))
@@ -56,14 +61,22 @@ ours =
     ∷ case 9 (given (entry 9 2 (1 ∷ []) ++ matchX 1) three 8 2 99) (gives 0 3 4 3 (four (row 5 (0 ∷ 1 ∷ []))) 8 (bound 0 1))
     -- CONG: no children, and another constructor; another count; operand j on child j; the bindings of the child before
     ∷ case 10 (given (entry 10 1 []) three 8 0 99) (gives 0 0 3 1 three 8 free)
-    ∷ case 10 (given (entry 10 2 []) three 8 0 99) (gives 1 0 3 1 three 8 free)
-    ∷ case 10 (given (entry 10 5 (1 ∷ []) ++ entry 0 0 []) three 8 2 99) (gives 1 2 3 1 three 8 free)
+    ∷ case 10 (given (entry 10 2 []) three 8 0 99) (fails-at nowhere 0 1 three 8)
+    ∷ case 10 (given (entry 10 5 (1 ∷ []) ++ entry 0 0 []) three 8 2 99) (fails-at nowhere 2 1 three 8)
     ∷ case 10 (given (entry 10 5 (1 ∷ 2 ∷ []) ++ two) three 8 2 99) (gives 0 3 4 5 (four (row 5 (0 ∷ 1 ∷ []))) 8 (set (bound 0 0) 1 2))
-    ∷ case 10 (given (entry 10 5 (1 ∷ 1 ∷ []) ++ matchX 1) three 8 2 99) (gives 1 2 3 6 three 8 free)
+    ∷ case 10 (given (entry 10 5 (1 ∷ 1 ∷ []) ++ matchX 1) three 8 2 99) (fails-at 2 2 6 three 8)
     ∷ case 10 (given (entry 10 5 (1 ∷ 1 ∷ []) ++ matchX 1) paired 8 2 99) (gives 0 3 4 6 (paired ++ row 5 (0 ∷ 0 ∷ [])) 8 (bound 0 0))
     -- ONE: the leftmost child that succeeds, and no other
     ∷ case 12 (given (entry 12 0 (1 ∷ []) ++ entry 14 0 (2 ∷ []) ++ entry 19 2 []) three 8 2 99) (gives 0 3 4 5 (four (row 5 (0 ∷ 1 ∷ []))) 8 free)
     ∷ case 12 (given (entry 12 0 (1 ∷ []) ++ build7 2) three 8 2 99) (gives 0 4 5 3 (four (row 7 []) ++ row 5 (3 ∷ 1 ∷ [])) 8 free)
+    -- MATCH: the place of a failed run is the pattern at which the last match gave up, however deep; a caught failure keeps it;
+    -- a done run and a cut-off one have none
+    ∷ case 14 (given (entry 14 0 (1 ∷ []) ++ entry 19 5 (2 ∷ 3 ∷ []) ++ entry 19 1 [] ++ entry 19 7 []) three 8 2 99) (fails-at 3 2 4 three 8)
+    ∷ case 14 (given (entry 6 0 (1 ∷ 3 ∷ []) ++ match7 1 ++ entry 1 0 []) three 8 2 99) (fails-at 2 2 4 three 8)
+    ∷ case 14 (given (entry 6 0 (1 ∷ 3 ∷ []) ++ match7 1 ++ match7 3) three 8 2 99) (fails-at 4 2 5 three 8)
+    ∷ case 14 (given (entry 4 0 (1 ∷ 4 ∷ []) ++ entry 3 0 (2 ∷ []) ++ match7 2 ++ entry 1 0 []) three 8 2 99) (fails-at 3 2 5 three 8)
+    ∷ case 14 (given (entry 6 0 (1 ∷ 3 ∷ []) ++ match7 1 ++ entry 0 0 []) three 8 2 99) (gives 0 2 3 4 three 8 free)
+    ∷ case 14 (given (entry 6 0 (1 ∷ 3 ∷ []) ++ match7 1 ++ entry 0 0 []) three 8 2 3) (gives 6 2 3 3 three 8 free)
     -- BUILD of a variable without its binding ends the run: its place is the variable; neither NOT nor LEFT catches it; its own
     -- visit's units are tested first; a node made before it is given back, and may find no room before it is met
     ∷ case 15 (given (build-v3 1) three 8 2 99) (no-v3 2)

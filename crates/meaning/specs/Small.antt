@@ -5,7 +5,7 @@ use Prim.Native.Nat.{ℕ, _+_, _-_, _*_}
 use lib.ListN.{length, replicate, set}
 use Rattle.checks.specs.Checked.{tableChecked, storeChecked}
 use Rattle.checks.specs.declared.Checked.{Checked}
-use Rattle.meaning.specs.Derivation.{quiet}
+use Rattle.meaning.specs.Derivation.{places, nowhere}
 use Rattle.meaning.specs.Store.{Input, row, ran}
 use Rattle.meaning.specs.Answer.{Returned, returned}
 
@@ -44,6 +44,10 @@ given t w n x u = record { table = t; store = roomy w n; bindings = free; mark =
 unfoldable pub gives : (answer subject mark units : ℕ) → List ℕ → ℕ → List ℕ → Returned
 gives a x m u w n b = record { answer = a; place = 0; subject = x; mark = m; units = u; store = roomy w n; bindings = b }
 
+-- what comes back of a failed run: the pattern at which the last match gave up, the subject, the units used, nodes and room
+unfoldable pub fails-at : (place subject units : ℕ) → List ℕ → ℕ → Returned
+fails-at p x u w n = record { answer = 1; place = p; subject = x; mark = 3; units = u; store = roomy w n; bindings = free }
+
 abbrev pub case : ℕ → Input → Returned → Case
 case s i r = record { run = s; given = i; gives = r }
 
@@ -65,13 +69,13 @@ cases =
     case 1 (given swap three 4 2 10) (gives 0 3 4 10 (four (row 5 (1 ∷ 0 ∷ []))) 4 free)
     ∷ case 2 (given swap three 4 2 9) (gives 6 2 3 9 three 4 free)
     ∷ case 3 (given swap three 3 2 10) (gives 7 2 3 10 three 3 free)
-    ∷ case 4 (given twice three 8 2 99) (gives 1 2 3 5 three 8 free)
+    ∷ case 4 (given twice three 8 2 99) (fails-at 2 2 5 three 8)
     ∷ case 5 (given twice (row 1 [] ++ row 2 [] ++ row 5 (0 ∷ 0 ∷ [])) 8 2 99) (gives 0 2 3 5 (row 1 [] ++ row 2 [] ++ row 5 (0 ∷ 0 ∷ [])) 8 (bound 0 0))
     ∷ case 6 (given (entry 6 0 (1 ∷ 5 ∷ []) ++ entry 4 0 (2 ∷ 4 ∷ []) ++ matchX 2 ++ entry 1 0 [] ++ entry 0 0 []) three 8 2 99) (gives 0 2 3 6 three 8 free)
     ∷ case 7 (given (entry 11 0 (1 ∷ []) ++ entry 1 0 []) three 8 0 99) (gives 0 0 3 1 three 8 free)
-    ∷ case 7 (given (entry 12 0 (1 ∷ []) ++ entry 0 0 []) three 8 0 99) (gives 1 0 3 1 three 8 free)
+    ∷ case 7 (given (entry 12 0 (1 ∷ []) ++ entry 0 0 []) three 8 0 99) (fails-at nowhere 0 1 three 8)
     ∷ case 8 (given (entry 13 0 (1 ∷ []) ++ entry 14 0 (2 ∷ []) ++ entry 19 1 []) three 8 2 99) (gives 0 3 4 5 (four (row 5 (0 ∷ 1 ∷ []))) 8 free)
-    ∷ case 9 (given (entry 9 3 (1 ∷ []) ++ entry 0 0 []) three 8 2 99) (gives 1 2 3 1 three 8 free)
+    ∷ case 9 (given (entry 9 3 (1 ∷ []) ++ entry 0 0 []) three 8 2 99) (fails-at nowhere 2 1 three 8)
     ∷ case 9 (given (entry 9 2 (1 ∷ []) ++ entry 0 0 []) three 8 2 99) (gives 0 3 4 2 (four (row 5 (0 ∷ 1 ∷ []))) 8 free)
     ∷ case 10 (given (entry 2 0 (1 ∷ []) ++ matchX 1) three 8 2 99) (gives 0 2 3 3 three 8 free)
     ∷ case 10 (given (entry 17 0 (1 ∷ []) ++ matchX 1) three 8 2 99) (gives 0 2 3 3 three 8 (bound 0 2))
@@ -87,7 +91,7 @@ pub record Seen : Type 0 where
   pub returns : Returned
 
 unfoldable pub seen : Case → Seen
-seen c = record { table = tableChecked (c .given .table); store = storeChecked (c .given .store) (c .given .mark); returns = returned (c .given) (ran quiet tt (c .given)) }
+seen c = record { table = tableChecked (c .given .table); store = storeChecked (c .given .store) (c .given .mark); returns = returned (c .given) (ran places nowhere (c .given)) }
 
 unfoldable pub expected : Case → Seen
 expected c = record { table = record { answer = 0; place = 0 }; store = record { answer = 0; place = 0 }; returns = c .gives }

@@ -11,7 +11,7 @@ use Rattle.words.specs.Tests.{if_then_else_}
 use Rattle.words.specs.Words.{rows}
 use Rattle.checks.specs.declared.Checked.{Checked}
 use Rattle.meaning.specs.Limits.{ended, lost, cut}
-use Rattle.meaning.specs.Derivation.{quiet}
+use Rattle.meaning.specs.Derivation.{places, nowhere}
 use Rattle.meaning.specs.Store.{Input, Leaves, ran}
 use Rattle.meaning.specs.Answer.{Returned, returned}
 use Rattle.meaning.proofs.Demands.{over-the-words}
@@ -50,10 +50,10 @@ module _ (i : Input) (n : ℕ) (given : i .mark ≤ n) (holds : rows (i .store) 
       verdict : Checked
       verdict = refused (i .table) (i .store) (i .bindings) (i .mark) (i .start) (i .subject)
 
-      go : (b : Bool) → eqb (verdict .answer) 0 ≡ b → (if b then returned i (ran quiet tt i) else refusing i verdict) .mark ≤ n
+      go : (b : Bool) → eqb (verdict .answer) 0 ≡ b → (if b then returned i (ran places nowhere i) else refusing i verdict) .mark ≤ n
       go true e =
-          returned-mark (ran quiet tt i)
-          (over-the-words (Unit {0}) quiet tt i (accepted-answer (i .table) (i .store) (i .bindings) (i .mark) (i .start) (i .subject) (i .units) e) .1)
+          returned-mark (ran places nowhere i)
+          (over-the-words ℕ places nowhere i (accepted-answer (i .table) (i .store) (i .bindings) (i .mark) (i .start) (i .subject) (i .units) e) .1)
       go false e = given
 
 -- So has what `run` returns.

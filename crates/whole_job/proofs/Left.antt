@@ -18,7 +18,7 @@ use Rattle.checks.specs.Good.{childCount}
 use Rattle.checks.specs.Checked.{checked}
 use Rattle.meaning.specs.Bindings.{Bindings}
 use Rattle.meaning.specs.Limits.{ended, lost, cut}
-use Rattle.meaning.specs.Derivation.{quiet}
+use Rattle.meaning.specs.Derivation.{places, nowhere}
 use Rattle.meaning.specs.Store.{Input, Accepted, Kept, Leaves, ran}
 use Rattle.meaning.specs.Answer.{bindingWord, bindingWords, returned}
 use Rattle.meaning.proofs.Checked.{Node, Filled, node-of-good, store-filled}
@@ -76,7 +76,7 @@ module _ (i : Input) where
   pub run-not-three : runOf i .answer ≢ 3
   run-not-three = never-three .run i five (runOf i .store) (runOf i .bindings) refl
 
-  pub run-shown : Accepted i → runOf i ≡ returned i (ran quiet tt i)
+  pub run-shown : Accepted i → runOf i ≡ returned i (ran places nowhere i)
   unfolding runWith
   run-shown a = rw (not-refused a)
 
@@ -159,14 +159,14 @@ module _ (i : Input) (a : Accepted i) where
   -- What a run leaves, where the mark and the room are at most 1,024.
   pub left : i .mark ≤ 1024 → rows (i .store) ≤ 1024 → Left (runOf i .store) (runOf i .bindings) (runOf i .mark)
   left p q =
-      let l : Leaves (i .store) (i .mark) (ran quiet tt i) = over-the-words (Unit {0}) quiet tt i a .1 in
-      let f : Filled _ _ = filled-returned i (ran quiet tt i) (store-filled (i .store) (i .mark) (a .store)) l in
-      let m : returned i (ran quiet tt i) .mark ≤ 1024 = returned-mark i 1024 p q (ran quiet tt i) l in
+      let l : Leaves (i .store) (i .mark) (ran places nowhere i) = over-the-words ℕ places nowhere i a .1 in
+      let f : Filled _ _ = filled-returned i (ran places nowhere i) (store-filled (i .store) (i .mark) (a .store)) l in
+      let m : returned i (ran places nowhere i) .mark ≤ 1024 = returned-mark i 1024 p q (ran places nowhere i) l in
       rw (run-shown i a)
       (record {
         inside = omega (arith, f .fits);
         most = m;
-        nodes = plain (returned i (ran quiet tt i) .store) (returned i (ran quiet tt i) .mark) f (zeros-returned i (ran quiet tt i)) m;
-        variables = variables-returned (ran quiet tt i);
-        bound = λ v. omega (arith, bound-returned (ran quiet tt i) l v);
+        nodes = plain (returned i (ran places nowhere i) .store) (returned i (ran places nowhere i) .mark) f (zeros-returned i (ran places nowhere i)) m;
+        variables = variables-returned (ran places nowhere i);
+        bound = λ v. omega (arith, bound-returned (ran places nowhere i) l v);
       })

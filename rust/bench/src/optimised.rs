@@ -170,9 +170,13 @@ struct Entry {
     /// CHOICE the head that the first operand tests.
     argument: u32,
     /// The operands as links: visits × 65,536 + entry. For patterns the visits
-    /// are 1.
+    /// are 1. For LEFT and CHOICE the third is the pattern at which the first
+    /// operand gives up, or 0 where it tests its head by a CONG.
     links: [u32; 6],
 }
+
+/// The place of a failed run in which no match failed.
+const NO_MISS: u32 = 4_096;
 
 type Table = [Entry; ENTRIES];
 
@@ -209,20 +213,22 @@ fn link(words: &[u32], operand: u32) -> u32 {
 }
 
 /// The head that a strategy tests before all else, and the visits up to that
-/// test. Where the head differs, the strategy fails after them.
-fn guard(words: &[u32], strategy: u32) -> Option<(u32, u32)> {
+/// test. Where the head differs, the strategy fails after them. Last the pattern
+/// at which a match then gives up, or 0, which is no operand's number.
+fn guard(words: &[u32], strategy: u32) -> Option<(u32, u32, u32)> {
     let mut at = strategy;
     let mut visits = 1;
     while visits < 64 {
         let here = row(words, at);
         match kind_in(words, at) {
-            CONG => return Some((visits, head(here[1], here[0] % 16))),
+            CONG => return Some((visits, head(here[1], here[0] % 16), 0)),
             MATCH => {
                 let pattern = row(words, here[2]);
                 if kind_in(words, here[2]) != PCON {
                     return None;
                 }
-                return Some((visits + 1, head(pattern[1], pattern[0] % 16)));
+                let head = head(pattern[1], pattern[0] % 16);
+                return Some((visits + 1, head, here[2]));
             }
             SEQ | SCOPE | TEST | WHERE | REC | CALL => at = here[2],
             _ => return None,
@@ -255,9 +261,10 @@ fn decode(words: &[u32], skipping: bool) -> Box<Table> {
                 new.guard = 1;
             }
             LEFT | CHOICE if skipping => {
-                if let Some((visits, head)) = guard(words, here[2]) {
+                if let Some((visits, head, pattern)) = guard(words, here[2]) {
                     new.guard = visits as u16;
                     new.argument = head;
+                    new.links[2] = pattern;
                 }
             }
             _ => {}
@@ -277,9 +284,20 @@ struct Machine<'a> {
     mask: u32,
     /// The node of each bound variable; the others mean nothing.
     bound: [u32; VARIABLES],
+    /// The pattern at which the last match that failed gave up.
+    miss: u32,
 }
 
 impl<'a> Machine<'a> {
+    /// The result of a match; where it failed, it gave up at this pattern.
+    #[inline(always)]
+    fn gave_up(&mut self, pattern: u32, got: u64) -> u64 {
+        if got >> 32 == FAILED {
+            self.miss = pattern % 65_536;
+        }
+        got
+    }
+
     #[inline(always)]
     fn node(&self, term: u32) -> &[u32; WIDTH] {
         let first = WIDTH * term as usize;
@@ -342,6 +360,9 @@ fn apply(table: &Table, m: &mut Machine, link: u32, state: u64, deep: u32) -> u6
                     && left_of(state) >= skipped
                     && deep >= skipped
                 {
+                    if e.links[2] != 0 {
+                        m.miss = e.links[2];
+                    }
                     state -= u64::from(skipped);
                     link = e.links[1];
                     continue;
@@ -398,10 +419,11 @@ fn apply(table: &Table, m: &mut Machine, link: u32, state: u64, deep: u32) -> u6
                 let term = term_of(state);
                 if e.guard == 0 {
                     let variable = entry(table, e.links[0]).argument;
-                    return meet(m, variable, term, term, left - 1, deep - 1);
+                    let got = meet(m, variable, term, term, left - 1, deep - 1);
+                    return m.gave_up(e.links[0], got);
                 }
                 if m.head(term) != e.argument {
-                    return failed(left - 1);
+                    return m.gave_up(e.links[0], failed(left - 1));
                 }
                 let got = fits(table, m, e.links[0], term, left - 1, deep - 1);
                 if !is_done(got) {
@@ -593,12 +615,12 @@ fn fits(table: &Table, m: &mut Machine, pattern: u32, term: u32, left: u32, deep
         if q.kind == PVAR {
             let got = meet(m, q.argument, child, 0, left, deep - 1);
             if !is_done(got) {
-                return got;
+                return m.gave_up(link, got);
             }
             left = left_of(got);
         } else {
             if m.head(child) != q.argument {
-                return failed(left);
+                return m.gave_up(link, failed(left));
             }
             if q.count != 0 {
                 let got = fits(table, m, link, child, left, deep - 1);
@@ -875,6 +897,7 @@ fn run_by(
         mark,
         mask: 0,
         bound: [0; VARIABLES],
+        miss: NO_MISS,
     };
     for (variable, &word) in bindings.iter().enumerate() {
         if word != 0 {
@@ -901,7 +924,7 @@ fn run_by(
         [0, 0, term_of(got), m.mark, used]
     } else {
         let (answer, place) = match got >> 32 {
-            FAILED => (1, 0),
+            FAILED => (1, m.miss),
             NO_UNITS => (6, 0),
             NO_ROOM => (7, 0),
             NO_NESTING => (8, 0),

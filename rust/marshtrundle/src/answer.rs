@@ -2,6 +2,8 @@
 use crate::bindings::Var;
 use crate::fault::Fault;
 use crate::store::Node;
+use crate::table::Entry;
+use crate::ENTRIES;
 use std::error::Error;
 use std::fmt;
 
@@ -10,8 +12,10 @@ use std::fmt;
 pub enum Answer {
     /// 0: the strategy succeeded. The outcome has the new subject and mark; the bindings are the new ones.
     Done,
-    /// 1: the strategy failed. Subject, mark and bindings are as given.
-    Failed,
+    /// 1: the strategy failed. This is the pattern's entry at which the last match in the run gave up, caught or not; none where
+    /// no match failed. [`Table::missed`](crate::Table::missed) says in which rule it stands. Subject, mark and bindings are as
+    /// given.
+    Failed(Option<Entry>),
     /// 2: a length or the mark is bad. Nothing was written.
     RefusedSizes,
     /// 13 to 17: this entry is the lowest bad entry of the table, and this is its first fault. Nothing was written.
@@ -45,7 +49,8 @@ impl Answer {
     pub(crate) fn told(answer: u32, place: u32) -> Answer {
         match answer {
             0 => Answer::Done,
-            1 => Answer::Failed,
+            1 if place as usize == ENTRIES => Answer::Failed(None),
+            1 => Answer::Failed(Some(Entry::from_number(place))),
             2 => Answer::RefusedSizes,
             4 => Answer::BadNode(place),
             5 => Answer::BadStart,
@@ -76,7 +81,7 @@ impl Answer {
     pub fn number(self) -> u32 {
         match self {
             Answer::Done => 0,
-            Answer::Failed => 1,
+            Answer::Failed(_) => 1,
             Answer::RefusedSizes => 2,
             Answer::BadEntry(_, fault) => fault.number(),
             Answer::BadNode(_) => 4,
@@ -90,7 +95,8 @@ impl Answer {
         }
     }
 
-    /// The number of the bad entry, of the bad node or of the unbound variable, and 0 in all other answers.
+    /// The number of the bad entry, of the bad node or of the unbound variable; of a failed run that of the pattern at which the last
+    /// match gave up, or 4,096; and 0 in all other answers.
     pub fn place(self) -> u32 {
         match self {
             Answer::BadEntry(place, _)
@@ -98,8 +104,8 @@ impl Answer {
             | Answer::DisobeyingEntry(place)
             | Answer::DisobeyingNode(place) => place,
             Answer::Unbound(var) => var.number(),
+            Answer::Failed(miss) => miss.map_or(ENTRIES as u32, Entry::number),
             Answer::Done
-            | Answer::Failed
             | Answer::RefusedSizes
             | Answer::BadStart
             | Answer::OutOfUnits
@@ -134,7 +140,12 @@ impl fmt::Display for Answer {
     fn fmt(&self, f: &mut fmt::Formatter<'_>) -> fmt::Result {
         match self {
             Answer::Done => f.write_str("done"),
-            Answer::Failed => f.write_str("failed"),
+            Answer::Failed(None) => f.write_str("failed"),
+            Answer::Failed(Some(entry)) => write!(
+                f,
+                "failed: the last match gave up at entry {}",
+                entry.number()
+            ),
             Answer::RefusedSizes => f.write_str("a length or the mark is bad"),
             Answer::BadEntry(e, fault) => write!(f, "entry {e} is bad: {fault}"),
             Answer::BadNode(k) => write!(f, "node {k} is bad"),

@@ -105,7 +105,8 @@
 //! - [`Store`] holds terms, eight words to a node. [`Store::node`] makes a node, [`Store::room`] makes room for a run,
 //!   [`Store::term`] reads a term back, [`Store::collect`] gives room back between runs.
 //! - [`Bindings`] says what each of the 32 variables is bound to.
-//! - [`run`] runs, [`free_variables`] answers which variables a strategy leaves free.
+//! - [`run`] runs, [`Table::missed`] says in which rule a failed run stopped matching, [`free_variables`] answers which variables
+//!   a strategy leaves free.
 //! - [`pipeline`] runs named passes one after the other, gives room back between them, and reports.
 //! - [`job`] reads and writes jobs, each one run as text.
 //! - [`show`] shows terms, strategies and tables by names, as text and as graphs, and what differs in two terms.
@@ -139,6 +140,7 @@ mod bindings;
 mod fault;
 pub mod job;
 pub mod kind;
+mod miss;
 mod names;
 mod outcome;
 pub mod pipeline;
@@ -153,6 +155,7 @@ mod traversals;
 pub use answer::{Answer, BuildError, Outcome};
 pub use bindings::{Bindings, Var, VarSet, VARS};
 pub use fault::{EntryFault, Fault};
+pub use miss::Miss;
 pub use signature::Signature;
 pub use store::{Node, Store, Term};
 pub use strategy::{Pattern, Strategy};

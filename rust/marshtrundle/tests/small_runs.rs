@@ -69,7 +69,10 @@ fn s1_to_s3_swap() {
 fn s4_and_s5_a_variable_twice() {
     let twice = match_(con(5, [var(X), var(X)]));
     let (end, _, bindings) = ran(twice.clone(), 2, 99, 9);
-    assert_eq!(end, ends(Answer::Failed, 2, 3, 5));
+    assert_eq!(
+        end,
+        ends(Answer::Failed(Some(Entry::from_number(2))), 2, 3, 5)
+    );
     assert_eq!(bindings, Bindings::new());
 
     let mut store = Store::new();
@@ -94,7 +97,10 @@ fn s6_an_abandoned_branch_leaves_no_binding() {
 #[test]
 fn s7_and_s8_children() {
     assert_eq!(ran(all(fail()), 0, 99, 9).0, ends(Answer::Done, 0, 3, 1));
-    assert_eq!(ran(one(id()), 0, 99, 9).0, ends(Answer::Failed, 0, 3, 1));
+    assert_eq!(
+        ran(one(id()), 0, 99, 9).0,
+        ends(Answer::Failed(None), 0, 3, 1)
+    );
     let (end, after, _) = ran(some(match_(con(1, []))), 2, 99, 9);
     assert_eq!(end, ends(Answer::Done, 3, 4, 5));
     assert_eq!(after.words()[24..28], [5, 2, 0, 1]);
@@ -105,7 +111,7 @@ fn s7_and_s8_children() {
 fn s9_paths() {
     assert_eq!(
         ran(path(3, id()), 2, 99, 9).0,
-        ends(Answer::Failed, 2, 3, 1)
+        ends(Answer::Failed(None), 2, 3, 1)
     );
     assert_eq!(ran(path(2, id()), 2, 99, 9).0, ends(Answer::Done, 3, 4, 2));
 }

@@ -13,13 +13,18 @@ use crate::refusals::{refusal, Input};
 /// The deepest nesting of a visit. 01: "if its nesting would exceed 4,096".
 pub const NESTING: u32 = 4_096;
 
+/// The place of a failed run in which no match failed. 02, wish 10: "or 4,096 if
+/// none did".
+pub const NO_MISS: u32 = 4_096;
+
 /// 01: "A run returns five numbers: answer, place, subject, mark, units used."
 #[derive(Clone, Copy, Debug, PartialEq, Eq)]
 pub struct Outcome {
     /// 0 to 8 without 3 by 01's table, and 10 to 17 by 02.
     pub answer: u32,
     /// The lowest bad entry for answers 10 and 13 to 17, the lowest bad node for
-    /// 4 and 11, the variable for 12, else 0.
+    /// 4 and 11, the variable for 12, the entry of the last match that failed for
+    /// 1, else 0.
     pub place: u32,
     /// The new subject for answer 0, else as given.
     pub subject: u32,
@@ -72,6 +77,8 @@ pub trait Watcher {
     fn compared(&mut self, _nesting: u32) {}
     /// A comparison for a bound variable ended: the two nodes, and the verdict.
     fn judged(&mut self, _left: u32, _right: u32, _equal: bool) {}
+    /// A match gave up at this pattern entry, of this kind.
+    fn missed(&mut self, _pattern: u32, _kind: u32) {}
     /// A node was made, and the mark is now this.
     fn made(&mut self, _mark: u32) {}
     /// A failure was caught: nodes dropped, and whether bindings went back.
@@ -108,6 +115,9 @@ struct Machine<'a, W> {
     mark: u32,
     used: u32,
     units: u32,
+    /// 02, wish 10: the pattern entry at which the last match that failed gave
+    /// up. Nothing takes it back: the last in time is meant, caught or not.
+    miss: u32,
     watcher: &'a mut W,
 }
 
@@ -381,6 +391,16 @@ impl<'a, W: Watcher> Machine<'a, W> {
         self.make(words)
     }
 
+    /// A match gives up at a pattern entry.
+    ///
+    /// 02, wish 10: "Let the matcher tell the pattern entry at which it gave up
+    /// [..]. For a repeated variable it's the variable's entry."
+    fn give_up(&mut self, pattern: u32) -> Result<(), End> {
+        self.miss = pattern;
+        self.watcher.missed(pattern, kind_of(self.table, pattern));
+        Err(End::Failed)
+    }
+
     /// Meets one pattern position with a term, for MATCH.
     fn meet(&mut self, pattern: u32, term: u32, nesting: u32) -> Result<(), End> {
         self.visit(nesting)?;
@@ -397,13 +417,13 @@ impl<'a, W: Watcher> Machine<'a, W> {
             // 01: "A bound one needs an equal term."
             let equal = self.equal(word - 1, term, nesting + 1)?;
             self.watcher.judged(word - 1, term, equal);
-            return if equal { Ok(()) } else { Err(End::Failed) };
+            return if equal { Ok(()) } else { self.give_up(pattern) };
         }
         // 01: "PCON needs equal constructor and count."
         let words = self.node(term);
         let count = row[0] % 16;
         if words[0] != row[1] || words[1] != count {
-            return Err(End::Failed);
+            return self.give_up(pattern);
         }
         for word in 2..2 + count as usize {
             self.meet(row[word], words[word], nesting + 1)?;
@@ -567,11 +587,13 @@ fn run_accepted<W: Watcher>(
         mark,
         used: 0,
         units,
+        miss: NO_MISS,
         watcher,
     };
     // 01: "The start is at nesting 1".
     let end = machine.apply(start, subject, 1);
     let used = machine.used;
+    let miss = machine.miss;
     let outcome = match end {
         Ok(new) => {
             bindings.copy_from_slice(&machine.bindings);
@@ -584,8 +606,9 @@ fn run_accepted<W: Watcher>(
             }
         }
         // 01: "subject, mark, bindings as given"; the caller's bindings were
-        // not touched.
-        Err(End::Failed) => given(FAILED, 0, used),
+        // not touched. 02, wish 10: "let a failed run carry, as its place, that
+        // of the last match that failed in it".
+        Err(End::Failed) => given(FAILED, miss, used),
         Err(End::CutOff(Stop::Units)) => given(NO_UNITS, 0, used),
         Err(End::CutOff(Stop::Room)) => given(NO_ROOM, 0, used),
         Err(End::CutOff(Stop::Nesting)) => given(NO_NESTING, 0, used),

@@ -25,6 +25,9 @@ struct Counts {
     caught_bindings: u64,
     caught_both: u64,
     deepest: u32,
+    misses: u64,
+    last_miss_kind: u32,
+    misses_in_run: u64,
 }
 
 impl Watcher for Counts {
@@ -45,6 +48,12 @@ impl Watcher for Counts {
             (true, false) => self.equal_other += 1,
             (false, _) => self.different += 1,
         }
+    }
+
+    fn missed(&mut self, _pattern: u32, kind: u32) {
+        self.misses += 1;
+        self.misses_in_run += 1;
+        self.last_miss_kind = kind;
     }
 
     fn made(&mut self, _mark: u32) {
@@ -144,6 +153,7 @@ pub fn of_runs(seed: u64, count: u64) -> String {
     let mut exact_units = Answers::new();
     let mut unbound_made = 0u64;
     let mut unbound_low = 0u64;
+    let mut failed_after = [0u64; 4];
     let mut exact_room = 0u64;
     for index in 0..count {
         let mut case = run_case(seed, index);
@@ -155,6 +165,7 @@ pub fn of_runs(seed: u64, count: u64) -> String {
         let before = case.bindings.clone();
         counts.seen = [false; 20];
         counts.deepest = 0;
+        counts.misses_in_run = 0;
         let made = counts.nodes;
         let outcome = run_watched(
             &case.table,
@@ -180,6 +191,14 @@ pub fn of_runs(seed: u64, count: u64) -> String {
         if answer == UNBOUND {
             unbound_made += u64::from(counts.nodes > made);
             unbound_low += u64::from(outcome.place == 0);
+        }
+        if answer == FAILED {
+            failed_after[match (counts.misses_in_run, counts.last_miss_kind) {
+                (0, _) => 0,
+                (_, kind::PCON) => 1,
+                _ => 2,
+            }] += 1;
+            failed_after[3] += u64::from(counts.misses_in_run > 1);
         }
         if answer == DONE {
             *built.entry(span(outcome.mark - case.mark)).or_default() += 1;
@@ -254,6 +273,13 @@ pub fn of_runs(seed: u64, count: u64) -> String {
         format_args!(
             "bound variables met: equal by the same node {}, equal by another node {}, different {}",
             counts.equal_same, counts.equal_other, counts.different
+        ),
+    );
+    say(
+        text,
+        format_args!(
+            "matches that failed: {}; failed runs by their place: none {}, a PCON {}, a PVAR {}; after more than one {}",
+            counts.misses, failed_after[0], failed_after[1], failed_after[2], failed_after[3]
         ),
     );
     say(text, format_args!("nodes made: {}", counts.nodes));

@@ -38,10 +38,15 @@ fn what_comes_back() {
                 assert_eq!(store, case.store, "{}", case.label);
                 continue;
             }
-            if outcome.answer == 12 {
-                assert!(outcome.place < 32, "{}", case.label);
-            } else {
-                assert_eq!(outcome.place, 0, "{}", case.label);
+            match outcome.answer {
+                12 => assert!(outcome.place < 32, "{}", case.label),
+                // 02, wish 10: a pattern entry, or 4,096.
+                1 if outcome.place < 4_096 => {
+                    let kind = case.table[8 * outcome.place as usize] / 16;
+                    assert!(kind == 18 || kind == 19, "{}", case.label);
+                }
+                1 => assert_eq!(outcome.place, 4_096, "{}", case.label),
+                _ => assert_eq!(outcome.place, 0, "{}", case.label),
             }
             assert!(outcome.units <= case.units, "{}", case.label);
             let below = 8 * case.mark as usize;

@@ -67,7 +67,7 @@ fn runs_print_nodes_and_bindings() {
     // Failed, cut off by units, by room and by nesting: as given.
     assert_eq!(
         job_spaced("job 9 0 1 2\ne 1 0\nn 1\nn 3 0 0\nb 0 1\nb 31 0\n"),
-        "answer 1 0 1 2 1\nn 1\nn 3 0 0\nb 0 1\nb 31 0\n"
+        "answer 1 4096 1 2 1\nn 1\nn 3 0 0\nb 0 1\nb 31 0\n"
     );
     assert_eq!(
         job_spaced("job 0 0 0 1\ne 0 0\nn 1\n"),

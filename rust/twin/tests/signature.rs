@@ -168,7 +168,7 @@ fn bad_signatures() {
     longer.pop();
     refused(&most, &longer, 10, 1);
     longer[65_535] = 0;
-    assert_eq!(signed(&most, &longer).outcome, outcome(1, 0, 2, 3, 2));
+    assert_eq!(signed(&most, &longer).outcome, outcome(1, 1, 2, 3, 2));
 }
 
 #[test]

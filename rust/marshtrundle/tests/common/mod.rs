@@ -137,7 +137,7 @@ const FORMS: [Form; 21] = [
         Answer::Done,
     ),
     ("TEST", false, true, test, Answer::Done),
-    ("NOT", false, true, not, Answer::Failed),
+    ("NOT", false, true, not, Answer::Failed(None)),
     ("WHERE", false, true, where_, Answer::Done),
     (
         "SCOPE of an unbound variable",

@@ -366,6 +366,39 @@ impl<'a> Plan<'a> {
         )
     }
 
+    /// MATCH of a pattern cut from some other term, so that it mostly fails.
+    fn mismatching(&mut self) -> u32 {
+        let other = self.random.below(self.terms.mark());
+        self.matching(other)
+    }
+
+    /// Matches that fail and are caught, then one that is not, or FAIL.
+    fn misses(&mut self, focus: u32) -> u32 {
+        let caught = |plan: &mut Plan<'a>| match plan.random.below(4) {
+            0 => plan.over(kind::NOT, 0, |plan| plan.mismatching()),
+            1 => {
+                let child = plan.child(focus);
+                plan.both(
+                    kind::LEFT,
+                    |plan| plan.over(kind::SOME, 0, |plan| plan.matching(child)),
+                    |plan| plan.leaf(kind::ID),
+                )
+            }
+            _ => plan.both(
+                kind::LEFT,
+                |plan| plan.mismatching(),
+                |plan| plan.leaf(kind::ID),
+            ),
+        };
+        self.both(kind::SEQ, caught, |plan| match plan.random.below(5) {
+            0 => plan.both(kind::SEQ, caught, |plan| plan.leaf(kind::FAIL)),
+            1 => plan.over(kind::NOT, 0, |plan| plan.matching(focus)),
+            2 => plan.over(kind::ALL, 0, |plan| plan.mismatching()),
+            3 => plan.leaf(kind::FAIL),
+            _ => plan.mismatching(),
+        })
+    }
+
     /// An effect, then a BUILD that names a variable that nothing binds, often
     /// after a part that makes nodes; around it something that catches failures.
     fn overlooked(&mut self, focus: u32) -> u32 {
@@ -669,6 +702,7 @@ impl<'a> Plan<'a> {
             9,  // a traversal
             3,  // an entry that nothing uses, then a strategy
             2,  // a BUILD whose variable is unbound, under a catcher
+            4,  // matches that fail
         ];
         match self.random.weighed(&weights) {
             0 => self.strategy(focus, 0),
@@ -738,6 +772,7 @@ impl<'a> Plan<'a> {
                 here(self)
             }
             21 => self.overlooked(focus),
+            22 => self.misses(focus),
             _ => self.leaf(kind::ID),
         }
     }

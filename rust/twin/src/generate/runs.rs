@@ -4,7 +4,7 @@ use super::damage::{damage_table, entry_of, odd};
 use super::plans::{pool, Plan};
 use super::terms::Terms;
 use crate::checks::{kind, NO_UNITS, WIDTH};
-use crate::engine::{run_watched, Outcome, Watcher};
+use crate::engine::{run_watched, Outcome, Watcher, NO_MISS};
 use crate::random::Random;
 use crate::text::RunCase;
 
@@ -214,7 +214,7 @@ fn general(random: &mut Random) -> RunCase {
         let dull = match outcome.answer {
             6 => 85,
             1 if outcome.units < 5 => 80,
-            1 => 30,
+            1 if outcome.place == NO_MISS => 60,
             12 if outcome.units < 8 => 80,
             12 => 30,
             0 if outcome.units < 8 => 80,

@@ -7,7 +7,7 @@ use lib.ListN.{length, length-set}
 use Rattle.checks.specs.Kinds.{variables}
 use Rattle.checks.specs.Good.{kindOf, operandCount}
 use Rattle.meaning.specs.Rules.{build as built}
-use Rattle.leaves.specs.Record.{markOf, held}
+use Rattle.leaves.specs.Record.{standing, held}
 use Rattle.leaves.specs.Visits.{visit}
 use Rattle.leaves.proofs.AnswerWords.{done-node}
 use Rattle.leaves.proofs.Keeping.{roomy}
@@ -50,7 +50,7 @@ build-calls t = (no-units-reads.Asked, no-units-reads.Learnt, no-nesting-reads.A
 abbrev build-Inv-loop : build-lts.InvT-loop
 build-Inv-loop table store₀ st₀ p left deep u₀ n made₀ i₀ store st u made i =
     (i ≤ n) × (n ≡ operandCount table p) × (kindOf table p ≡ 19) × (u < 4294967296) × (length store ≡ length store₀) × (length made ≡ 8)
-    × Built table (deep - 1) p st₀ (λ k. visit table deep (built p k (held st₀)) store₀ (markOf st₀) left) store st made u i
+    × Built table (deep - 1) p st₀ (λ k. visit table deep (built p k (held st₀)) store₀ (standing st₀) left) store st made u i
 
 abbrev build-μ-loop : build-lts.MeasureT-loop
 build-μ-loop table store₀ st₀ p left deep u₀ n made₀ i₀ store st u made i = n - i
@@ -67,10 +67,10 @@ below : (t : ℕ) (c : build-lts.In-loop (build-calls t) (build-at t) build.Post
 below t c = omega arith
 
 build-returns : (t : ℕ) → build-lts.Need-returns (build-calls t) (build-at t) build.Post build-Inv-loop build-μ-loop
-build-returns t c = λ k. record { is = units-out _ _ _ _ _ _ _ _ (c .no-units .ensures) (c .before .if1 .taken); frame = framed-refl _ }
+build-returns t c = λ k. record { is = units-out _ _ _ _ _ _ _ (c .no-units .ensures) (c .before .if1 .taken); frame = framed-refl _ }
 
 build-returns-2 : (t : ℕ) → build-lts.Need-returns-2 (build-calls t) (build-at t) build.Post build-Inv-loop build-μ-loop
-build-returns-2 t c = λ k. record { is = nesting-out _ _ _ _ _ _ _ _ (c .no-nesting .ensures) (omega arith) (c .before .before .if1 .left) (c .before .if2 .taken); frame = framed-refl _ }
+build-returns-2 t c = λ k. record { is = nesting-out _ _ _ _ _ _ _ (c .no-nesting .ensures) (omega arith) (c .before .before .if1 .left) (c .before .if2 .taken); frame = framed-refl _ }
 
 build-bit-requires : (t : ℕ) → build-lts.Need-bit-requires (build-calls t) (build-at t) build.Post build-Inv-loop build-μ-loop
 build-bit-requires t c κs = let v = small t (c .before) in omega arith

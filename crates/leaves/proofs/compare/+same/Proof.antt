@@ -7,7 +7,7 @@ use native.Mathlib.Omega.{arith}
 use borrow.Author.Needs.{needs}
 use Rattle.meaning.specs.Bindings.{Bindings}
 use Rattle.meaning.specs.Rules.{compare}
-use Rattle.leaves.specs.Noted.{Ran}
+use Rattle.leaves.specs.Noted.{Standing, Ran}
 use Rattle.leaves.specs.Visits.{countOf, visit}
 use Rattle.leaves.proofs.AnswerWords.{done-node}
 use Rattle.leaves.proofs.Limited.{units-kept, nesting-kept}
@@ -43,7 +43,7 @@ same-calls t = (no-units-reads.Asked, no-units-reads.Learnt, no-nesting-reads.As
 abbrev same-Inv-loop2 : same-lts.InvT-loop2
 same-Inv-loop2 store a b left deep x y u₀ d n i₀ u i =
     (i < n) × (n ≡ countOf store x) × (n ≡ countOf store y) × (u < 4294967296) × (d < deep)
-    × ((t : List ℕ) (β : Bindings ℕ) (m : ℕ) → (o : Ran) × Goes-on t d store x y i β m u o × Carried store y b β m o (visit t deep (compare a b β) store m left))
+    × ((t : List ℕ) (β : Bindings ℕ) (m : Standing) → (o : Ran) × Goes-on t d store x y i β m u o × Carried store y b β m o (visit t deep (compare a b β) store m left))
 
 abbrev same-μ-loop2 : same-lts.MeasureT-loop2
 same-μ-loop2 store a b left deep x y u₀ d n i₀ u i = n - i
@@ -51,7 +51,7 @@ same-μ-loop2 store a b left deep x y u₀ d n i₀ u i = n - i
 abbrev same-Inv-loop : same-lts.InvT-loop
 same-Inv-loop store a b left deep x₀ y₀ u₀ d₀ x y u d =
     (u < 4294967296) × (d ≤ deep)
-    × ((t : List ℕ) (β : Bindings ℕ) (m : ℕ) → Carried store y b β m (visit t d (compare x y β) store m u) (visit t deep (compare a b β) store m left))
+    × ((t : List ℕ) (β : Bindings ℕ) (m : Standing) → Carried store y b β m (visit t d (compare x y β) store m u) (visit t deep (compare a b β) store m left))
 
 abbrev same-μ-loop : same-lts.MeasureT-loop
 same-μ-loop store a b left deep x₀ y₀ u₀ d₀ x y u d = d
@@ -60,10 +60,10 @@ same-loop-holds : (t : ℕ) → same-lts.Need-loop-holds (same-calls t) (same-at
 same-loop-holds t c = (omega arith, omega arith, λ t β m r e. e)
 
 same-returns : (t : ℕ) → same-lts.Need-returns (same-calls t) (same-at t) same.Post same-Inv-loop2 same-μ-loop2 same-Inv-loop same-μ-loop
-same-returns t c = λ t β m. c .before .before .loop .inv .2 t β m _ (units-kept t _ _ _ m _ _ _ β (c .no-units .ensures) (c .before .if1 .taken))
+same-returns t c = λ t β m. c .before .before .loop .inv .2 t β m _ (units-kept t _ _ _ _ _ m _ β (c .no-units .ensures) (c .before .if1 .taken))
 
 same-returns-2 : (t : ℕ) → same-lts.Need-returns-2 (same-calls t) (same-at t) same.Post same-Inv-loop2 same-μ-loop2 same-Inv-loop same-μ-loop
-same-returns-2 t c = λ t β m. c .before .before .before .loop .inv .2 t β m _ (nesting-kept t _ _ _ m _ _ _ β (c .no-nesting .ensures) (c .before .before .before .loop .inv .0) (c .before .before .if1 .left) (c .before .if2 .taken))
+same-returns-2 t c = λ t β m. c .before .before .before .loop .inv .2 t β m _ (nesting-kept t _ _ _ _ _ m _ β (c .no-nesting .ensures) (c .before .before .before .loop .inv .0) (c .before .before .if1 .left) (c .before .if2 .taken))
 
 same-returns-3 : (t : ℕ) → same-lts.Need-returns-3 (same-calls t) (same-at t) same.Post same-Inv-loop2 same-μ-loop2 same-Inv-loop same-μ-loop
 same-returns-3 t c =

@@ -29,6 +29,7 @@ use Rattle.leaves.proofs.reading.entry.Reads as entry-reads
 use Rattle.leaves.proofs.reading.kind.Reads as kind-reads
 use Rattle.leaves.proofs.reading.operands.Reads as operands-reads
 use Rattle.leaves.proofs.record.bit.Reads as bit-reads
+use Rattle.leaves.proofs.record.give_up.Reads as give-up-reads
 use Rattle.leaves.proofs.record.put_variable.Reads as put-variable-reads
 use Rattle.leaves.proofs.record.word_of.Reads as word-of-reads
 use Rattle.words.proofs.word.Reads as word-reads
@@ -45,7 +46,7 @@ abbrev children-below : ℕ → In 2 children-kinds.ps
 children-below t = and 2 children-kinds.ps (falls 2 children-kinds.ps _<_ μ-children t) children.Pre
 
 abbrev children-calls : ℕ → children-lts.Claims
-children-calls t = (operands-reads.Asked, operands-reads.Learnt, entry-reads.Asked, entry-reads.Learnt, word-reads.Asked, word-reads.Learnt, no-units-reads.Asked, no-units-reads.Learnt, kind-reads.Asked, kind-reads.Learnt, bit-reads.Asked, bit-reads.Learnt, word-of-reads.Asked, word-of-reads.Learnt, same-reads.Asked, same-reads.Learnt, answer-of-reads.Asked, answer-of-reads.Learnt, put-variable-reads.Asked, put-variable-reads.Learnt, agree-reads.Asked, agree-reads.Learnt, failure-reads.Asked, failure-reads.Learnt, stopped-reads.Asked, stopped-reads.Learnt, done-reads.Asked, done-reads.Learnt, children-below t, children.Post)
+children-calls t = (operands-reads.Asked, operands-reads.Learnt, entry-reads.Asked, entry-reads.Learnt, word-reads.Asked, word-reads.Learnt, no-units-reads.Asked, no-units-reads.Learnt, kind-reads.Asked, kind-reads.Learnt, bit-reads.Asked, bit-reads.Learnt, word-of-reads.Asked, word-of-reads.Learnt, same-reads.Asked, same-reads.Learnt, answer-of-reads.Asked, answer-of-reads.Learnt, give-up-reads.Asked, give-up-reads.Learnt, put-variable-reads.Asked, put-variable-reads.Learnt, agree-reads.Asked, agree-reads.Learnt, failure-reads.Asked, failure-reads.Learnt, stopped-reads.Asked, stopped-reads.Learnt, done-reads.Asked, done-reads.Learnt, children-below t, children.Post)
 
 abbrev children-Inv-loop : children-lts.InvT-loop
 children-Inv-loop table store p s deep t left₀ words₀ n i₀ left words i =
@@ -96,7 +97,7 @@ came t c =
     let less : l .left - 1 < 4294967296 = omega (arith, l .inv .2) in
     ⊎-elim
     (λ w. matched-at _ _ _ _ _ _ _ _ _ _ _ (w .12) (w .11) (omega (arith, done-node _ _ _ (sym (w .7 .ensures) ∙ w .9 .given .1)))
-    (bound-matched k z d (sym e ∙ w .0 .taken) (w .1 .ensures) (sym (w .2 .ensures) ∙ w .3 .taken) (w .5 .ensures) _ (λ m. w .6 .ensures _ (held (l .words)) m) _ (w .7 .ensures) _ _ (w .9 .given .1)))
+    (bound-matched k z d (sym e ∙ w .0 .taken) (w .1 .ensures) (l .inv .3) (sym (w .2 .ensures) ∙ w .3 .taken) (w .5 .ensures) _ (λ m. w .6 .ensures _ (held (l .words)) m) _ (w .7 .ensures) _ _ (w .9 .given .1)))
     (⊎-elim
     (λ w. matched-at _ _ _ _ _ _ _ _ _ _ _ (w .7) (w .6) less
     (free-matched k z d (sym e ∙ w .0 .taken) (w .1 .ensures) (l .inv .3) (λ f. w .3 .left (w .2 .ensures ∙ f))
@@ -140,7 +141,8 @@ children-word-of-requires t c κs = variable-small (turn t (c .before .before .b
 
 children-returns-2 : (t : ℕ) → children-lts.Need-returns-2 (children-calls t) (children-at t) children.Post children-Inv-loop children-μ-loop
 children-returns-2 t c =
-    let at-answer-of = c .before in
+    let at-match = c .before .before in
+    let at-answer-of = at-match .before in
     let at-same = at-answer-of .before in
     let at-word = at-same .before in
     let at-if3 = at-word .before .before in
@@ -148,7 +150,7 @@ children-returns-2 t c =
     let at-before = at-bit .before in
     let at-before′ = at-before .before .before .before in
     let at-loop = at-before′ .before .before .before .before in
-    bound-stops (turn t (at-before′ .before)) (at-before′ .if1 .left) (levels t (at-before′ .before)) (is-variable t (at-before .before)) (at-before .entry2 .ensures) (sym (at-bit .bit .ensures) ∙ at-if3 .if3 .taken) (at-word .word-of .ensures) _ (λ m. at-same .same .ensures _ (held (at-loop .loop .words)) m) _ (at-answer-of .answer-of .ensures) (c .match .keys2)
+    bound-stops (turn t (at-before′ .before)) (at-before′ .if1 .left) (levels t (at-before′ .before)) (is-variable t (at-before .before)) (at-before .entry2 .ensures) (at-loop .loop .inv .3) (sym (at-bit .bit .ensures) ∙ at-if3 .if3 .taken) (at-word .word-of .ensures) _ (λ m. at-same .same .ensures _ (held (at-loop .loop .words)) m) _ (at-answer-of .answer-of .ensures) (c .give-up .ensures) (at-match .match .keys2)
 
 children-put-variable-requires : (t : ℕ) → children-lts.Need-put-variable-requires (children-calls t) (children-at t) children.Post children-Inv-loop children-μ-loop
 children-put-variable-requires t c κs = variable-small (turn t (c .before .before .before .before .before .before .before)) (is-variable t (c .before .before .before .before)) (c .before .before .before .entry2 .ensures)
@@ -157,7 +159,12 @@ children-agree-requires : (t : ℕ) → children-lts.Need-agree-requires (childr
 children-agree-requires t c κs = operand-is (turn t (c .before .before .before)) .0
 
 children-returns-3 : (t : ℕ) → children-lts.Need-returns-3 (children-calls t) (children-at t) children.Post children-Inv-loop children-μ-loop
-children-returns-3 t c = other (turn t (c .before .before .before .before .before .before)) (c .before .before .before .before .before .if1 .left) (levels t (c .before .before .before .before .before .before)) (is-constructor t (c .before .before .before)) (c .failure .ensures) (sym (c .before .before .agree .ensures) ∙ not-true _ (c .before .if4 .taken))
+children-returns-3 t c =
+    let at-if4 = c .before in
+    let at-agree = at-if4 .before in
+    let at-before = at-agree .before .before .before in
+    let at-loop = at-before .before .before .before .before in
+    other (turn t (at-before .before)) (at-before .if1 .left) (levels t (at-before .before)) (is-constructor t (at-agree .before)) (at-loop .loop .inv .3) (c .failure .ensures) (sym (at-agree .agree .ensures) ∙ not-true _ (at-if4 .if4 .taken))
 
 children-operands-requires-2 : (t : ℕ) → children-lts.Need-operands-requires-2 (children-calls t) (children-at t) children.Post children-Inv-loop children-μ-loop
 children-operands-requires-2 t c κs = operand-is (turn t (c .before .before .before .before .before)) .0
@@ -207,9 +214,9 @@ pub +match-children-spec : {M : Type 1} → statement M
     (children-add-entry t) (children-entry-requires t) (children-add-word t) (children-word-requires t) (λ c κs. search needs)
     (children-returns t) (λ c. search needs) (children-kind-requires t) (children-entry-requires-2 t) (λ c. search needs)
     (children-bit-requires t) (children-word-of-requires t) (λ c. search needs)
-    (λ c κs. search needs) (λ c κs. search needs) (λ c. search needs) (children-returns-2 t)
+    (λ c κs. search needs) (λ c κs. search needs) (λ c. search needs) (λ c κs. search needs) (children-returns-2 t)
     (children-put-variable-requires t)
-    (children-agree-requires t) (λ c κs. search needs) (children-returns-3 t) (children-operands-requires-2 t)
+    (children-agree-requires t) (λ c. search needs) (λ c κs. search needs) (children-returns-3 t) (children-operands-requires-2 t)
     (λ c κs. search needs) (children-returns-4 t) (λ c κs. search needs) (λ c. search needs) (children-match-children-requires t)
     (λ c κs. search needs) (λ c. search needs) (children-returns-5 t) (λ c. search needs) (λ c. search needs)
     (children-loop-again t) (λ c κs. search needs) (children-returns-6 t)

@@ -86,7 +86,8 @@ word-of-requires c κs = small (c .before .before .before .before)
 
 returns-2 : tie.Need-returns-2 Inv-loop μ-loop
 returns-2 c =
-    let at-answer-of = c .before in
+    let at-match = c .before .before in
+    let at-answer-of = at-match .before in
     let at-same = at-answer-of .before in
     let at-word = at-same .before in
     let at-if3 = at-word .before .before in
@@ -94,7 +95,7 @@ returns-2 c =
     let at-before = at-bit .before .before in
     let at-before′ = at-before .before .before .before in
     let at-loop = at-before′ .before .before .before .before in
-    at-loop .loop .inv .5 .whole _ _ (bound-stops (turn (at-before′ .before)) (at-before′ .if1 .left) (levels (at-before′ .before)) (is-variable (at-before .before)) (at-before .entry2 .ensures) (sym (at-bit .bit .ensures) ∙ at-if3 .if3 .taken) (at-word .word-of .ensures) _ (λ m. at-same .same .ensures _ (held (at-loop .loop .st)) m) _ (at-answer-of .answer-of .ensures) (c .match .keys2))
+    at-loop .loop .inv .5 .whole _ _ (bound-stops (turn (at-before′ .before)) (at-before′ .if1 .left) (levels (at-before′ .before)) (is-variable (at-before .before)) (at-before .entry2 .ensures) (at-loop .loop .inv .4) (sym (at-bit .bit .ensures) ∙ at-if3 .if3 .taken) (at-word .word-of .ensures) _ (λ m. at-same .same .ensures _ (held (at-loop .loop .st)) m) _ (at-answer-of .answer-of .ensures) (c .give-up .ensures) (at-match .match .keys2))
 
 loop-less : tie.Need-loop-less Inv-loop μ-loop
 loop-less c = omega arith
@@ -111,7 +112,7 @@ loop-again c =
     let at-before′ = at-before .before .before .before in
     let at-loop = at-before′ .before .before .before .before in
     let l = at-loop .loop .inv in
-    let f = bound-matched (turn (at-before′ .before)) (at-before′ .if1 .left) (levels (at-before′ .before)) (is-variable (at-before .before)) (at-before .entry2 .ensures) (sym (at-bit .bit .ensures) ∙ at-if3 .if3 .taken) (at-word .word-of .ensures) _ (λ m. at-same .same .ensures _ (held (at-loop .loop .st)) m) _ (at-answer-of .answer-of .ensures) _ _ (at-rest .rest .given .1) in
+    let f = bound-matched (turn (at-before′ .before)) (at-before′ .if1 .left) (levels (at-before′ .before)) (is-variable (at-before .before)) (at-before .entry2 .ensures) (l .4) (sym (at-bit .bit .ensures) ∙ at-if3 .if3 .taken) (at-word .word-of .ensures) _ (λ m. at-same .same .ensures _ (held (at-loop .loop .st)) m) _ (at-answer-of .answer-of .ensures) _ _ (at-rest .rest .given .1) in
     (omega (arith, at-before′ .before .before .before .loop-test .taken), l .1, omega (arith, done-node _ _ _ (sym (at-answer-of .answer-of .ensures) ∙ at-rest .rest .given .1)), l .3, going-long (l .5) (l .4) f, going-on (l .5) f)
 
 put-variable-requires : tie.Need-put-variable-requires Inv-loop μ-loop
@@ -140,7 +141,7 @@ returns-3 c =
     let at-agree = at-if4 .before in
     let at-before = at-agree .before .before .before in
     let at-loop = at-before .before .before .before .before in
-    at-loop .loop .inv .5 .whole _ _ (other (turn (at-before .before)) (at-before .if1 .left) (levels (at-before .before)) (is-constructor (at-agree .before)) (c .failure .ensures) (sym (at-agree .agree .ensures) ∙ not-true _ (at-if4 .if4 .taken)))
+    at-loop .loop .inv .5 .whole _ _ (other (turn (at-before .before)) (at-before .if1 .left) (levels (at-before .before)) (is-constructor (at-agree .before)) (at-loop .loop .inv .4) (c .failure .ensures) (sym (at-agree .agree .ensures) ∙ not-true _ (at-if4 .if4 .taken)))
 
 operands-requires-2 : tie.Need-operands-requires-2 Inv-loop μ-loop
 operands-requires-2 c κs = operand-is (turn (c .before .before .before .before .before)) .0
@@ -187,22 +188,22 @@ children-requires c κs =
 returns-5 : tie.Need-returns-5 Inv-loop μ-loop
 returns-5 c =
     let at-answer-of2 = c .before in
-    let at-match-children = at-answer-of2 .before in
+    let at-match-children = at-answer-of2 .before .before .before in
     let at-done = at-match-children .before .before in
     let at-before = at-done .before .before .before .before in
     let at-before′ = at-before .before .before in
     let at-before′′ = at-before′ .before .before .before in
     let at-loop = at-before′′ .before .before .before .before in
-    at-loop .loop .inv .5 .whole _ _ (inner-refused (turn (at-before′′ .before)) (at-before′′ .if1 .left) (levels (at-before′′ .before)) (is-constructor (at-before′ .before)) (agrees (at-before .before)) (at-done .done .ensures) _ _ (at-match-children .match-children .ensures) _ (at-answer-of2 .answer-of2 .ensures) (c .match2 .keys2))
+    at-loop .loop .inv .5 .whole _ _ (inner-refused (turn (at-before′′ .before)) (at-before′′ .if1 .left) (levels (at-before′′ .before)) (is-constructor (at-before′ .before)) (agrees (at-before .before)) (at-done .done .ensures) _ _ (at-match-children .match-children .ensures) _ (at-answer-of2 .answer-of2 .ensures) (at-loop .loop .inv .4) (c .match2 .keys2))
 
 loop-less-4 : tie.Need-loop-less-4 Inv-loop μ-loop
 loop-less-4 c = omega arith
 
 loop-again-4 : tie.Need-loop-again-4 Inv-loop μ-loop
 loop-again-4 c =
-    let at-rest2 = c .before .before .before in
+    let at-rest2 = c .before in
     let at-answer-of2 = at-rest2 .before .before in
-    let at-match-children = at-answer-of2 .before in
+    let at-match-children = at-answer-of2 .before .before .before in
     let at-done = at-match-children .before .before in
     let at-before = at-done .before .before .before .before in
     let at-before′ = at-before .before .before in
@@ -235,8 +236,8 @@ match-in-place-spec =
     Inv-loop μ-loop (λ c. search needs) (λ c. search needs) (λ c κs. search needs) loop-holds add-entry entry-requires
     add-word word-requires (λ c κs. search needs) returns (λ c. search needs) add-i kind-requires entry-requires-2
     (λ c. search needs) bit-requires word-of-requires (λ c. search needs)
-    (λ c κs. search needs) (λ c κs. search needs) (λ c. search needs) returns-2 loop-less loop-again
-    put-variable-requires loop-less-2 loop-again-2 agree-requires (λ c κs. search needs) returns-3 operands-requires-2
+    (λ c κs. search needs) (λ c κs. search needs) (λ c. search needs) (λ c κs. search needs) returns-2 loop-less loop-again
+    put-variable-requires loop-less-2 loop-again-2 agree-requires (λ c. search needs) (λ c κs. search needs) returns-3 operands-requires-2
     (λ c κs. search needs) returns-4 (λ c. search needs) loop-less-3 loop-again-3 (λ c κs. search needs)
-    (λ c. search needs) children-requires (λ c κs. search needs) (λ c. search needs) returns-5 loop-less-4 loop-again-4
+    (λ c. search needs) children-requires (λ c κs. search needs) (λ c. search needs) (λ c. search needs) (λ c. search needs) returns-5 loop-less-4 loop-again-4
     loop-less-5 loop-again-5 (λ c κs. search needs) returns-6)

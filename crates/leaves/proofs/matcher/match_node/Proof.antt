@@ -7,7 +7,7 @@ use borrow.Author.Tests.{not-true, not-false}
 use Rattle.checks.specs.Kinds.{variables}
 use Rattle.checks.specs.Good.{kindOf}
 use Rattle.leaves.specs.Answers.{nodeIn}
-use Rattle.leaves.specs.Record.{markOf, held}
+use Rattle.leaves.specs.Record.{standing, held}
 use Rattle.leaves.specs.Visits.{agreeing}
 use Rattle.leaves.proofs.Patterns.{no-variable}
 use Rattle.leaves.proofs.Matching.{root-units, root-nesting, root-small, root-free, root-bound, root-bound-stops, root-other, root-leaf, root-handed, root-stops, root-stopped, root-matched}
@@ -43,7 +43,8 @@ word-of-requires c κs = small (c .before .before .before .before)
 
 returns-3 : tie.Need-returns-3
 returns-3 c =
-    let at-answer-of = c .before in
+    let at-match = c .before .before in
+    let at-answer-of = at-match .before in
     let at-same = at-answer-of .before in
     let at-word = at-same .before in
     let at-if4 = at-word .before .before in
@@ -53,7 +54,7 @@ returns-3 c =
     let at-if2 = at-entry .before .before .before in
     let at-if1 = at-if2 .before in
     let start = at-if1 .before .before in
-    root-bound-stops (start .pre .0) _ (at-if1 .if1 .left) (at-if2 .if2 .left) (is-variable (at-before .before)) (at-entry .entry .ensures) (sym (at-bit .bit .ensures) ∙ at-if4 .if4 .taken) (at-word .word-of .ensures) _ (at-same .same .ensures _ (held (start .args .st .now)) (markOf (start .args .st .now))) _ (at-answer-of .answer-of .ensures) (c .match .keys2)
+    root-bound-stops (start .pre .0) _ (at-if1 .if1 .left) (at-if2 .if2 .left) (is-variable (at-before .before)) (at-entry .entry .ensures) (sym (at-bit .bit .ensures) ∙ at-if4 .if4 .taken) (at-word .word-of .ensures) _ (at-same .same .ensures _ (held (start .args .st .now)) (standing (start .args .st .now))) _ (at-answer-of .answer-of .ensures) (c .give-up .ensures) (at-match .match .keys2)
 
 returns-4 : tie.Need-returns-4
 returns-4 c =
@@ -68,7 +69,7 @@ returns-4 c =
     let at-if2 = at-entry .before .before .before in
     let at-if1 = at-if2 .before in
     let start = at-if1 .before .before in
-    root-bound (start .pre .0) _ (at-if1 .if1 .left) (at-if2 .if2 .left) (is-variable (at-before .before)) (at-entry .entry .ensures) (sym (at-bit .bit .ensures) ∙ at-if4 .if4 .taken) (at-word .word-of .ensures) _ (at-same .same .ensures _ (held (start .args .st .now)) (markOf (start .args .st .now))) _ (at-answer-of .answer-of .ensures) _ _ _ (at-rest .rest .given .1) (c .done .ensures)
+    root-bound (start .pre .0) _ (at-if1 .if1 .left) (at-if2 .if2 .left) (is-variable (at-before .before)) (at-entry .entry .ensures) (sym (at-bit .bit .ensures) ∙ at-if4 .if4 .taken) (at-word .word-of .ensures) _ (at-same .same .ensures _ (held (start .args .st .now)) (standing (start .args .st .now))) _ (at-answer-of .answer-of .ensures) _ _ _ (at-rest .rest .given .1) (c .done .ensures)
 
 bind-requires : tie.Need-bind-requires
 bind-requires c κs = let v = small (c .before .before .before .before) in omega arith
@@ -154,8 +155,8 @@ match-node-spec =
     (λ c. search needs) (λ c κs. search needs) returns (λ c κs. search needs) returns-2 (λ c. search needs)
     (λ c κs. search needs) (λ c κs. search needs) (λ c. search needs) bit-requires
     word-of-requires (λ c. search needs) (λ c. search needs) (λ c κs. search needs)
-    (λ c κs. search needs) (λ c. search needs) returns-3 (λ c κs. search needs) returns-4 bind-requires
-    (λ c. search needs) returns-5 (λ c κs. search needs) (λ c. search needs) (λ c κs. search needs) returns-6
+    (λ c κs. search needs) (λ c. search needs) (λ c κs. search needs) returns-3 (λ c κs. search needs) returns-4 bind-requires
+    (λ c. search needs) returns-5 (λ c κs. search needs) (λ c. search needs) (λ c. search needs) (λ c κs. search needs) returns-6
     (λ c κs. search needs) (λ c. search needs) returns-7 (λ c. search needs) (λ c κs. search needs) returns-8
     (λ c. search needs) (λ c. search needs) in-place-requires (λ c κs. search needs) (λ c. search needs) returns-9
     (λ c κs. search needs) returns-10)

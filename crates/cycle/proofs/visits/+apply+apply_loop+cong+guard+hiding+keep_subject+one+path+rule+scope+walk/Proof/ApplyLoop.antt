@@ -96,18 +96,22 @@ apply-loop-visits-to-failure-requires t c κs =
     let at-loop = at-kind .before .before .before in
     ((at-loop .loop .inv) .ready .hints, (at-loop .loop .inv) .ready .inside, (at-loop .loop .inv) .ready .entries .operand _ 2 ((at-loop .loop .inv) .ready .inside) (omega arith), (of-two _ _ 5 (at-kind .kind .ensures) (five-up _ (at-match .match .rest .1) (at-if3 .if3 .left)) (at-if4 .if4 .taken)))
 
-pub apply-loop-sub-s-2 : (t : ℕ) → apply-loop-lts.Need-sub-s-2 (apply-loop-calls t) (apply-loop-at t) apply-loop.Post apply-loop-Inv-loop apply-loop-μ-loop
-apply-loop-sub-s-2 t c = within _ _ _ (c .before .visits-to-failure .ensures .few)
-
 pub apply-loop-entry-requires-4 : (t : ℕ) → apply-loop-lts.Need-entry-requires-4 (apply-loop-calls t) (apply-loop-at t) apply-loop.Post apply-loop-Inv-loop apply-loop-μ-loop
 apply-loop-entry-requires-4 t c κs = ((c .before .before .before .before .before .before .before .before .before .before .loop .inv) .ready .inside, omega arith)
 
+pub apply-loop-sub-s-2 : (t : ℕ) → apply-loop-lts.Need-sub-s-2 (apply-loop-calls t) (apply-loop-at t) apply-loop.Post apply-loop-Inv-loop apply-loop-μ-loop
+apply-loop-sub-s-2 t c = within _ _ _ (c .before .before .visits-to-failure .ensures .few)
+
+pub apply-loop-entry-requires-5 : (t : ℕ) → apply-loop-lts.Need-entry-requires-5 (apply-loop-calls t) (apply-loop-at t) apply-loop.Post apply-loop-Inv-loop apply-loop-μ-loop
+apply-loop-entry-requires-5 t c κs = ((c .before .before .before .before .before .before .before .before .before .before .before .loop .inv) .ready .inside, omega arith)
+
 pub apply-loop-loop-less-2 : (t : ℕ) → apply-loop-lts.Need-loop-less-2 (apply-loop-calls t) (apply-loop-at t) apply-loop.Post apply-loop-Inv-loop apply-loop-μ-loop
-apply-loop-loop-less-2 t c = omega (arith, pos _ (c .before .before .before .before .before .before .before .before .before .if2 .left))
+apply-loop-loop-less-2 t c = omega (arith, pos _ (c .before .before .before .before .before .before .before .before .before .before .if2 .left))
 
 pub apply-loop-loop-again-2 : (t : ℕ) → apply-loop-lts.Need-loop-again-2 (apply-loop-calls t) (apply-loop-at t) apply-loop.Post apply-loop-Inv-loop apply-loop-μ-loop
 apply-loop-loop-again-2 t c =
-    let at-if5 = c .before in
+    let at-entry4 = c .before in
+    let at-if5 = at-entry4 .before in
     let at-visits-to-failure = at-if5 .before in
     let at-if4 = at-visits-to-failure .before .before .before in
     let at-if3 = at-if4 .before in
@@ -116,7 +120,7 @@ apply-loop-loop-again-2 t c =
     let at-if2 = at-kind .before in
     let at-if1 = at-if2 .before in
     let at-loop = at-if1 .before in
-    skip-turn (at-loop .loop .inv) (at-if1 .if1 .left) (at-if2 .if2 .left) refl (at-visits-to-failure .visits-to-failure .ensures) (at-if5 .if5 .taken) (of-two _ _ 5 (at-kind .kind .ensures) (five-up _ (at-match .match .rest .1) (at-if3 .if3 .left)) (at-if4 .if4 .taken)) (c .entry4 .ensures)
+    skip-turn (at-loop .loop .inv) (at-if1 .if1 .left) (at-if2 .if2 .left) refl (at-visits-to-failure .visits-to-failure .ensures) (at-if5 .if5 .taken) (of-two _ _ 5 (at-kind .kind .ensures) (five-up _ (at-match .match .rest .1) (at-if3 .if3 .left)) (at-if4 .if4 .taken)) (at-entry4 .entry4 .ensures) (c .entry5 .ensures)
 
 pub apply-loop-apply-loop-requires : (t : ℕ) → apply-loop-lts.Need-apply-loop-requires (apply-loop-calls t) (apply-loop-at t) apply-loop.Post apply-loop-Inv-loop apply-loop-μ-loop
 apply-loop-apply-loop-requires t c κs =
@@ -151,8 +155,8 @@ apply-loop-cast-done t c =
     let at-loop = at-if1 .before in
     omega (arith, node-small ((at-loop .loop .inv) .ready .steady) _ (ready-same (at-loop .loop .inv) (at-if1 .if1 .left) (at-if2 .if2 .left) .subject))
 
-pub apply-loop-entry-requires-5 : (t : ℕ) → apply-loop-lts.Need-entry-requires-5 (apply-loop-calls t) (apply-loop-at t) apply-loop.Post apply-loop-Inv-loop apply-loop-μ-loop
-apply-loop-entry-requires-5 t c κs = ((c .before .before .before .before .before .before .before .before .before .before .before .before .before .before .before .before .before .before .before .before .before .before .before .before .loop .inv) .ready .inside, omega arith)
+pub apply-loop-entry-requires-6 : (t : ℕ) → apply-loop-lts.Need-entry-requires-6 (apply-loop-calls t) (apply-loop-at t) apply-loop.Post apply-loop-Inv-loop apply-loop-μ-loop
+apply-loop-entry-requires-6 t c κs = ((c .before .before .before .before .before .before .before .before .before .before .before .before .before .before .before .before .before .before .before .before .before .before .before .before .loop .inv) .ready .inside, omega arith)
 
 pub apply-loop-loop-less-3 : (t : ℕ) → apply-loop-lts.Need-loop-less-3 (apply-loop-calls t) (apply-loop-at t) apply-loop.Post apply-loop-Inv-loop apply-loop-μ-loop
 apply-loop-loop-less-3 t c = omega (arith, pos _ (c .before .before .before .before .before .before .before .before .before .before .before .before .before .before .before .before .before .before .before .before .before .before .before .if2 .left))
@@ -172,10 +176,10 @@ apply-loop-loop-again-3 t c =
     let at-if2 = at-kind .before in
     let at-if1 = at-if2 .before in
     let at-loop = at-if1 .before in
-    rw (at-restore .restore .ensures) (left-turn (at-loop .loop .inv) (at-if1 .if1 .left) (at-if2 .if2 .left) (at-entry3 .entry3 .ensures) (at-apply-loop .apply-loop .ensures) (at-answer-of2 .answer-of2 .ensures) (of-two _ _ 5 (at-kind .kind .ensures) (five-up _ (at-match .match .rest .1) (at-if3 .if3 .left)) (at-if4 .if4 .taken)) (c .entry5 .ensures) (at-rest .rest .given .1) (at-done .done .ensures) (at-apply-loop .apply-loop .kept .1 .0))
+    rw (at-restore .restore .ensures) (left-turn (at-loop .loop .inv) (at-if1 .if1 .left) (at-if2 .if2 .left) (at-entry3 .entry3 .ensures) (at-apply-loop .apply-loop .ensures) (at-answer-of2 .answer-of2 .ensures) (of-two _ _ 5 (at-kind .kind .ensures) (five-up _ (at-match .match .rest .1) (at-if3 .if3 .left)) (at-if4 .if4 .taken)) (c .entry6 .ensures) (at-rest .rest .given .1) (at-done .done .ensures) (at-apply-loop .apply-loop .kept .1 .0))
 
-pub apply-loop-entry-requires-6 : (t : ℕ) → apply-loop-lts.Need-entry-requires-6 (apply-loop-calls t) (apply-loop-at t) apply-loop.Post apply-loop-Inv-loop apply-loop-μ-loop
-apply-loop-entry-requires-6 t c κs = ((c .before .before .before .before .before .before .before .loop .inv) .ready .inside, omega arith)
+pub apply-loop-entry-requires-7 : (t : ℕ) → apply-loop-lts.Need-entry-requires-7 (apply-loop-calls t) (apply-loop-at t) apply-loop.Post apply-loop-Inv-loop apply-loop-μ-loop
+apply-loop-entry-requires-7 t c κs = ((c .before .before .before .before .before .before .before .loop .inv) .ready .inside, omega arith)
 
 pub apply-loop-loop-less-4 : (t : ℕ) → apply-loop-lts.Need-loop-less-4 (apply-loop-calls t) (apply-loop-at t) apply-loop.Post apply-loop-Inv-loop apply-loop-μ-loop
 apply-loop-loop-less-4 t c = omega (arith, pos _ (c .before .before .before .before .before .before .if2 .left))
@@ -188,7 +192,7 @@ apply-loop-loop-again-4 t c =
     let at-if2 = at-kind .before in
     let at-if1 = at-if2 .before in
     let at-loop = at-if1 .before in
-    rec-turn (at-loop .loop .inv) (at-if1 .if1 .left) (at-if2 .if2 .left) _ (c .entry6 .ensures) (of-two _ _ 7 (at-kind .kind .ensures) (at-if4 .if4 .left) (at-if6 .if6 .taken))
+    rec-turn (at-loop .loop .inv) (at-if1 .if1 .left) (at-if2 .if2 .left) _ (c .entry7 .ensures) (of-two _ _ 7 (at-kind .kind .ensures) (at-if4 .if4 .left) (at-if6 .if6 .taken))
 
 pub apply-loop-rule-requires : (t : ℕ) → apply-loop-lts.Need-rule-requires (apply-loop-calls t) (apply-loop-at t) apply-loop.Post apply-loop-Inv-loop apply-loop-μ-loop
 apply-loop-rule-requires t c κs =
@@ -219,9 +223,9 @@ apply-loop-closed t =
     (apply-loop-returns t) (λ c κs. search needs) (apply-loop-same-length-2 t) (apply-loop-returns-2 t) (apply-loop-sub-d t) (apply-loop-sub-s t)
     (apply-loop-kind-requires t) (apply-loop-entry-requires t) (apply-loop-apply-requires t) (λ c κs. search needs) (λ c. search needs)
     (apply-loop-same-length-3 t) (apply-loop-returns-3 t) (apply-loop-entry-requires-2 t) (apply-loop-loop-less t) (apply-loop-loop-again t)
-    (apply-loop-entry-requires-3 t) (apply-loop-visits-to-failure-requires t) (λ c. search needs) (apply-loop-sub-s-2 t)
-    (apply-loop-entry-requires-4 t) (apply-loop-loop-less-2 t) (apply-loop-loop-again-2 t) (λ c. search needs) (λ c. search needs)
+    (apply-loop-entry-requires-3 t) (apply-loop-visits-to-failure-requires t) (apply-loop-entry-requires-4 t) (λ c. search needs) (λ c. search needs) (apply-loop-sub-s-2 t)
+    (apply-loop-entry-requires-5 t) (apply-loop-loop-less-2 t) (apply-loop-loop-again-2 t) (λ c. search needs) (λ c. search needs)
     (apply-loop-apply-loop-requires t) (λ c κs. search needs) (λ c. search needs) (apply-loop-same-length-4 t) (apply-loop-returns-4 t)
-    (λ c κs. search needs) (apply-loop-cast-done t) (λ c κs. search needs) (apply-loop-entry-requires-5 t)
-    (apply-loop-loop-less-3 t) (apply-loop-loop-again-3 t) (apply-loop-entry-requires-6 t) (apply-loop-loop-less-4 t) (apply-loop-loop-again-4 t)
+    (λ c κs. search needs) (apply-loop-cast-done t) (λ c κs. search needs) (apply-loop-entry-requires-6 t)
+    (apply-loop-loop-less-3 t) (apply-loop-loop-again-3 t) (apply-loop-entry-requires-7 t) (apply-loop-loop-less-4 t) (apply-loop-loop-again-4 t)
     (apply-loop-rule-requires t) (apply-loop-same-length-5 t) (apply-loop-returns-5 t)
