@@ -102,6 +102,11 @@ fn each_answer_has_its_status_and_its_words() {
             "answer 8: a visit is nested too deep",
         ),
         (
+            &["job 9 0 0 1", "e 15 0 1", "e 18 7", "n 1"],
+            12,
+            "answer 12: variable 7 is built and unbound",
+        ),
+        (
             &["job 9 0 0 1", "e 0"],
             9,
             "answer 9: line 2: it has 1 numbers, expected 2 to 8",
