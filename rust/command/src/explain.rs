@@ -405,7 +405,7 @@ pub(crate) fn explain(
     let end = ran(&mut proved);
     if end.answer.is_refusal() {
         return Said {
-            error: in_words(&job, end.answer),
+            error: in_words(&job, names, end.answer),
             status: end.answer.number() as u8,
             ..Said::default()
         };

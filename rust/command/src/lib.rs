@@ -10,7 +10,7 @@ mod options;
 
 use marshtrundle::job::{Job, TextFault};
 use marshtrundle::show::{Names, Show};
-use marshtrundle::{free_variables, with_stack, Answer, Outcome};
+use marshtrundle::{free_variables, with_stack, Answer, Entry, Outcome};
 use options::{Options, Subcommand};
 use std::io::Read;
 use std::path::Path;
@@ -109,8 +109,8 @@ fn begin(words: &[String]) -> Result<Said, Stop> {
         show = show.length(length);
     }
     Ok(match options.subcommand {
-        Subcommand::Run { print, difference } => run(job, show, print, difference),
-        Subcommand::Check => check(job),
+        Subcommand::Run { print, difference } => run(job, &names, show, print, difference),
+        Subcommand::Check => check(job, &names),
         Subcommand::Free => free(&job, &names),
         Subcommand::Print { entries, graph } => print(&job, show, entries, graph),
         Subcommand::Explain { html, all } => explain::explain(job, &names, &options, html, all),
@@ -143,14 +143,24 @@ fn names(options: &Options) -> Result<Names, Stop> {
     Names::read(&text).map_err(|fault| Stop::Unreadable(format!("{}: {fault}", path.display())))
 }
 
-/// An answer in words, with what is wrong with a bad entry and what to do next. Nothing for done.
-fn in_words(job: &Job, answer: Answer) -> String {
+/// An answer in words, with what is wrong with a bad entry, in which pattern the last match gave up, and what to do next. Nothing for done.
+fn in_words(job: &Job, names: &Names, answer: Answer) -> String {
     if answer == Answer::Done {
         return String::new();
     }
-    let what = match job.table.explain(answer) {
-        Some(fault) => fault.to_string(),
-        None => answer.to_string(),
+    let pattern = |&entry: &Entry| {
+        Show::new(names)
+            .depth(10)
+            .length(30)
+            .pattern(&job.table, entry)
+    };
+    let what = match (job.table.explain(answer), job.table.missed(answer)) {
+        (Some(fault), _) => fault.to_string(),
+        (None, Some(miss)) => {
+            let rules: Vec<String> = miss.rules.iter().map(pattern).collect();
+            format!("{answer}, in {}", rules.join(" or "))
+        }
+        (None, None) => answer.to_string(),
     };
     format!(
         "marshtrundle: answer {}: {what}\nmarshtrundle: {}\n",
@@ -164,12 +174,12 @@ fn ran(job: &mut Job) -> Outcome {
     with_stack(|| job.run()).expect("a thread")
 }
 
-fn run(mut job: Job, show: Show<'_>, print: bool, difference: bool) -> Said {
+fn run(mut job: Job, names: &Names, show: Show<'_>, print: bool, difference: bool) -> Said {
     let before = job.clone();
     let end = ran(&mut job);
     let mut said = Said {
         output: job.answer(&end),
-        error: in_words(&job, end.answer),
+        error: in_words(&job, names, end.answer),
         status: end.answer.number() as u8,
     };
     if !print && !difference {
@@ -192,12 +202,12 @@ fn run(mut job: Job, show: Show<'_>, print: bool, difference: bool) -> Said {
 }
 
 /// A run without units: it is refused as any run would be, or else cut off before its first visit.
-fn check(mut job: Job) -> Said {
+fn check(mut job: Job, names: &Names) -> Said {
     job.units = 0;
     let end = ran(&mut job);
     if end.answer.is_refusal() {
         return Said {
-            error: in_words(&job, end.answer),
+            error: in_words(&job, names, end.answer),
             status: end.answer.number() as u8,
             ..Said::default()
         };
@@ -223,7 +233,7 @@ fn free(job: &Job, names: &Names) -> Said {
             ..Said::default()
         },
         Err(answer) => Said {
-            error: in_words(job, answer),
+            error: in_words(job, names, answer),
             status: answer.number() as u8,
             ..Said::default()
         },

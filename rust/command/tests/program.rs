@@ -326,6 +326,16 @@ fn run_shows_the_new_term_and_what_changed() {
     assert_eq!((ran.status, ran.output.as_str()), (6, ""));
 }
 
+/// Where the last match gave up, by names.
+#[test]
+fn a_failed_run_names_the_pattern() {
+    let ran = told(&["run", "examples/diagnosis/failed.job"], "");
+    let first = ran.error.lines().next();
+    let wanted =
+        "marshtrundle: answer 1: failed: the last match gave up at entry 8, in NOT(NOT(x))";
+    assert_eq!((ran.status, first), (1, Some(wanted)));
+}
+
 /// A store and a table of full size.
 #[test]
 fn a_job_of_full_size_is_run() {

@@ -43,8 +43,9 @@ pub struct Miss {
 impl Table {
     /// Where the last match of a failed run of this table gave up. None where the answer is another, or no match failed.
     pub fn missed(&self, answer: Answer) -> Option<Miss> {
-        let Answer::Failed(Some(entry)) = answer else {
-            return None;
+        let entry = match answer {
+            Answer::Failed(Some(entry)) => entry,
+            _ => return None,
         };
         let matches: Vec<Entry> = (0..self.entries() as u32)
             .map(Entry::from_number)

@@ -98,5 +98,8 @@ fn the_longest_chain_of_calls() {
 
 #[test]
 fn what_is_no_module_is_an_error() {
-    assert_eq!(pruned("END").unwrap_err().to_string(), "failed: the last match gave up at entry 4");
+    assert_eq!(
+        pruned("END").unwrap_err().to_string(),
+        "failed: the last match gave up at entry 4"
+    );
 }
