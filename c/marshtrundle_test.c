@@ -1,5 +1,6 @@
 /*
- * Calls the library by its C header: the job of document 01, the refusals, and null with length 0 everywhere. Prints what is
+ * Calls the library by its C header: the job of document 01, the refusals, a signature, many subjects, the collection, and null
+ * with length 0 everywhere. Prints what is
  * wrong, or one line that nothing is. Plain C99. Of the C library it takes puts alone, and declares it, so that it compiles
  * where the C library's headers are not at hand.
  */
@@ -208,6 +209,87 @@ static void signed_runs(void)
     hold(is(numbers, MT_BAD_SIZES, 0, 0, 0, 0), "signed: null everywhere");
 }
 
+/* What stands in a result list before the call. */
+#define OLD 88
+
+static uint32_t results[20];
+
+static void fresh_list(void)
+{
+    size_t i;
+    fresh();
+    for (i = 0; i < 20; i++)
+        results[i] = OLD;
+}
+
+/* A call that was refused, and wrote nothing but its two numbers. */
+static void many_refused(uint32_t answer, uint32_t place, const char *text)
+{
+    static const uint32_t zeros[32];
+    size_t i;
+    hold(numbers[MT_ANSWER] == answer && numbers[MT_PLACE] == place && numbers[2] == 77, text);
+    for (i = 0; i < 20; i++)
+        hold(results[i] == OLD, text);
+    hold(same(store, given, 32) && same(bindings, zeros, 32), text);
+}
+
+static void many_subjects(void)
+{
+    static const uint32_t zeros[32];
+    static const uint32_t subjects[4] = {0, 2, 1, 2};
+    static const uint32_t beyond[2] = {2, 3};
+    static const uint32_t bad[6] = {8};
+    /* 1 and 2 fail; the pair is swapped while there is room for one node. */
+    fresh_list();
+    mt_run_many(table, 64, store, 32, bindings, 32, 3, 0, subjects, 4, 10, results, 20, numbers);
+    hold(numbers[MT_ANSWER] == MT_DONE && numbers[MT_PLACE] == 0 && numbers[2] == 77, "many: the two numbers");
+    hold(is(results, MT_FAILED, 4, 0, 3, 4), "many: the first");
+    hold(is(results + 5, MT_DONE, 0, 3, 4, 10), "many: the second");
+    hold(is(results + 10, MT_FAILED, 4, 1, 4, 4), "many: the third");
+    hold(is(results + 15, MT_OUT_OF_ROOM, 0, 2, 4, 10), "many: the fourth");
+    hold(same(store, after, 32) && same(bindings, zeros, 32), "many: the store and the bindings");
+    fresh_list();
+    mt_run_many(table, 64, store, 32, bindings, 32, 3, 0, subjects, 2, 9, results, 10, numbers);
+    hold(numbers[MT_ANSWER] == MT_DONE && is(results, MT_FAILED, 4, 0, 3, 4), "many: 9 units, the first");
+    hold(is(results + 5, MT_OUT_OF_UNITS, 0, 2, 3, 9) && results[10] == OLD, "many: 9 units, the second");
+    hold(same(store, given, 24) && same(store + 24, zeros, 8), "many: 9 units, the store");
+    fresh_list();
+    mt_run_many_signed(table, 64, store, 32, bindings, 32, 3, 0, subjects + 1, 2, 10, results, 10, signature, 6, numbers);
+    hold(numbers[MT_ANSWER] == MT_DONE && is(results, MT_DONE, 0, 3, 4, 10), "many signed: the first");
+    hold(is(results + 5, MT_FAILED, 4, 1, 4, 4) && same(store, after, 32), "many signed: the second, and the store");
+    /* With no subjects nothing is written, and what is wrong is refused all the same. */
+    fresh_list();
+    mt_run_many(table, 64, store, 32, bindings, 32, 3, 0, NULL, 0, 10, NULL, 0, numbers);
+    many_refused(MT_DONE, 0, "many: no subjects");
+    mt_run_many(table, 64, store, 32, bindings, 32, 3, 6, NULL, 0, 10, NULL, 0, numbers);
+    many_refused(MT_BAD_START, 0, "many: no subjects and a pattern");
+    mt_run_many(table, 64, store, 32, bindings, 32, 3, 0, NULL, 0, 10, results, 5, numbers);
+    many_refused(MT_BAD_SIZES, 0, "many: no subjects and results");
+    mt_run_many_signed(table, 64, store, 32, bindings, 32, 3, 0, NULL, 0, 10, NULL, 0, signature, 6, numbers);
+    many_refused(MT_DONE, 0, "many signed: no subjects");
+    mt_run_many_signed(table, 64, store, 32, bindings, 32, 3, 0, NULL, 0, 10, NULL, 0, NULL, 0, numbers);
+    many_refused(MT_DISOBEYING_ENTRY, 4, "many signed: no subjects and an empty signature");
+    /* The refusals. */
+    mt_run_many(table, 64, store, 32, bindings, 32, 3, 0, subjects, 2, 10, results, 9, numbers);
+    many_refused(MT_BAD_SIZES, 0, "many: a short result list");
+    mt_run_many(table, 64, store, 32, bindings, 32, 3, 0, subjects, 2, 10, results, 15, numbers);
+    many_refused(MT_BAD_SIZES, 0, "many: a long result list");
+    mt_run_many(table, 64, store, 32, bindings, 32, 3, 0, beyond, 2, 10, results, 10, numbers);
+    many_refused(MT_BAD_START, 0, "many: a subject at the first mark");
+    mt_run_many(table, 64, store, 32, bindings, 32, 4, 0, beyond, 2, 10, results, 10, numbers);
+    many_refused(MT_BAD_NODE, 3, "many: a bad node");
+    mt_run_many(table, 63, store, 32, bindings, 32, 4, 0, beyond, 2, 10, results, 10, numbers);
+    many_refused(MT_BAD_SIZES, 0, "many: a table of 63 words");
+    mt_run_many_signed(table, 64, store, 32, bindings, 32, 3, 0, beyond, 2, 10, results, 10, signature, 5, numbers);
+    many_refused(MT_DISOBEYING_ENTRY, 4, "many signed: 10 before 5");
+    mt_run_many_signed(table, 64, store, 32, bindings, 32, 3, 0, beyond, 2, 10, results, 10, bad, 6, numbers);
+    many_refused(MT_BAD_SIZES, 0, "many signed: a word above 7");
+    mt_run_many(NULL, 0, NULL, 0, NULL, 0, 0, 0, NULL, 0, 0, NULL, 0, numbers);
+    many_refused(MT_BAD_SIZES, 0, "many: null everywhere");
+    mt_run_many_signed(NULL, 0, NULL, 0, NULL, 0, 0, 0, NULL, 0, 0, NULL, 0, NULL, 0, numbers);
+    many_refused(MT_BAD_SIZES, 0, "many signed: null everywhere");
+}
+
 /* The nodes 1 and 2 and the pair swapped: the node 5(0, 1), which nothing names, is gone. */
 static const uint32_t collected[32] = {1, 0, 0, 0, 0, 0, 0, 0, 2, 0, 0, 0, 0, 0, 0, 0, 5, 2, 1, 0, 0, 0, 0, 0};
 
@@ -298,6 +380,7 @@ int main(void)
     the_job();
     refusals();
     signed_runs();
+    many_subjects();
     collection();
     empty_slices();
     if (wrong > 0 || held == 0)

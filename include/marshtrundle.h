@@ -8,28 +8,34 @@
  * marshtrundle_build.h makes tables and terms by functions, and shows terms and answers as text.
  *
  * SLICES. A slice is a pointer and a number of 32-bit words, not of bytes. The pointer is aligned to 4 bytes and valid for
- * that many words. A null pointer is an empty slice. What is written (store, bindings, work, numbers) overlaps nothing else that
- * is passed in the same call. The table is only read, and the checks only read.
+ * that many words. A null pointer is an empty slice. What is written (store, bindings, work, results, numbers) overlaps
+ * nothing else that is passed in the same call. The table, the subjects and a signature are only read. mt_run_many and
+ * mt_run_many_signed only read the bindings, and the checks only read.
  *
  * NUMBERS. `numbers` is where the answer goes. It is never null: it is aligned to 4 bytes and valid for writing as many words
- * as the function's parameter says, 5, 3 or 2. Nothing else is asked of the caller.
+ * as the function's parameter says, 5, 4, 3 or 2. Nothing else is asked of the caller.
  *
  * OWNERSHIP. All memory is the caller's. Nothing is allocated, no pointer is kept after the call, nothing is freed.
  *
  * THREADS. There is no global state. Calls in several threads may run at the same time if none writes what another uses.
  * Several runs may share one table.
  *
- * THE SIGNATURE of mt_run_signed. One word for each constructor from 0 on: the child count that it is declared with, or
- * MT_UNDECLARED. At most 65,536 words. A constructor beyond the list is undeclared. An empty signature (null with length 0) is
- * not no signature: with it every constructor is undeclared.
+ * THE SIGNATURE of mt_run_signed and mt_run_many_signed. One word for each constructor from 0 on: the child count that it is
+ * declared with, or MT_UNDECLARED. At most 65,536 words. A constructor beyond the list is undeclared. An empty signature
+ * (null with length 0) is not no signature: with it every constructor is undeclared.
+ *
+ * THE SUBJECTS AND THE RESULTS of mt_run_many and mt_run_many_signed. The subjects are nodes below the given mark, as many as
+ * you like, or none. The result list has just five words for each subject: words 5i to 5i + 4 get the numbers of subject i,
+ * as enum mt_number names them. It may hold anything before.
  *
  * THE WORK LIST of mt_collect. A word for each node of the store, or more. It may hold anything, and is zero afterwards.
  *
- * THE STACK. Give a thread that calls mt_run or mt_run_signed MT_STACK bytes (2 MiB). A run nests at most 4,096 visits, and each form of
- * visit takes its own number of bytes. The deepest, CONG, takes 1.9 MiB in all; in this is a copy of the table,
- * 128 KiB whatever the table's size. It is measured, not proved: the Rust crate's tests run 4,096 levels of each form on a
- * thread of exactly 2 MiB. The other functions take less than 64 KiB. On a smaller stack a deep run ends in the thread's
- * guard page, if it has one: the code touches every page of a large frame in order.
+ * THE STACK. Give a thread that calls a function whose name begins with mt_run MT_STACK bytes (2 MiB). A run nests at most
+ * 4,096 visits, and each form of visit takes its own number of bytes. The deepest, CONG, takes 1.9 MiB in all; in this is a
+ * copy of the table, 128 KiB whatever the table's size. It is measured, not proved: the Rust crate's tests run 4,096 levels
+ * of each form on a thread of exactly 2 MiB, with one subject and with two. The other functions take less than 64 KiB. On a
+ * smaller stack a deep run ends in the thread's guard page, if it has one: the code touches every page of a large frame in
+ * order.
  *
  * THE STORE. Eight words to a node. Node k has words 8k to 8k + 7:
  *   word 0       the constructor, 0 to 65,535
@@ -81,7 +87,7 @@
 extern "C" {
 #endif
 
-/* The most nodes of a store, entries of a table, levels of nesting; the words of the bindings; the stack for mt_run. */
+/* The most nodes of a store, entries of a table, levels of nesting; the words of the bindings; the stack for a run. */
 #define MT_NODES 131072
 #define MT_ENTRIES 4096
 #define MT_NESTING 4096
@@ -140,14 +146,15 @@ enum mt_answer {
                             failed */
     MT_BAD_SIZES = 2,    /* the table is empty, over 32,768 words or no multiple of 8; the store is over 1,048,576 words or
                             no multiple of 8; the bindings are not 32 words; the mark exceeds the store's nodes; the
-                            signature is over 65,536 words or has a word above 7 */
+                            result list is not five words for each subject; the signature is over 65,536 words or has
+                            a word above 7 */
     MT_BAD_NODE = 4,     /* a node below the mark is malformed; the place is the lowest such node */
-    MT_BAD_START = 5,    /* the start is outside the table or a pattern; the subject is not below the mark; a binding
-                            word exceeds the mark */
+    MT_BAD_START = 5,    /* the start is outside the table or a pattern; the subject, or one of several, is not below
+                            the given mark; a binding word exceeds the mark */
     MT_OUT_OF_UNITS = 6, /* all units were used */
     MT_OUT_OF_ROOM = 7,  /* a node was to be made and the mark equals the store's nodes */
     MT_TOO_DEEP = 8,     /* a visit would have been nested deeper than 4,096 */
-    /* 10 and 11 are given by mt_run_signed alone. */
+    /* 10 and 11 are given by mt_run_signed and mt_run_many_signed alone. */
     MT_DISOBEYING_ENTRY = 10, /* a CONG or a PCON, used or not, whose constructor is not declared with its count; the place is
                                  the lowest such entry */
     MT_DISOBEYING_NODE = 11,  /* the same of a node below the mark, reachable or not; the place is the lowest such node */
@@ -168,9 +175,9 @@ enum mt_number {
     MT_ANSWER = 0,  /* one of enum mt_answer */
     MT_PLACE = 1,   /* the pattern's entry in answer 1, the bad entry in 10 and 13 to 17, the bad node in 4 and 11, the variable in 12,
                        and 0 otherwise */
-    MT_SUBJECT = 2, /* mt_run, mt_collect: the new subject in answer 0, and the given one otherwise */
-    MT_MARK = 3,    /* mt_run, mt_collect: the new mark in answer 0, and the given one otherwise */
-    MT_UNITS = 4,   /* mt_run: the visits counted; 0 where nothing was run */
+    MT_SUBJECT = 2, /* a run, mt_collect: the new subject in answer 0, and the given one otherwise */
+    MT_MARK = 3,    /* a run, mt_collect: the new mark in answer 0, and the given one otherwise */
+    MT_UNITS = 4,   /* a run: the visits counted; 0 where nothing was run */
     MT_MASK = 2     /* mt_free_variables: the mask in answer 0, and 0 otherwise */
 };
 
@@ -182,6 +189,15 @@ void marshtrundle_run_signed(const uint32_t *table, size_t table_words, uint32_t
                              uint32_t *bindings, size_t bindings_words, uint32_t mark, uint32_t start,
                              uint32_t subject, uint32_t units, const uint32_t *signature, size_t signature_words,
                              uint32_t numbers[5]);
+void marshtrundle_run_many(const uint32_t *table, size_t table_words, uint32_t *store, size_t store_words,
+                           const uint32_t *bindings, size_t bindings_words, uint32_t mark, uint32_t start,
+                           const uint32_t *subjects, size_t subjects_words, uint32_t units, uint32_t *results,
+                           size_t results_words, uint32_t numbers[2]);
+void marshtrundle_run_many_signed(const uint32_t *table, size_t table_words, uint32_t *store, size_t store_words,
+                                  const uint32_t *bindings, size_t bindings_words, uint32_t mark, uint32_t start,
+                                  const uint32_t *subjects, size_t subjects_words, uint32_t units, uint32_t *results,
+                                  size_t results_words, const uint32_t *signature, size_t signature_words,
+                                  uint32_t numbers[2]);
 void marshtrundle_collect(uint32_t *store, size_t store_words, uint32_t *bindings, size_t bindings_words,
                           uint32_t *work, size_t work_words, uint32_t mark, uint32_t subject, uint32_t numbers[4]);
 void marshtrundle_free_variables(const uint32_t *table, size_t table_words, uint32_t entry, uint32_t numbers[3]);
@@ -218,6 +234,45 @@ static inline void mt_run_signed(const uint32_t *table, size_t table_words, uint
                             store ? store_words : 0, bindings ? bindings : &none[2], bindings ? bindings_words : 0,
                             mark, start, subject, units, signature ? signature : &none[3],
                             signature ? signature_words : 0, numbers);
+}
+
+/*
+ * Runs the strategy at entry `start` on each subject in turn. The outcome is that of single calls of mt_run, with table and
+ * store checked once: each subject begins with the bindings given to the call, its own full units and the mark left by the
+ * one before. A subject that fails or is cut off does not stop the rest, and the next begins with the mark that it began
+ * with. Its five numbers go into the result list. The bindings stay as given. The last mark is the fourth number of the last
+ * subject.
+ *
+ * `numbers` gets answer and place: 0 and 0 where the subjects were run, and otherwise the refusal, with nothing written. A
+ * subject that is not below the given mark is refused with MT_BAD_START, whatever nodes those before it would make. With no
+ * subjects the call is refused as any other; where it is not, it writes nothing, not even zeros behind the mark.
+ */
+static inline void mt_run_many(const uint32_t *table, size_t table_words, uint32_t *store, size_t store_words,
+                               const uint32_t *bindings, size_t bindings_words, uint32_t mark, uint32_t start,
+                               const uint32_t *subjects, size_t subjects_words, uint32_t units, uint32_t *results,
+                               size_t results_words, uint32_t numbers[2])
+{
+    uint32_t none[5] = {0, 0, 0, 0, 0};
+    marshtrundle_run_many(table ? table : &none[0], table ? table_words : 0, store ? store : &none[1],
+                          store ? store_words : 0, bindings ? bindings : &none[2], bindings ? bindings_words : 0, mark,
+                          start, subjects ? subjects : &none[3], subjects ? subjects_words : 0, units,
+                          results ? results : &none[4], results ? results_words : 0, numbers);
+}
+
+/* Runs as mt_run_many does, with a signature, which is asked of the table and the store once, as mt_run_signed asks it. */
+static inline void mt_run_many_signed(const uint32_t *table, size_t table_words, uint32_t *store, size_t store_words,
+                                      const uint32_t *bindings, size_t bindings_words, uint32_t mark, uint32_t start,
+                                      const uint32_t *subjects, size_t subjects_words, uint32_t units,
+                                      uint32_t *results, size_t results_words, const uint32_t *signature,
+                                      size_t signature_words, uint32_t numbers[2])
+{
+    uint32_t none[6] = {0, 0, 0, 0, 0, 0};
+    marshtrundle_run_many_signed(table ? table : &none[0], table ? table_words : 0, store ? store : &none[1],
+                                 store ? store_words : 0, bindings ? bindings : &none[2],
+                                 bindings ? bindings_words : 0, mark, start, subjects ? subjects : &none[3],
+                                 subjects ? subjects_words : 0, units, results ? results : &none[4],
+                                 results ? results_words : 0, signature ? signature : &none[5],
+                                 signature ? signature_words : 0, numbers);
 }
 
 /*

@@ -1,7 +1,7 @@
 """cases DIR TWIN: writes DIR/stdin, the cases that the program vectors executes, and DIR/stdout, what it must write.
 
-The cases of checks.py, free.py, runs.py, signed.py, collects.py and jobs.py come with the answers of model.py. After those of a call stands a sample of
-what the program TWIN of rust/twin generates, with its own answers; last the jobs of examples/, with the answers stored there.
+The cases of checks.py, free.py, runs.py, signed.py, many.py, collects.py and jobs.py come with the answers of model.py. After those of a call
+stands a sample of what the program TWIN of rust/twin generates, with its own answers; last the jobs of examples/, with the answers stored there.
 A further call has a module here with a function write, and a line in CALLS.
 """
 import pathlib
@@ -16,6 +16,7 @@ import collects
 import free
 import jobs
 import lend
+import many
 import runs
 import signed
 
@@ -57,29 +58,70 @@ def run_sample(twin):
         lend.add("r", case, answer + b"\n")
 
 
-def signed_sample(twin):
-    """A call is a line `l MARK START SUBJECT UNITS SLICES (SLICE LENGTH FILL).. PATCHES (SLICE WORD VALUE).. LABEL`; slice 3 is the
-    signature, which stands behind the table here. A long store is shown by a sum modulo 2^64.
+def call_of(case):
+    """A call is a line `TAG MARK START SUBJECT UNITS SLICES (SLICE LENGTH FILL).. PATCHES (SLICE WORD VALUE).. LABEL`: the first four
+    numbers, the length and the fill of each slice, the patches and the label.
     """
+    _, mark, start, subject, units, count, *words, label = case.split()
+    numbers = list(map(int, words))
+    slices = {numbers[i]: tuple(numbers[i + 1:i + 3]) for i in range(0, 3 * int(count), 3)}
+    rest = numbers[3 * int(count) + 1:]
+    return tuple(map(int, (mark, start, subject, units))), slices, list(zip(rest[::3], rest[1::3], rest[2::3])), label.decode()
+
+
+def lent_by(mark, slices, triples):
+    """The memory of a call as vectors has it, where slice 3, the signature, stands behind the table: the numbers TABLE STORE BINDINGS
+    and FILL HEAD ARGUMENT SECOND, and the patches.
+    """
+    (at, zero), (store, above), (bindings, none) = (slices[k] for k in range(3))
+    length, fill = slices.get(3, (0, 0))
+    # Only the words from the mark on may begin as another word than 0: here as the greatest.
+    assert zero == none == 0
+    patches = [(1, i, above) for i in range(8 * mark, store)] if above not in (0, 2**32 - 1) else []
+    patches += [(0, at + w, v) if k == 3 else (k, w, v) for k, w, v in triples if k <= 3]
+    return [at + length, store, bindings], [16 * (3 in slices) + (above == 2**32 - 1), 0, at, fill], patches
+
+
+def store_shown(text, words):
+    """A long store is shown by a sum modulo 2^64 there, and modulo 2^32 here."""
+    return b" %d" % (int(text) % 2**32) if words > 512 else text
+
+
+def signed_sample(twin):
     for case, answer in sample(twin, "signed", 300):
-        _, mark, start, subject, units, count, *words, label = case.split()
-        numbers = list(map(int, words))
-        slices = {numbers[i]: numbers[i + 1:i + 3] for i in range(0, 3 * int(count), 3)}
-        rest = numbers[3 * int(count) + 1:]
-        triples = list(zip(rest[::3], rest[1::3], rest[2::3]))
-        (at, zero), (store, above), (bindings, none), (length, fill) = (slices[k] for k in range(4))
-        # Only the words from the mark on may begin as another word than 0: here as the greatest.
-        assert zero == none == 0
-        patches = [(1, i, above) for i in range(8 * int(mark), store)] if above not in (0, 2**32 - 1) else []
-        patches += [(0, at + w, v) if k == 3 else (k, w, v) for k, w, v in triples]
-        body = [at + length, store, bindings, int(mark), int(start), int(subject), int(units), 16 + (above == 2**32 - 1), 0, at, fill, len(patches)]
-        body += [x for p in patches for x in p]
-        text = (" ".join(map(str, body)) + " ").encode() + label
-        if store > 512:
-            head, _, h = answer.rpartition(b" ")
-            answer = head + b" %d" % (int(h) % 2**32)
+        (mark, start, subject, units), slices, triples, label = call_of(case)
+        lengths, fills, patches = lent_by(mark, slices, triples)
+        body = [*lengths, mark, start, subject, units, *fills, len(patches), *[x for p in patches for x in p]]
+        text = (" ".join(map(str, body)) + " " + label).encode()
+        head, _, store = answer.partition(b" :")
         if len(text) <= 131072:
-            lend.add("g", text, answer + b"\n")
+            lend.add("g", text, head + b" :" + store_shown(store, lengths[1]) + b"\n")
+
+
+def many_sample(twin):
+    """Slices 4 and 5 are the subjects and the results, of which every word is the greatest before the call. An answer is `LABEL ANSWER
+    PLACE`, the bindings, ` :`, the store, ` :`, the results that are not 0.
+    """
+    for case, answer in sample(twin, "many", 300):
+        (mark, start, _, units), slices, triples, label = call_of(case)
+        lengths, fills, patches = lent_by(mark, slices, triples)
+        (count, first), (words, most) = slices[4], slices[5]
+        subjects = [first] * count
+        for k, w, v in triples:
+            assert k != 5
+            if k == 4:
+                subjects[w] = v
+        assert most == 2**32 - 1 or words == 0
+        body = many.bytes_of([*lengths, mark, start, count, units, *fills], patches, words, subjects, label)
+        head, store, after = answer.split(b" :")
+        bound = head.split(b" ", 3)[3:]
+        results = [0] * words
+        for shown in after.split():
+            at, _, value = shown.partition(b"=")
+            results[int(at)] = int(value)
+        line = lend.say(*head.decode().split(" ")[:3], *results)[:-1] + b"".join(b" " + b for b in bound)
+        if len(body) <= 131072:
+            lend.add("n" if 3 in slices else "m", body, line + b" :" + store_shown(store, lengths[1]) + b"\n")
 
 
 def job_sample(twin):
@@ -89,7 +131,8 @@ def job_sample(twin):
         lend.add("j", path.read_bytes(), jobs.framed(path.with_suffix(".answer").read_bytes()))
 
 
-CALLS = ((checks.write, None), (free.write, free_sample), (runs.write, run_sample), (signed.write, signed_sample), (collects.write, None), (jobs.write, job_sample))
+CALLS = ((checks.write, None), (free.write, free_sample), (runs.write, run_sample), (signed.write, signed_sample), (many.write, many_sample), (collects.write, None),
+         (jobs.write, job_sample))
 
 
 def write(folder, twin):

@@ -1,6 +1,6 @@
 """A model of document 01, with what document 02 changes in it, written from their texts and sharing nothing with the crates: the
-two checks, the question of free variables, the run, also with a signature, the collection, and the job text. What the executed
-cases must answer comes from it.
+two checks, the question of free variables, the run, also with a signature and on many subjects, the collection, and the job text.
+What the executed cases must answer comes from it.
 """
 import re
 
@@ -138,16 +138,20 @@ def disobeying(t, s, mark, signature):
     return next(((11, k) for k in range(mark) if not declared(signature, *s[8 * k:8 * k + 2])), (0, 0))
 
 
-def refusal(t, s, b, mark, start, subject, signature=None):
-    """The answer and the place; 0 where nothing is refused. No signature is None, and not an empty one."""
-    if not table_fits(t) or not store_fits(s, mark) or len(b) != 32 or signature is not None and not signature_fits(signature):
+def refusal(t, s, b, mark, start, subjects, signature=None, results=None):
+    """The answer and the place; 0 where nothing is refused. No signature is None, and not an empty one. A list of results is lent
+    where there are many subjects.
+    """
+    if not table_fits(t) or not store_fits(s, mark) or len(b) != 32:
+        return 2, 0
+    if results is not None and len(results) != 5 * len(subjects) or signature is not None and not signature_fits(signature):
         return 2, 0
     bad = bad_entry(t)
     if bad == (0, 0):
         bad = bad_node(s, mark)
     if bad == (0, 0) and signature is not None:
         bad = disobeying(t, s, mark, signature)
-    if bad == (0, 0) and (not is_start(t, start) or subject >= mark or any(w > mark for w in b)):
+    if bad == (0, 0) and (not is_start(t, start) or any(k >= mark for k in subjects) or any(w > mark for w in b)):
         bad = 5, 0
     return bad
 
@@ -304,7 +308,7 @@ class Run:
 
 def run(t, s, b, mark, start, subject, units, signature=None):
     """The five numbers, the store and the bindings at return."""
-    bad = refusal(t, s, b, mark, start, subject, signature)
+    bad = refusal(t, s, b, mark, start, [subject], signature)
     if bad[0]:
         return [*bad, subject, mark, 0], s, b
     r = Run(t, s, mark, units)
@@ -319,6 +323,22 @@ def run(t, s, b, mark, start, subject, units, signature=None):
         con, kids = r.nodes[k]
         clean[8 * k:8 * k + 2 + len(kids)] = [con, len(kids), *kids]
     return [0, 0, got[0], len(r.nodes), r.used], clean, [got[1].get(v, -1) + 1 for v in range(32)]
+
+
+def run_many(t, s, b, mark, start, subjects, units, results, signature=None):
+    """Answer and place, and the words of results and store at return: those of single calls in turn, each with the bindings given
+    and the mark left by the one before. Where there are no subjects, or the call is refused, nothing is written.
+    """
+    bad = refusal(t, s, b, mark, start, subjects, signature, results)
+    if bad[0]:
+        return bad, results, s
+    numbers = []
+    for subject in subjects:
+        assert refusal(t, s, b, mark, start, [subject], signature) == (0, 0)
+        five, s, _ = run(t, s, b, mark, start, subject, units, signature)
+        numbers += five
+        mark = five[3]
+    return (0, 0), numbers, s
 
 
 # The collection.

@@ -10,7 +10,7 @@ use native.Mathlib.Nat.{eq-or-lt-of-le}
 use native.Mathlib.Omega.{arith}
 use lib.Dec.{leb, ltb, eqb}
 use lib.ListN.{length, getD, List·getD-eq-default}
-use borrow.Author.Tests.{leb-true, ltb-true, eqb-true, le-leb, lt-ltb, eq-eqb, ne-eqb}
+use borrow.Author.Tests.{leb-true, ltb-true, eqb-true, eqb-false, le-leb, lt-ltb, eq-eqb, ne-eqb}
 use Rattle.words.specs.Tests.{if_then_else_, rejected}
 use Rattle.words.specs.Words.{rows}
 use Rattle.words.proofs.Tests.{below-or-from, and-true, every-true}
@@ -27,7 +27,7 @@ use Rattle.checks.specs.Signature.{Signature, entryObeys, nodeObeys, entriesChe
 use Rattle.checks.proofs.Promises.{Known, passes-all, refuses-length, rejects-at, known, none-good, some-lowest, tablePasses, tableRejects, tableRefuses, storePasses, faultPlain}
 use Rattle.checks.proofs.Obeying.{signaturePlain}
 use Rattle.meaning.specs.Store.{Input, Accepted}
-use Rattle.marshtrundle.specs.Refused.{sizesFit, boundBelow, startFits, orElse, lentFits, obeyedBy, wordsRefused, refusedWith, refused}
+use Rattle.marshtrundle.specs.Refused.{sizesFit, boundBelow, isStart, subjectsBelow, startFits, orElse, lentFits, obeyedBy, wordsRefused, refusedWith, refused}
 use Rattle.marshtrundle.specs.Run.{input}
 use Rattle.marshtrundle.specs.Promises.{SizesFit, EntriesGood, NodesGood, StartFits, Refusal, of-sizes, of-entry, of-node, of-start}
 use Rattle.marshtrundle.specs.Signed.{SignedRefusal, as-without, of-disobeying-entry, of-disobeying-node}
@@ -224,6 +224,31 @@ node-eleven (some g) i n p y = y .0
 
 -- ---- the tests of a run
 
+-- the start is in the table and a strategy; no binding exceeds the mark
+pub is-start-plain : (t : List ℕ) (start : ℕ) → (isStart t start ≡ true) ↔ ((start < rows t) × (sortOf (kindOf t start) ≡ Strategy))
+unfolding isStart
+is-start-plain t start = (
+  λ h. let x : (ltb start (rows t) ≡ true) × _ = and-true _ _ h in (ltb-true _ _ (x .0), same-true _ _ (x .1)),
+  λ f. rw (lt-ltb start (rows t) (f .0), f .1),
+)
+
+pub bound-plain : (b : List ℕ) (mark : ℕ) → (boundBelow b mark ≡ true) ↔ ((v : ℕ) → getD b v 0 ≤ mark)
+unfolding boundBelow
+bound-plain b mark = (
+  λ h v.
+      ⊎-elim (λ l. leb-true _ _ (every-true (λ v. leb (getD b v 0) mark) 0 (length b) .0 h v (omega arith) (omega arith)))
+      (λ l. omega (arith, List·getD-eq-default b 0 l))
+      (below-or-from v (length b)),
+  λ f. every-true (λ v. leb (getD b v 0) mark) 0 (length b) .1 (λ v l m. le-leb _ _ (f v)),
+)
+
+pub subjects-plain : (ks : List ℕ) (mark : ℕ) → (subjectsBelow ks mark ≡ true) ↔ ((j : ℕ) → j < length ks → getD ks j 0 < mark)
+unfolding subjectsBelow
+subjects-plain ks mark = (
+  λ h j l. ltb-true _ _ (every-true (λ j. ltb (getD ks j 0) mark) 0 (length ks) .0 h j (omega arith) (omega arith)),
+  λ f. every-true (λ j. ltb (getD ks j 0) mark) 0 (length ks) .1 (λ j l m. lt-ltb _ _ (f j (omega arith))),
+)
+
 module _ (i : Input) where
   -- the tests of the sizes and of the start are the plain facts
   sizes-plain : (sizesFit (i .table) (i .store) (i .bindings) (i .mark) ≡ true) ↔ SizesFit i
@@ -249,28 +274,18 @@ module _ (i : Input) where
   )
 
   start-plain : (startFits (i .table) (i .bindings) (i .mark) (i .start) (i .subject) ≡ true) ↔ StartFits i
-  unfolding startFits boundBelow
+  unfolding startFits
   start-plain = (
     λ h.
-        let x : (ltb (i .start) (rows (i .table)) ≡ true) × _ = and-true _ _ h in
-        let y : (same (sortOf (kindOf (i .table) (i .start))) Strategy ≡ true) × _ = and-true _ _ (x .1) in
-        let z : (ltb (i .subject) (i .mark) ≡ true) × _ = and-true _ _ (y .1) in
-        record {
-          inside = ltb-true _ _ (x .0);
-          strategy = same-true _ _ (y .0);
-          subject = ltb-true _ _ (z .0);
-          bound =
-              λ v.
-              ⊎-elim (λ l. leb-true _ _ (every-true (λ v. leb (getD (i .bindings) v 0) (i .mark)) 0 (length (i .bindings)) .0 (z .1) v (omega arith) (omega arith)))
-              (λ l. omega (arith, List·getD-eq-default (i .bindings) 0 l))
-              (below-or-from v (length (i .bindings)));
-        },
+        let x : (isStart (i .table) (i .start) ≡ true) × _ = and-true _ _ h in
+        let z : (ltb (i .subject) (i .mark) ≡ true) × _ = and-true _ _ (x .1) in
+        let s = is-start-plain (i .table) (i .start) .0 (x .0) in
+        record { inside = s .0; strategy = s .1; subject = ltb-true _ _ (z .0); bound = bound-plain (i .bindings) (i .mark) .0 (z .1) },
     λ f.
         rw (
-          lt-ltb (i .start) (rows (i .table)) (f .inside),
-          f .strategy,
+          is-start-plain (i .table) (i .start) .1 (f .inside, f .strategy),
           lt-ltb (i .subject) (i .mark) (f .subject),
-          every-true (λ v. leb (getD (i .bindings) v 0) (i .mark)) 0 (length (i .bindings)) .1 (λ v l m. le-leb _ _ (f .bound v)),
+          bound-plain (i .bindings) (i .mark) .1 (f .bound),
         ),
   )
 
@@ -516,6 +531,41 @@ module _ (g : Option (List ℕ)) (i : Input) where
       sizes : {c : Checked} → Tested AllFit (Without 2 AllFit) c → eqb (orElse c afterSizes .answer) 0 ≡ false → SignedRefusal (orElse c afterSizes .answer)
       sizes (passed x) h = table (x .0) (table-tested (x .0)) h
       sizes (refusing n p y) h = subst SignedRefusal (sym (answer-of (stays sizes-test n p afterSizes y) ∙ y .0)) (as-without of-sizes)
+
+-- ---- what is passed before the start is looked at
+
+-- what passes, where two tests in turn answer 0; and a test that answers 0 is passed
+pub zero-else : (c d : Checked) → orElse c d .answer ≡ 0 → (c .answer ≡ 0) × (d .answer ≡ 0)
+zero-else c d e = go (eqb (c .answer) 0) refl e
+  where
+    go : (z : Bool) → eqb (c .answer) 0 ≡ z → (if z then d else c) .answer ≡ 0 → (c .answer ≡ 0) × (d .answer ≡ 0)
+    go true q e = (eqb-true _ _ q, e)
+    go false q e = absurd (eqb-false _ _ q e)
+
+zero-passes : {P : Type 0} {B : ℕ → ℕ → Type 0} (T : Test P B) {c : Checked} → Tested P B c → c .answer ≡ 0 → P
+zero-passes T (passed x) e = x
+zero-passes T (refusing n p y) e = absurd (omega (arith, T .some n p y, e))
+
+pub words-passed : (g : Option (List ℕ)) (i : Input) → wordsRefused g (i .table) (i .store) (i .bindings) (i .mark) .answer ≡ 0
+    → AllFit g i × (EntriesGood i × (NodesGood i × (EntriesObey g i × NodesObey g i)))
+unfolding wordsRefused
+words-passed g i e = go (sizesFit (i .table) (i .store) (i .bindings) (i .mark) && lentFits g) refl e
+  where
+    go : (z : Bool) → sizesFit (i .table) (i .store) (i .bindings) (i .mark) && lentFits g ≡ z
+        → (if z then orElse (tableChecked (i .table)) (orElse (storeChecked (i .store) (i .mark)) (obeyedBy g (i .table) (i .store) (i .mark))) else checked 2 0) .answer ≡ 0
+        → AllFit g i × (EntriesGood i × (NodesGood i × (EntriesObey g i × NodesObey g i)))
+    go true q e =
+        let x = zero-else (tableChecked (i .table)) _ e in
+        let y = zero-else (storeChecked (i .store) (i .mark)) _ (x .1) in
+        let z = zero-else (entriesTest g i) (nodesTest g i) (sym (answer-of (obeyed-in-turn g i)) ∙ y .1) in (
+          all-plain g i .0 q,
+          (tablePasses (i .table) .0 (x .0) .1, (storePasses (i .store) (i .mark) .0 (y .0) .1, (zero-passes (entries-test g i) (entries-tested g i) (z .0), zero-passes (nodes-test g i) (nodes-tested g i) (z .1)))),
+        )
+    go false q e = absurd (omega arith)
+
+-- what the two checks answer where all is good
+pub checks-passed : (i : Input) → SizesFit i → EntriesGood i → NodesGood i → (tableChecked (i .table) ≡ checked 0 0) × (storeChecked (i .store) (i .mark) ≡ checked 0 0)
+checks-passed i z x y = (last-passes (table-test none i) (table-tested none i z) .1 x, last-passes (store-test none i) (store-tested none i z) .1 y)
 
 -- ---- what is accepted
 

@@ -6,4 +6,6 @@ pub mod Hinting
 pub mod Whole
 pub mod Promises
 pub mod Signed
+pub mod Turns
+pub mod Subjects
 pub mod Small

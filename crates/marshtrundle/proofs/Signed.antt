@@ -211,7 +211,7 @@ no-place g i o s b p f k l m n =
 
 -- ---- what a run leaves
 
-kept-obeys : (g w w′ : List ℕ) (m : ℕ) → Kept w m w′ → AllGood (nodeObeys g w) m → AllGood (nodeObeys g w′) m
+pub kept-obeys : (g w w′ : List ℕ) (m : ℕ) → Kept w m w′ → AllGood (nodeObeys g w) m → AllGood (nodeObeys g w′) m
 unfolding nodeObeys
 kept-obeys g w w′ m k f j l = rw (kept-word k j 0 l (omega arith), kept-word k j 1 l (omega arith)) (f j l)
 

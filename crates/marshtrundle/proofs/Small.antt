@@ -12,7 +12,7 @@ use Rattle.meaning.specs.Limits.{roomFor, settled, after, runPlan, closed, run}
 use Rattle.meaning.specs.Store.{row, named, bindings, ran}
 use Rattle.meaning.specs.Answer.{number, placeOf, bindingWord, bindingWords, returned}
 use Rattle.meaning.specs.Small.{entry, roomy, bound, three, four, given, gives, fails-at, swap, twice, matchX, cases}
-use Rattle.marshtrundle.specs.Refused.{sizesFit, boundBelow, startFits, wordsRefused, refusedWith}
+use Rattle.marshtrundle.specs.Refused.{sizesFit, boundBelow, isStart, startFits, wordsRefused, refusedWith}
 use Rattle.marshtrundle.specs.Run.{runWith}
 use Rattle.marshtrundle.specs.Promises.{Small-runs-of-run}
 
@@ -21,5 +21,5 @@ unfolding every rejected putRow clearedFrom lines lineOf kind sortOf takes count
     operandSorted operandsFault unusedZero fault goodEntry goodNode tableLengthFits storeLengthFits tableChecked storeChecked bind has masked byKind
     table nth put zip agree when given-of again walk oneOf someOf strategy variable whenAt matching needed building comparing does
     roomFor settled after runPlan closed run row named bindings ran number placeOf bindingWord bindingWords returned entry roomy bound
-    three four given gives fails-at swap twice matchX cases sizesFit boundBelow startFits wordsRefused refusedWith runWith
+    three four given gives fails-at swap twice matchX cases sizesFit boundBelow isStart startFits wordsRefused refusedWith runWith
 small-runs-of-run = refl

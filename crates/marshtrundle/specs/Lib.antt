@@ -3,6 +3,8 @@
 pub mod Refused
 pub mod Loaded
 pub mod Run
+pub mod Many
 pub mod Exported
 pub mod Promises
 pub mod Signed
+pub mod Subjects

@@ -6,9 +6,9 @@ use mathlib.Core.Option.{Option, none, some}
 use mathlib.Core.List.{List}
 use Prim.Native.Nat.{ℕ}
 use lib.Dec.{leb, ltb, eqb}
-use lib.ListN.{length}
+use lib.ListN.{length, getD}
 use Rattle.words.specs.Words.{rows}
-use Rattle.words.specs.Tests.{if_then_else_}
+use Rattle.words.specs.Tests.{if_then_else_, every}
 use Rattle.checks.specs.Kinds.{sortOf, same, variables}
 use Rattle.checks.specs.Good.{kindOf}
 use Rattle.checks.specs.Checked.{checked, tableLengthFits, storeLengthFits, tableChecked, storeChecked, boundBelow}
@@ -21,9 +21,21 @@ use Rattle.checks.specs.declared.kinds.Sort.the-variants.{Strategy}
 unfoldable pub sizesFit : List ℕ → List ℕ → List ℕ → ℕ → Bool
 sizesFit t s b mark = tableLengthFits (length t) && (storeLengthFits (length s) && (eqb (length b) variables && leb mark (rows s)))
 
--- the start is in the table and a strategy, the subject is below the mark, and no binding exceeds it
+-- the start is in the table and a strategy
+unfoldable pub isStart : List ℕ → ℕ → Bool
+isStart t start = ltb start (rows t) && same (sortOf (kindOf t start)) Strategy
+
+-- it is, the subject is below the mark, and no binding exceeds it
 unfoldable pub startFits : List ℕ → List ℕ → ℕ → ℕ → ℕ → Bool
-startFits t b mark start subject = ltb start (rows t) && (same (sortOf (kindOf t start)) Strategy && (ltb subject mark && boundBelow b mark))
+startFits t b mark start subject = isStart t start && (ltb subject mark && boundBelow b mark)
+
+-- every subject is below the mark
+unfoldable pub subjectsBelow : List ℕ → ℕ → Bool
+subjectsBelow ks mark = every (λ j. ltb (getD ks j 0) mark) 0 (length ks)
+
+-- the same for a list of subjects
+unfoldable pub startsFit : List ℕ → List ℕ → ℕ → ℕ → List ℕ → Bool
+startsFit t b mark start ks = isStart t start && (subjectsBelow ks mark && boundBelow b mark)
 
 -- the first answer that is not 0
 abbrev pub orElse : Checked → Checked → Checked

@@ -1,5 +1,7 @@
 // What a program in C or Rust calls, from the archive. A slice is a pointer and a number of words. The numbers that come
 // back go into an array that the caller lends. The contracts are those of the functions called, over that array.
+use crate::many::run_many;
+use crate::many::run_many_signed;
 use crate::running::run;
 use crate::running::run_signed;
 use checks::entries::check_table;
@@ -7,11 +9,12 @@ use checks::nodes::check_store;
 use collect::collect;
 use free::free_variables;
 ghost use mathlib.Core.Path.{_≡_};
-ghost use mathlib.Core.Option.{some};
+ghost use mathlib.Core.Option.{none, some};
 ghost use Rattle.checks.specs.Checked.{tableChecked, storeChecked};
 ghost use Rattle.collect.specs.Collected.{lent, atEnd, collectedOf};
 ghost use Rattle.free.specs.Answered.{Answered};
 ghost use Rattle.marshtrundle.specs.Run.{input, atReturn, runWith, runOf};
+ghost use Rattle.marshtrundle.specs.Many.{handed, manyAtReturn, manyOf};
 ghost use Rattle.marshtrundle.specs.Exported.{two, three, four, five};
 
 // The run: answer, place, subject, mark and units used.
@@ -64,6 +67,64 @@ pub extern "C" fn marshtrundle_run_signed(
         ended.mark,
         ended.units,
     ];
+}
+
+// A whole module in one call: answer and place. Five numbers for each subject go into `results`.
+#[no_mangle]
+pub extern "C" fn marshtrundle_run_many(
+    table: &[u32],
+    store: &mut [u32],
+    bindings: &[u32],
+    mark: u32,
+    start: u32,
+    subjects: &[u32],
+    units: u32,
+    results: &mut [u32],
+    numbers: &mut [u32; 2],
+)
+    ensures { λ _. ⌜ manyAtReturn (two (now (numbers .exit))) (now (results .exit)) (now (store .exit)) ≡ manyOf none (handed (now (table .entry)) (now (store .entry)) (now (bindings .entry)) mark start (now (subjects .entry)) units (now (results .entry))) ⌝ }
+{
+    let r = run_many(
+        table,
+        store,
+        bindings,
+        mark,
+        start,
+        subjects,
+        units,
+        results,
+    );
+    *numbers = [r.answer, r.place];
+}
+
+// The same with a signature.
+#[no_mangle]
+pub extern "C" fn marshtrundle_run_many_signed(
+    table: &[u32],
+    store: &mut [u32],
+    bindings: &[u32],
+    mark: u32,
+    start: u32,
+    subjects: &[u32],
+    units: u32,
+    results: &mut [u32],
+    signature: &[u32],
+    numbers: &mut [u32; 2],
+)
+    ensures { λ _. ⌜ manyAtReturn (two (now (numbers .exit))) (now (results .exit)) (now (store .exit)) ≡ manyOf (some (now (signature .entry))) (handed (now (table .entry)) (now (store .entry)) (now (bindings .entry)) mark start (now (subjects .entry)) units (now (results .entry))) ⌝ }
+{
+    let r = run_many_signed(
+        table,
+        store,
+        bindings,
+        mark,
+        start,
+        subjects,
+        units,
+        results,
+        signature,
+    );
+    *numbers = [r.answer, r.place];
 }
 
 // The collection: answer, place, subject and mark.

@@ -2,5 +2,6 @@
 pub mod exported;
 mod hints;
 mod loading;
+pub mod many;
 mod refusals;
 pub mod running;

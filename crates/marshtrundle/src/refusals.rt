@@ -13,9 +13,11 @@ use checks::signature::check_nodes;
 use checks::signature::signature_fits;
 use leaves::record::VARIABLES;
 ghost use mathlib.Core.Path.{_≡_};
-ghost use Prim.Native.Nat.{_≤_};
+ghost use mathlib.Core.List.{List};
+ghost use Prim.Native.Nat.{ℕ, _≤_};
 ghost use lib.ListN.{length};
-ghost use Rattle.marshtrundle.specs.Refused.{sizesFit, startFits, lentIf, lentFits, obeyedBy, wordsRefused, refusedWith};
+ghost use Rattle.marshtrundle.specs.Many.{handed, manyRefused};
+ghost use Rattle.marshtrundle.specs.Refused.{sizesFit, isStart, startFits, subjectsBelow, startsFit, lentIf, lentFits, obeyedBy, wordsRefused, refusedWith};
 
 // The lengths, and the mark within the store.
 fn sizes_fit(table: &[u32], store: &[u32], bindings: &[u32], mark: u32) -> bool
@@ -33,9 +35,9 @@ fn sizes_fit(table: &[u32], store: &[u32], bindings: &[u32], mark: u32) -> bool
     mark as usize <= store.len() / 8
 }
 
-// The start is a strategy of the table, the subject lies below the mark, and so do the bindings.
-fn start_fits(table: &[u32], bindings: &[u32], mark: u32, start: u32, subject: u32) -> bool
-    ensures { λ r. ⌜ r ≡ startFits (now (table .entry)) (now (bindings .entry)) mark start subject ⌝ }
+// The start is a strategy of the table.
+fn is_start(table: &[u32], start: u32) -> bool
+    ensures { λ r. ⌜ r ≡ isStart (now (table .entry)) start ⌝ }
 {
     if table.len() / 8 <= start as usize {
         return false;
@@ -44,7 +46,44 @@ fn start_fits(table: &[u32], bindings: &[u32], mark: u32, start: u32, subject: u
     let Sort::Strategy = sort else {
         return false;
     };
+    true
+}
+
+// Every subject is below the mark.
+fn subjects_below(subjects: &[u32], mark: u32) -> bool
+    ensures { λ r. ⌜ r ≡ subjectsBelow (now (subjects .entry)) mark ⌝ }
+{
+    let mut j: usize = 0;
+    while j < subjects.len() {
+        if mark <= subjects[j] {
+            return false;
+        }
+        j += 1;
+    }
+    true
+}
+
+// The start is a strategy of the table, the subject lies below the mark, and so do the bindings.
+fn start_fits(table: &[u32], bindings: &[u32], mark: u32, start: u32, subject: u32) -> bool
+    ensures { λ r. ⌜ r ≡ startFits (now (table .entry)) (now (bindings .entry)) mark start subject ⌝ }
+{
+    if !is_start(table, start) {
+        return false;
+    }
     if mark <= subject {
+        return false;
+    }
+    bindings_below(bindings, mark)
+}
+
+// The same for a list of subjects.
+fn starts_fit(table: &[u32], bindings: &[u32], mark: u32, start: u32, subjects: &[u32]) -> bool
+    ensures { λ r. ⌜ r ≡ startsFit (now (table .entry)) (now (bindings .entry)) mark start (now (subjects .entry)) ⌝ }
+{
+    if !is_start(table, start) {
+        return false;
+    }
+    if !subjects_below(subjects, mark) {
         return false;
     }
     bindings_below(bindings, mark)
@@ -131,6 +170,48 @@ pub fn refusal(
         return words;
     }
     if !start_fits(table, bindings, mark, start, subject) {
+        return Checked {
+            answer: 5,
+            place: 0,
+        };
+    }
+    Checked {
+        answer: 0,
+        place: 0,
+    }
+}
+
+// The refusal of a call over many subjects, whose list of results has n words; or 0 with place 0.
+pub fn many_refusal(
+    table: &[u32],
+    store: &[u32],
+    bindings: &[u32],
+    mark: u32,
+    start: u32,
+    subjects: &[u32],
+    n: usize,
+    signed: bool,
+    signature: &[u32],
+) -> Checked
+    ensures { λ r. ⌜ ((results : List ℕ) (units : ℕ) → length results ≡ n → r ≡ manyRefused (lentIf signed (now (signature .entry))) (handed (now (table .entry)) (now (store .entry)) (now (bindings .entry)) mark start (now (subjects .entry)) units results)) ⌝ }
+{
+    if n / 5 != subjects.len() {
+        return Checked {
+            answer: 2,
+            place: 0,
+        };
+    }
+    if n % 5 != 0 {
+        return Checked {
+            answer: 2,
+            place: 0,
+        };
+    }
+    let words = words_refusal(table, store, bindings, mark, signed, signature);
+    if words.answer != 0 {
+        return words;
+    }
+    if !starts_fit(table, bindings, mark, start, subjects) {
         return Checked {
             answer: 5,
             place: 0,

@@ -2,15 +2,20 @@
 use crate::memory::Given;
 use crate::memory::heads;
 use crate::memory::make;
+use crate::numbers::number;
 use crate::show::show_checked;
 use crate::show::show_collected;
 use crate::show::show_free;
+use crate::show::show_many;
 use crate::show::show_run;
+use checks::Checked;
 use checks::entries::check_table;
 use checks::nodes::check_store;
 use collect::collect;
 use free::free_variables;
 use libc::STDOUT_FILENO;
+use marshtrundle::many::run_many;
+use marshtrundle::many::run_many_signed;
 use marshtrundle::running::run;
 use marshtrundle::running::run_signed;
 use whole_job::answer_job;
@@ -75,6 +80,153 @@ fn show_label(text: &[u8], start: usize) {
     }
 }
 
+// Reads a number of the text for each word, and gives the place after the last.
+fn read_words(text: &[u8], start: usize, words: &mut [u32]) -> usize {
+    let mut at = start;
+    let mut i: usize = 0;
+    while i < words.len() {
+        let d = number(text, at);
+        words[i] = d.value;
+        at = d.next;
+        i += 1;
+    }
+    at
+}
+
+// The call over many subjects, with the signature that stands behind the first `at` words where one is lent.
+fn run_subjects(
+    tag: u8,
+    given: Given,
+    words: &[u32],
+    store: &mut [u32],
+    bindings: &[u32],
+    subjects: &[u32],
+    results: &mut [u32],
+) -> Checked {
+    let n = given.words;
+    let at = n[9] as usize;
+    if tag == b'm' {
+        return run_many(words, store, bindings, n[3], n[4], subjects, n[6], results);
+    }
+    if words.len() < at {
+        return Checked {
+            answer: 4294967295,
+            place: 0,
+        };
+    }
+    run_many_signed(
+        &words[..at],
+        store,
+        bindings,
+        n[3],
+        n[4],
+        subjects,
+        n[6],
+        results,
+        &words[at..],
+    )
+}
+
+// Reads the subjects from place `at` on, prints the label behind them, makes the call and prints what it gives back.
+fn call_lists(
+    tag: u8,
+    text: &[u8],
+    at: usize,
+    given: Given,
+    table: &[u32],
+    store: &mut [u32],
+    bindings: &[u32],
+    subjects: &mut [u32],
+    results: &mut [u32],
+) {
+    let label = read_words(text, at, subjects);
+    show_label(text, label);
+    let answered = run_subjects(tag, given, table, store, bindings, subjects, results);
+    show_many(answered, results, store, bindings);
+}
+
+// The same in the parts of two lists that the case asks for, the length of the result list standing at `start`: whether it asks for no
+// more than there is.
+fn call_parts(
+    tag: u8,
+    text: &[u8],
+    start: usize,
+    given: Given,
+    table: &[u32],
+    store: &mut [u32],
+    bindings: &[u32],
+    subjects: &mut [u32],
+    results: &mut [u32],
+) -> bool {
+    let n = given.words;
+    let length = number(text, start);
+    let k = n[5] as usize;
+    let r = length.value as usize;
+    if subjects.len() < k {
+        return false;
+    }
+    if results.len() < r {
+        return false;
+    }
+    call_lists(
+        tag,
+        text,
+        length.next,
+        given,
+        table,
+        store,
+        bindings,
+        &mut subjects[..k],
+        &mut results[..r],
+    );
+    true
+}
+
+// The same with lists of its own: room for 1,024 subjects, and for the results of one more.
+fn call_many(
+    tag: u8,
+    text: &[u8],
+    start: usize,
+    given: Given,
+    table: &[u32],
+    store: &mut [u32],
+    bindings: &[u32],
+) -> bool {
+    let mut subjects = [0u32; 1024];
+    let mut results = [4294967295u32; 5128];
+    call_parts(
+        tag,
+        text,
+        start,
+        given,
+        table,
+        store,
+        bindings,
+        &mut subjects,
+        &mut results,
+    )
+}
+
+// Prints the label, makes the call of a case and prints what it gives back. Of a call over many subjects the label comes after them.
+fn answer_made(
+    tag: u8,
+    text: &[u8],
+    next: usize,
+    given: Given,
+    table: &mut [u32],
+    store: &mut [u32],
+    bindings: &mut [u32],
+) -> bool {
+    if tag == b'm' {
+        return call_many(tag, text, next, given, table, store, bindings);
+    }
+    if tag == b'n' {
+        return call_many(tag, text, next, given, table, store, bindings);
+    }
+    show_label(text, next);
+    call(tag, given, table, store, bindings)
+}
+
 // Makes the words of a case, prints its label and what its call gives back, and clears the words.
 fn answer_words(
     tag: u8,
@@ -84,9 +236,8 @@ fn answer_words(
     store: &mut [u32],
     bindings: &mut [u32],
 ) -> bool {
-    let label = make(text, given, table, store, bindings);
-    show_label(text, label);
-    let known = call(tag, given, table, store, bindings);
+    let next = make(text, given, table, store, bindings);
+    let known = answer_made(tag, text, next, given, table, store, bindings);
     io::write_all(STDOUT_FILENO, b"\n");
     clear_from(table, 0);
     clear_from(store, 0);

@@ -1,7 +1,8 @@
 // Executes the cases of standard input, and writes what each call gave back. A case is a line TAG LENGTH, then LENGTH bytes, at
 // most 131,072, and a line feed. Where the input is not of this form, or ends inside a case, the last line is `# broken`.
 //
-//     t  check_table     s  check_store     f  free_variables     r  run     c  collect     j  answer_job
+//     t  check_table     s  check_store     f  free_variables     r  run     g  run_signed     c  collect     j  answer_job
+//     m  run_many        n  run_many_signed
 //
 // The bytes of `j` are a job's text. Those of the others say which memory is lent (memory.rt), and end in a label. A further
 // call takes a tag and a function in calls.rt, and tools/cases.py writes its cases.

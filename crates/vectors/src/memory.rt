@@ -12,7 +12,9 @@
 //
 // Where HEAD is not 0, each entry but the last is HEAD, ARGUMENT, the next entry, SECOND. Then each WORD of SLICE (0 table,
 // 1 store, 2 bindings) is set to its VALUE. A collection takes no table: its work list is lent in the table's place. A run with a
-// signature has it behind the table: the table has ARGUMENT words, and the rest is the signature.
+// signature has it behind the table: the table has ARGUMENT words, and the rest is the signature. A call over many subjects has
+// their number in the place of SUBJECT. Before its label stand the length of its result list and the subjects; every word of the result
+// list is 4294967295 before the call.
 ghost use Prim.Native.Nat.{_+_, _*_, _≤_};
 ghost use lib.ListN.{length};
 use crate::numbers::number;

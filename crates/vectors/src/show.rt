@@ -85,6 +85,22 @@ pub fn show_collected(r: Collected, store: &[u32], bindings: &[u32], work: &[u32
     show_words(work);
 }
 
+// Prints a space and a word.
+fn show_plain(w: u32) {
+    show_number(w as u64);
+}
+
+// Prints what a call over many subjects returns, every word of the result list, and the memory that it leaves.
+pub fn show_many(r: Checked, results: &[u32], store: &[u32], bindings: &[u32]) {
+    show_checked(r);
+    let mut i: usize = 0;
+    while i < results.len() {
+        show_plain(results[i]);
+        i += 1;
+    }
+    show_memory(store, bindings);
+}
+
 // Prints what a run returns, and the memory that it leaves.
 pub fn show_run(r: Outcome, store: &[u32], bindings: &[u32]) {
     show_number(r.answer as u64);

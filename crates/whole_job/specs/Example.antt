@@ -13,7 +13,7 @@ use Rattle.meaning.specs.Rules.{nth, put, zip, agree, when, again, walk, strate
 use Rattle.meaning.specs.Limits.{roomFor, settled, after, runPlan, closed, run}
 use Rattle.meaning.specs.Store.{row, named, bindings, ran}
 use Rattle.meaning.specs.Answer.{number, bindingWord, bindingWords, returned}
-use Rattle.marshtrundle.specs.Refused.{sizesFit, boundBelow, startFits, wordsRefused, refusedWith}
+use Rattle.marshtrundle.specs.Refused.{sizesFit, boundBelow, isStart, startFits, wordsRefused, refusedWith}
 use Rattle.marshtrundle.specs.Run.{runWith}
 use Rattle.text.specs.Text.{parts, valued, numberOf, numbersOf, digits}
 use Rattle.text.specs.Written.{numbersText}
@@ -34,5 +34,5 @@ answerText =
     ∷ 110 ∷ 9 ∷ 53 ∷ 9 ∷ 49 ∷ 9 ∷ 48 ∷ 10 ∷ []
 
 job-answered : answerTo jobText ≡ answerText
-unfolding every rejected putRow clearedFrom lines kindLine kind sortOf takes countFits argumentFits operandPlaced operandSorted operandsFault unusedZero fault goodEntry goodNode tableLengthFits storeLengthFits tableChecked storeChecked bind has masked byKind table nth put zip agree when again walk strategy variable whenAt matching needed building does roomFor settled after runPlan closed run row named bindings ran number bindingWord bindingWords returned sizesFit boundBelow startFits wordsRefused refusedWith runWith parts valued numberOf numbersOf digits letterOf nameOf jobFits entryFits nodeFits bindingFits fits lineOf entryRow nodeRow zeros admitted headed tableWith storeWith bindingsWith with readLines meant nameText numbersText lineText written nodeShown nodeNumbers nodeLines bindingLine bindingLines shown answerLine answered runText meantText answerTo
+unfolding every rejected putRow clearedFrom lines kindLine kind sortOf takes countFits argumentFits operandPlaced operandSorted operandsFault unusedZero fault goodEntry goodNode tableLengthFits storeLengthFits tableChecked storeChecked bind has masked byKind table nth put zip agree when again walk strategy variable whenAt matching needed building does roomFor settled after runPlan closed run row named bindings ran number bindingWord bindingWords returned sizesFit boundBelow isStart startFits wordsRefused refusedWith runWith parts valued numberOf numbersOf digits letterOf nameOf jobFits entryFits nodeFits bindingFits fits lineOf entryRow nodeRow zeros admitted headed tableWith storeWith bindingsWith with readLines meant nameText numbersText lineText written nodeShown nodeNumbers nodeLines bindingLine bindingLines shown answerLine answered runText meantText answerTo
 job-answered = refl

@@ -35,6 +35,40 @@ extern "C" {
         signature_words: usize,
         numbers: *mut u32,
     );
+    fn marshtrundle_run_many(
+        table: *const u32,
+        table_words: usize,
+        store: *mut u32,
+        store_words: usize,
+        bindings: *const u32,
+        bindings_words: usize,
+        mark: u32,
+        start: u32,
+        subjects: *const u32,
+        subjects_words: usize,
+        units: u32,
+        results: *mut u32,
+        results_words: usize,
+        numbers: *mut u32,
+    );
+    fn marshtrundle_run_many_signed(
+        table: *const u32,
+        table_words: usize,
+        store: *mut u32,
+        store_words: usize,
+        bindings: *const u32,
+        bindings_words: usize,
+        mark: u32,
+        start: u32,
+        subjects: *const u32,
+        subjects_words: usize,
+        units: u32,
+        results: *mut u32,
+        results_words: usize,
+        signature: *const u32,
+        signature_words: usize,
+        numbers: *mut u32,
+    );
     fn marshtrundle_collect(
         store: *mut u32,
         store_words: usize,
@@ -119,6 +153,81 @@ pub fn run_signed(
             start,
             subject,
             units,
+            signature.as_ptr(),
+            signature.len(),
+            numbers.as_mut_ptr(),
+        );
+    }
+    numbers
+}
+
+/// The run on each of many subjects: answer and place.
+#[allow(clippy::too_many_arguments)]
+pub fn run_many(
+    table: &[u32],
+    store: &mut [u32],
+    bindings: &[u32],
+    mark: u32,
+    start: u32,
+    subjects: &[u32],
+    units: u32,
+    results: &mut [u32],
+) -> [u32; 2] {
+    let mut numbers = [0; 2];
+    // The five slices are borrowed for the call, two of them alone; `numbers` is
+    // a local of two words.
+    unsafe {
+        marshtrundle_run_many(
+            table.as_ptr(),
+            table.len(),
+            store.as_mut_ptr(),
+            store.len(),
+            bindings.as_ptr(),
+            bindings.len(),
+            mark,
+            start,
+            subjects.as_ptr(),
+            subjects.len(),
+            units,
+            results.as_mut_ptr(),
+            results.len(),
+            numbers.as_mut_ptr(),
+        );
+    }
+    numbers
+}
+
+/// The run on each of many subjects with a signature: answer and place.
+#[allow(clippy::too_many_arguments)]
+pub fn run_many_signed(
+    table: &[u32],
+    store: &mut [u32],
+    bindings: &[u32],
+    mark: u32,
+    start: u32,
+    subjects: &[u32],
+    units: u32,
+    results: &mut [u32],
+    signature: &[u32],
+) -> [u32; 2] {
+    let mut numbers = [0; 2];
+    // The six slices are borrowed for the call, two of them alone; `numbers` is a
+    // local of two words.
+    unsafe {
+        marshtrundle_run_many_signed(
+            table.as_ptr(),
+            table.len(),
+            store.as_mut_ptr(),
+            store.len(),
+            bindings.as_ptr(),
+            bindings.len(),
+            mark,
+            start,
+            subjects.as_ptr(),
+            subjects.len(),
+            units,
+            results.as_mut_ptr(),
+            results.len(),
             signature.as_ptr(),
             signature.len(),
             numbers.as_mut_ptr(),

@@ -3,8 +3,8 @@
 //! The files in reading order: `strategies` and `terms` (how a task's words are
 //! made), `tasks`, `foreign` (the archive's functions and a clock), `optimised`
 //! (an engine written for speed), `engines` (the three behind one signature),
-//! `maude` (the tasks in Maude, where it is installed), `measure`, `report` (the
-//! page), `chart` (the picture).
+//! `maude` (the tasks in Maude, where it is installed), `whole_module` (one call
+//! against many), `measure`, `report` (the page), `chart` (the picture).
 
 #![deny(unsafe_code)]
 
@@ -18,3 +18,4 @@ pub mod report;
 pub mod strategies;
 pub mod tasks;
 pub mod terms;
+pub mod whole_module;

@@ -8,6 +8,7 @@ use crate::maude::{self, Maude};
 use crate::optimised;
 use crate::tasks::{by_entries, by_nodes, by_units, seven, Task};
 use crate::terms::Terms;
+use crate::whole_module::{self, Whole};
 
 /// A task with its visits and the best time of each engine, in seconds.
 pub struct Measured {
@@ -58,6 +59,8 @@ pub struct All {
     pub maude: Option<Maude>,
     /// The checks and the clearing.
     pub costs: Vec<Cost>,
+    /// A whole module in one call.
+    pub whole: Whole,
     /// The time by nodes, by entries, by units.
     pub growth: [Vec<Measured>; 3],
     /// How many rounds the tasks had.
@@ -186,6 +189,7 @@ pub fn all(rounds: usize) -> All {
         tasks: several(&tasks, rounds),
         maude: maude::beside(&tasks),
         costs: costs(4 * rounds),
+        whole: whole_module::measure(rounds),
         growth: [
             several(&by_nodes(), 2 * rounds),
             several(&by_entries(), rounds),

@@ -4,6 +4,7 @@
 
 use crate::maude::{self, Maude};
 use crate::measure::{All, Measured};
+use crate::whole_module::{Whole, ENTRIES, FUNCTIONS, NODES};
 use std::env;
 use std::fmt::Write;
 use std::fs;
@@ -229,6 +230,52 @@ fn beside(page: &mut String, maude: &Maude, tasks: &[Measured]) {
     line!(page);
 }
 
+/// The section about a whole module in one call.
+pub fn whole(page: &mut String, of: &Whole) {
+    let functions = grouped(FUNCTIONS as u64);
+    line!(page, "## A whole module in one call");
+    line!(page);
+    line!(
+        page,
+        "A module of {} functions, each of some hundred nodes, in a store of {} nodes, of which {} are \
+         in use; a table of {} entries. The pass looks for something dead in a function and drops the \
+         first that it finds: {} functions are done, the others fail, {} visits in all, {} nodes made. \
+         One call has all functions as its subjects; beside it a call for each function. Both leave the \
+         same numbers and the same store.",
+        functions,
+        grouped(NODES as u64),
+        grouped(of.mark.into()),
+        grouped(ENTRIES as u64),
+        of.done,
+        grouped(of.visits.into()),
+        of.made
+    );
+    line!(page);
+    line!(page, "| what | proved ms |");
+    line!(page, "|---|---:|");
+    let rows = [
+        (format!("one call, {} subjects", functions), of.together),
+        (format!("{} calls", functions), of.one_by_one),
+        ("the checks of table and store, once".to_string(), of.checks),
+        (format!("one call, {} subjects, ID", functions), of.all_idle),
+        ("one call, 1 subject, ID".to_string(), of.one_idle),
+    ];
+    for (what, time) in rows {
+        line!(page, "| {} | {} |", what, milliseconds(time));
+    }
+    line!(page);
+    line!(
+        page,
+        "{} calls take {:.0} times as long as one call. The checks are {:.0} % of the one call. A \
+         subject costs {:.0} ns beside its visits, taken from the last two rows; the aim is below 1,000.",
+        functions,
+        of.ratio(),
+        100.0 * of.checks / of.together,
+        of.overhead()
+    );
+    line!(page);
+}
+
 /// The page's text.
 pub fn page(all: &All, machine: &Machine) -> String {
     let mut page = String::new();
@@ -373,6 +420,7 @@ pub fn page(all: &All, machine: &Machine) -> String {
         );
     }
     line!(page);
+    whole(&mut page, &all.whole);
     line!(page, "## How the time grows");
     line!(page);
     line!(

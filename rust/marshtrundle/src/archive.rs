@@ -1,4 +1,4 @@
-//! The six functions of the archive, as safe functions over slices of words. This is the only module with `unsafe` in it.
+//! The eight functions of the archive, as safe functions over slices of words. This is the only module with `unsafe` in it.
 //!
 //! The archive asks one thing of its caller: each pointer is aligned and valid for its words, and what is lent for writing
 //! overlaps nothing else. Rust's references give this, empty slices too. So every word and every number is allowed here.
@@ -28,6 +28,40 @@ extern "C" {
         start: u32,
         subject: u32,
         units: u32,
+        signature: *const u32,
+        signature_words: usize,
+        numbers: *mut u32,
+    );
+    fn marshtrundle_run_many(
+        table: *const u32,
+        table_words: usize,
+        store: *mut u32,
+        store_words: usize,
+        bindings: *const u32,
+        bindings_words: usize,
+        mark: u32,
+        start: u32,
+        subjects: *const u32,
+        subjects_words: usize,
+        units: u32,
+        results: *mut u32,
+        results_words: usize,
+        numbers: *mut u32,
+    );
+    fn marshtrundle_run_many_signed(
+        table: *const u32,
+        table_words: usize,
+        store: *mut u32,
+        store_words: usize,
+        bindings: *const u32,
+        bindings_words: usize,
+        mark: u32,
+        start: u32,
+        subjects: *const u32,
+        subjects_words: usize,
+        units: u32,
+        results: *mut u32,
+        results_words: usize,
         signature: *const u32,
         signature_words: usize,
         numbers: *mut u32,
@@ -112,6 +146,81 @@ pub fn run_signed(
             start,
             subject,
             units,
+            signature.as_ptr(),
+            signature.len(),
+            numbers.as_mut_ptr(),
+        );
+    }
+    numbers
+}
+
+/// The run on each of many subjects: answer and place. The result list has five words for each subject: answer, place, subject,
+/// mark and units used. The calling thread needs [`STACK`](crate::STACK) bytes of stack.
+#[allow(clippy::too_many_arguments)]
+pub fn run_many(
+    table: &[u32],
+    store: &mut [u32],
+    bindings: &[u32],
+    mark: u32,
+    start: u32,
+    subjects: &[u32],
+    units: u32,
+    results: &mut [u32],
+) -> [u32; 2] {
+    let mut numbers = [0; 2];
+    // SAFETY: as in `run`. Store, results and `numbers`, which has the two words that are written, are mutable references; the
+    // rest is only read.
+    unsafe {
+        marshtrundle_run_many(
+            table.as_ptr(),
+            table.len(),
+            store.as_mut_ptr(),
+            store.len(),
+            bindings.as_ptr(),
+            bindings.len(),
+            mark,
+            start,
+            subjects.as_ptr(),
+            subjects.len(),
+            units,
+            results.as_mut_ptr(),
+            results.len(),
+            numbers.as_mut_ptr(),
+        );
+    }
+    numbers
+}
+
+/// The run on each of many subjects with a signature: answer and place. An empty signature declares nothing.
+#[allow(clippy::too_many_arguments)]
+pub fn run_many_signed(
+    table: &[u32],
+    store: &mut [u32],
+    bindings: &[u32],
+    mark: u32,
+    start: u32,
+    subjects: &[u32],
+    units: u32,
+    results: &mut [u32],
+    signature: &[u32],
+) -> [u32; 2] {
+    let mut numbers = [0; 2];
+    // SAFETY: as in `run_many`. The signature is only read.
+    unsafe {
+        marshtrundle_run_many_signed(
+            table.as_ptr(),
+            table.len(),
+            store.as_mut_ptr(),
+            store.len(),
+            bindings.as_ptr(),
+            bindings.len(),
+            mark,
+            start,
+            subjects.as_ptr(),
+            subjects.len(),
+            units,
+            results.as_mut_ptr(),
+            results.len(),
             signature.as_ptr(),
             signature.len(),
             numbers.as_mut_ptr(),

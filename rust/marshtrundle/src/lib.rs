@@ -107,12 +107,13 @@
 //! - [`Bindings`] says what each of the 32 variables is bound to.
 //! - [`run`] runs, [`Table::missed`] says in which rule a failed run stopped matching, [`free_variables`] answers which variables
 //!   a strategy leaves free.
+//! - [`run_many`] runs one strategy on many subjects in one call, and gives an iterator of their outcomes.
 //! - [`pipeline`] runs named passes one after the other, gives room back between them, and reports.
 //! - [`job`] reads and writes jobs, each one run as text.
 //! - [`show`] shows terms, strategies and tables by names, as text and as graphs, and what differs in two terms.
 //! - [`Signature`] declares the child count of each constructor. The builders refuse what does not obey it, and [`run_signed`]
-//!   refuses a table or a store that does not.
-//! - [`words`] has the library's six functions over plain slices of words.
+//!   and [`run_many_signed`] refuse a table or a store that does not.
+//! - [`words`] has the library's eight functions over plain slices of words.
 //!
 //! # What is promised
 //!
@@ -125,7 +126,7 @@
 //!
 //! # The stack
 //!
-//! Give a thread that calls [`run`] [`STACK`] bytes of stack: 2 MiB, which is what Rust gives a thread by default. The
+//! Give a thread that calls [`run`] or [`run_many`] [`STACK`] bytes of stack: 2 MiB, which is what Rust gives a thread by default. The
 //! deepest form, CONG, was measured to take 1.9 MiB at 4,096 levels, a copy of the table among them. A run takes
 //! no heap. [`with_stack`] runs a closure on a thread with that much. On a smaller stack a deep run ends the process at the
 //! stack's guard page, as any overflow does.
@@ -140,6 +141,7 @@ mod bindings;
 mod fault;
 pub mod job;
 pub mod kind;
+mod many;
 mod miss;
 mod names;
 mod outcome;
@@ -155,6 +157,7 @@ mod traversals;
 pub use answer::{Answer, BuildError, Outcome};
 pub use bindings::{Bindings, Var, VarSet, VARS};
 pub use fault::{EntryFault, Fault};
+pub use many::{run_many, run_many_signed, Outcomes};
 pub use miss::Miss;
 pub use signature::Signature;
 pub use store::{Node, Store, Term};
@@ -166,7 +169,7 @@ pub use table::{Entry, Table, TableBuilder};
 #[doc = include_str!("../README.md")]
 mod readme {}
 
-/// The library's six functions over plain slices of words, for callers that keep their own tables and stores.
+/// The library's eight functions over plain slices of words, for callers that keep their own tables and stores.
 ///
 /// They take any words of any length, and give the numbers of document 01 back.
 ///
@@ -176,7 +179,10 @@ mod readme {}
 /// assert_eq!(words::run(&[0; 8], &mut [0; 8], &mut [0; 32], 1, 0, 0, 1), [0, 0, 0, 1, 1]);
 /// ```
 pub mod words {
-    pub use crate::archive::{check_store, check_table, collect, free_variables, run, run_signed};
+    pub use crate::archive::{
+        check_store, check_table, collect, free_variables, run, run_many, run_many_signed,
+        run_signed,
+    };
 }
 
 /// The stack in bytes that is enough for every run: 2 MiB.
@@ -259,14 +265,10 @@ pub fn run_signed(
 }
 
 /// A run's five numbers as its outcome. The store gets the mark that comes back.
-fn ended([answer, place, subject, new_mark, units]: [u32; 5], mark: &mut u32) -> Outcome {
-    *mark = new_mark;
-    Outcome {
-        answer: Answer::told(answer, place),
-        subject: Node::from_number(subject),
-        mark: new_mark,
-        units,
-    }
+fn ended(numbers: [u32; 5], mark: &mut u32) -> Outcome {
+    let outcome = Outcome::told(numbers);
+    *mark = outcome.mark;
+    outcome
 }
 
 /// The free variables of the strategy at `entry`. The answer where there are none to give: [`Answer::RefusedSizes`],

@@ -3,6 +3,16 @@ use crate::answer::{Answer, Outcome};
 use crate::store::Node;
 
 impl Outcome {
+    /// The outcome for a run's five numbers.
+    pub(crate) fn told([answer, place, subject, mark, units]: [u32; 5]) -> Outcome {
+        Outcome {
+            answer: Answer::told(answer, place),
+            subject: Node::from_number(subject),
+            mark,
+            units,
+        }
+    }
+
     /// The new subject where the run is done, and the answer otherwise.
     ///
     /// ```

@@ -1,5 +1,5 @@
 //! 4,096 levels of each recursive form, on a thread of exactly the stated stack.
-use marshtrundle::{free_variables, with_stack, Entry, STACK};
+use marshtrundle::{free_variables, run_many, with_stack, Entry, STACK};
 
 mod common;
 
@@ -27,6 +27,19 @@ fn one_level_more_is_refused_on_the_stated_stack() {
         if let Some(units) = deep.units {
             assert_eq!(end.units, units, "{}", deep.name);
         }
+    }
+}
+
+#[test]
+fn many_subjects_take_no_more_stack() {
+    for mut deep in (0..).map_while(common::fitting) {
+        let subjects = [deep.subject; 2];
+        let (table, bindings) = (&deep.table, &deep.bindings);
+        let store = &mut deep.store;
+        let outcomes =
+            with_stack(|| run_many(table, store, bindings, Entry::FIRST, &subjects, 4_000_000));
+        let first = outcomes.unwrap().unwrap().next().unwrap();
+        assert_eq!(first.answer, deep.answer, "{}", deep.name);
     }
 }
 

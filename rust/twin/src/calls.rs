@@ -7,16 +7,20 @@
 //! word 8 times MARK on, and those before begin as 0. Then each patch sets one
 //! word.
 //!
-//! The slices: 0 table, 1 store, 2 bindings, 3 signature.
+//! The slices: 0 table, 1 store, 2 bindings, 3 signature, 4 subjects, 5 results.
 //!
 //! The tags and their answers, where WORDS are ` INDEX=VALUE` for each word that
 //! is not zero, or one sum where there are more than 512 words:
 //!
 //! `l`, a run with what is lent: `LABEL ANSWER PLACE SUBJECT MARK UNITS`, the
 //! bindings' WORDS, ` :`, the store's WORDS.
+//!
+//! `m`, many subjects: `LABEL ANSWER PLACE`, the bindings' WORDS, ` :`, the
+//! store's WORDS, ` :`, the results' WORDS. SUBJECT is 0.
 
 use crate::checks::WIDTH;
 use crate::engine::{run_lent, Lent};
+use crate::many::run_many;
 use crate::text::{field, label, show_slice, RunCase};
 use std::collections::BTreeMap;
 use std::fmt::Write;
@@ -32,16 +36,22 @@ pub const STORE: u32 = 1;
 pub const BINDINGS: u32 = 2;
 /// The number of the signature.
 pub const SIGNATURE: u32 = 3;
+/// The number of the subjects.
+pub const SUBJECTS: u32 = 4;
+/// The number of the results.
+pub const RESULTS: u32 = 5;
 
 /// Which call a case is for.
 #[derive(Clone, Copy, Debug, PartialEq, Eq)]
 pub enum Call {
     /// One run.
     Run,
+    /// Many subjects.
+    Many,
 }
 
 /// The calls and their tags.
-const TAGS: [(Call, &str); 1] = [(Call::Run, "l")];
+const TAGS: [(Call, &str); 2] = [(Call::Run, "l"), (Call::Many, "m")];
 
 /// One input of a call.
 #[derive(Clone, Debug, PartialEq, Eq)]
@@ -190,6 +200,7 @@ impl CallCase {
     pub fn answer(self) -> String {
         match self.call {
             Call::Run => self.answer_run(),
+            Call::Many => self.answer_many(),
         }
     }
 
@@ -215,6 +226,35 @@ impl CallCase {
         show_slice(&mut line, &wide(&run.bindings));
         line.push_str(" :");
         show_slice(&mut line, &wide(&run.store));
+        line
+    }
+
+    /// Answers a call with many subjects.
+    fn answer_many(self) -> String {
+        let signature = self.words(SIGNATURE);
+        let subjects = self.words(SUBJECTS).unwrap_or_default();
+        let mut results = self.words(RESULTS).unwrap_or_default();
+        let mut run = self.run;
+        let lent = Lent {
+            signature: signature.as_deref(),
+        };
+        let (answer, place) = run_many(
+            &run.table,
+            &mut run.store,
+            &run.bindings,
+            run.mark,
+            run.start,
+            &subjects,
+            run.units,
+            &mut results,
+            lent,
+        );
+        let mut line = format!("{} {} {}", run.label, answer, place);
+        show_slice(&mut line, &wide(&run.bindings));
+        for words in [&run.store, &results] {
+            line.push_str(" :");
+            show_slice(&mut line, &wide(words));
+        }
         line
     }
 }

@@ -34,14 +34,18 @@ pub struct Outcome {
     pub units: u32,
 }
 
+impl Outcome {
+    /// The five numbers in 01's order.
+    pub fn numbers(&self) -> [u32; 5] {
+        [self.answer, self.place, self.subject, self.mark, self.units]
+    }
+}
+
 impl std::fmt::Display for Outcome {
     /// The five numbers, one space between.
     fn fmt(&self, to: &mut std::fmt::Formatter) -> std::fmt::Result {
-        write!(
-            to,
-            "{} {} {} {} {}",
-            self.answer, self.place, self.subject, self.mark, self.units
-        )
+        let numbers: Vec<String> = self.numbers().iter().map(u32::to_string).collect();
+        to.write_str(&numbers.join(" "))
     }
 }
 
@@ -545,6 +549,7 @@ pub fn run_lent<W: Watcher>(
         start,
         subjects: &[subject],
         signature: lent.signature,
+        results: None,
     });
     if let Some((answer, place)) = refused {
         return Outcome {
@@ -560,7 +565,7 @@ pub fn run_lent<W: Watcher>(
 
 /// Runs an input that nothing refuses.
 #[allow(clippy::too_many_arguments)]
-fn run_accepted<W: Watcher>(
+pub(crate) fn run_accepted<W: Watcher>(
     table: &[u32],
     store: &mut [u32],
     bindings: &mut [u32],

@@ -6,8 +6,9 @@
 //!
 //! The files in reading order: `checks` (the table check, the store check, the
 //! signature), `refusals` (their order), `free` (free variables), `engine` (the
-//! run), `collect` (the collection), `job` (the job program), then `text` and
-//! `calls` (cases as lines), `random`, `generate` and `statistics`.
+//! run), `many` (many subjects), `collect` (the collection), `job` (the job
+//! program), then `text` and `calls` (cases as lines), `random`, `generate` and
+//! `statistics`.
 //!
 //! A run may go 4,096 visits deep, and each visit is a call. So runs belong on
 //! a thread with a big stack: see [`with_big_stack`].
@@ -22,6 +23,7 @@ pub mod engine;
 pub mod free;
 pub mod generate;
 pub mod job;
+pub mod many;
 pub mod random;
 pub mod refusals;
 pub mod statistics;
@@ -32,6 +34,7 @@ pub use collect::{collect, Collected};
 pub use engine::{run, run_lent, Lent, Outcome};
 pub use free::free_variables;
 pub use job::job;
+pub use many::run_many;
 
 /// The stack, in bytes, that is ample for 4,096 nested visits in any build.
 pub const STACK_BYTES: usize = 256 << 20;

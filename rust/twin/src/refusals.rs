@@ -25,23 +25,37 @@ pub struct Input<'a> {
     pub subjects: &'a [u32],
     /// The signature, where one is lent. An empty one is lent too.
     pub signature: Option<&'a [u32]>,
+    /// The length of the result list, for the call with many subjects.
+    pub results: Option<usize>,
 }
 
 /// Whether a length, the mark or a count word of the signature is bad.
 ///
-/// 01: "the bindings aren't 32 words". The order among the sizes cannot be seen:
-/// all of them give 2 and 0.
+/// 01: "the bindings aren't 32 words". 02: the result list comes "after 01's
+/// sizes" (wish 1) and the signature is "last among the sizes" (wish 2). The
+/// order among the sizes cannot be seen: all of them give 2 and 0.
 fn bad_sizes(input: &Input) -> bool {
     bad_table_length(input.table)
         || bad_store_length(input.store, input.mark)
         || input.bindings.len() != VARIABLES
+        || input
+            .results
+            .map_or(false, |words| bad_results(input, words))
         || input.signature.map_or(false, bad_signature)
+}
+
+/// Whether a result list has the wrong length.
+///
+/// 02, wish 1: "a result list that isn't five words per subject gives 2".
+fn bad_results(input: &Input, words: usize) -> bool {
+    words != 5 * input.subjects.len()
 }
 
 /// Whether the start, a subject or a binding is bad.
 ///
 /// 01: "Answer 5: the start is outside the table or a pattern; the subject isn't
-/// below the mark; a binding word exceeds the mark."
+/// below the mark; a binding word exceeds the mark." 02, wish 1: "a subject not
+/// below the first mark gives 5".
 fn bad_start(input: &Input) -> bool {
     input.start as usize >= input.table.len() / WIDTH
         || sort_of(kind_of(input.table, input.start)) != Some(Sort::Strategy)

@@ -1,11 +1,12 @@
 //! What the generated cases cover, counted.
 
-use crate::calls::{Call, CallCase};
+use crate::calls::{Call, CallCase, RESULTS, SIGNATURE, SUBJECTS};
 use crate::checks::{kind, ran, BAD_TEXT, DONE, FAILED, NO_ROOM, UNBOUND};
-use crate::engine::{run_watched, Watcher};
+use crate::engine::{run_watched, Lent, Watcher};
 use crate::free::free_variables;
 use crate::generate::{free_case, job_text, run_case};
 use crate::job::job;
+use crate::many::run_many;
 use std::collections::BTreeMap;
 use std::fmt::Write;
 
@@ -369,8 +370,11 @@ pub fn of_calls(make: fn(u64, u64) -> CallCase, seed: u64, count: u64) -> String
     let mut answers = Answers::new();
     let mut empty = 0u64;
     let mut made = 0u64;
+    let mut subjects: BTreeMap<&str, u64> = BTreeMap::new();
+    let mut each = Answers::new();
     for index in 0..count {
         let case = make(seed, index);
+        count_subjects(&case, &mut subjects, &mut each);
         let (call, mark) = (case.call, case.run.mark);
         empty += u64::from(case.lent.values().any(|words| words.is_empty()));
         let numbers = numbers_of(&case.answer());
@@ -390,5 +394,46 @@ pub fn of_calls(make: fn(u64, u64) -> CallCase, seed: u64, count: u64) -> String
             made, empty
         ),
     );
+    if !subjects.is_empty() {
+        say(text, format_args!("accepted calls by their subjects"));
+        for name in SPANS {
+            if let Some(number) = subjects.get(name) {
+                say(text, format_args!("  {}: {}", name, number));
+            }
+        }
+        say(text, format_args!("the subjects' own answers"));
+        say_answers(text, &each, each.values().sum());
+    }
     report
+}
+
+/// Counts the subjects of an accepted call with many, and their answers.
+fn count_subjects(case: &CallCase, sizes: &mut BTreeMap<&str, u64>, each: &mut Answers) {
+    if case.call != Call::Many {
+        return;
+    }
+    let mut run = case.run.clone();
+    let subjects = case.words(SUBJECTS).unwrap_or_default();
+    let mut results = case.words(RESULTS).unwrap_or_default();
+    let signature = case.words(SIGNATURE);
+    let lent = Lent {
+        signature: signature.as_deref(),
+    };
+    let (answer, _) = run_many(
+        &run.table,
+        &mut run.store,
+        &run.bindings,
+        run.mark,
+        run.start,
+        &subjects,
+        run.units,
+        &mut results,
+        lent,
+    );
+    if answer == DONE {
+        *sizes.entry(span(subjects.len() as u32)).or_default() += 1;
+        for five in results.chunks(5) {
+            *each.entry(five[0]).or_default() += 1;
+        }
+    }
 }

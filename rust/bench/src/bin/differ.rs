@@ -5,17 +5,18 @@
 //! compared; so are the two checks of its words. What is handed to a run and what
 //! it leaves is collected by the proved function and by the plain one, and the
 //! four numbers and every word of store, bindings and work list are compared. COUNT
-//! runs with a signature, refused ones too, and the questions go through the proved
-//! function and the plain one. It ends with 1 where two of them differ, and with 2
-//! where the words leave nothing to compare.
+//! runs with a signature, COUNT calls with many subjects, some with a signature,
+//! refused ones too, and the questions go through the proved function and the
+//! plain one. It ends with 1 where two of them differ, and with 2 where the words
+//! leave nothing to compare.
 
 #![forbid(unsafe_code)]
 
 use bench::engines::ENGINES;
 use bench::foreign;
 use std::process::ExitCode;
-use twin::calls::{CallCase, SIGNATURE};
-use twin::generate::{free_case, run_case, signed_case};
+use twin::calls::{CallCase, RESULTS, SIGNATURE, SUBJECTS};
+use twin::generate::{free_case, many_case, run_case, signed_case};
 use twin::text::{FreeCase, RunCase};
 
 /// Whether the three engines agree on a case.
@@ -119,6 +120,54 @@ fn signed_agrees(case: &CallCase) -> bool {
     numbers == [end.answer, end.place, end.subject, end.mark, end.units] && proved == plain
 }
 
+/// Whether the proved function and the plain one agree on a call with many
+/// subjects: answer and place, every word of the results and of the store.
+fn many_agrees(case: &CallCase) -> bool {
+    let signature = case.words(SIGNATURE);
+    let subjects = case.words(SUBJECTS).expect("subjects are lent");
+    let results = case.words(RESULTS).expect("results are lent");
+    let run = &case.run;
+    let mut proved = (run.store.clone(), results.clone());
+    let numbers = match &signature {
+        Some(signature) => foreign::run_many_signed(
+            &run.table,
+            &mut proved.0,
+            &run.bindings,
+            run.mark,
+            run.start,
+            &subjects,
+            run.units,
+            &mut proved.1,
+            signature,
+        ),
+        None => foreign::run_many(
+            &run.table,
+            &mut proved.0,
+            &run.bindings,
+            run.mark,
+            run.start,
+            &subjects,
+            run.units,
+            &mut proved.1,
+        ),
+    };
+    let mut plain = (run.store.clone(), results);
+    let (answer, place) = twin::run_many(
+        &run.table,
+        &mut plain.0,
+        &run.bindings,
+        run.mark,
+        run.start,
+        &subjects,
+        run.units,
+        &mut plain.1,
+        twin::Lent {
+            signature: signature.as_deref(),
+        },
+    );
+    numbers == [answer, place] && proved == plain
+}
+
 /// Whether the proved function and the plain one agree on a question.
 fn question_agrees(case: &FreeCase) -> bool {
     let (answer, place, mask) = twin::free_variables(&case.table, case.entry);
@@ -145,6 +194,10 @@ fn compare(first: u64, last: u64, count: u64) -> u64 {
                 println!("signed run {} of seed {} differs", index, seed);
                 differ += 1;
             }
+            if !many_agrees(&many_case(seed, index)) {
+                println!("call {} with many subjects of seed {} differs", index, seed);
+                differ += 1;
+            }
             if !question_agrees(&free_case(seed, index)) {
                 println!("question {} of seed {} differs", index, seed);
                 differ += 1;
@@ -166,7 +219,8 @@ fn main() -> ExitCode {
     let differ = twin::with_big_stack(move || compare(first, last, count));
     let each = (last - first + 1) * count;
     println!(
-        "{} runs, {} signed runs, {} collections and {} questions compared, {} differ",
+        "{} runs, {} signed runs, {} calls with many subjects, {} collections and {} questions compared, {} differ",
+        each,
         each,
         each,
         2 * each,

@@ -3,7 +3,8 @@
 //!
 //! `terms` makes stores, `plans` makes tables that do something on them, `damage`
 //! makes them bad, `runs` puts limits around them and damages some, `frees` and
-//! `jobs` do the same for the other two questions, `signed` lends a signature.
+//! `jobs` do the same for the other two questions, `signed` lends a
+//! signature, `subjects` makes calls with many subjects.
 
 mod damage;
 mod frees;
@@ -11,6 +12,7 @@ mod jobs;
 mod plans;
 mod runs;
 mod signed;
+mod subjects;
 mod terms;
 
 use crate::calls::CallCase;
@@ -19,6 +21,7 @@ use crate::calls::CallCase;
 pub fn call_cases(kind: &str) -> Option<fn(u64, u64) -> CallCase> {
     match kind {
         "signed" => Some(signed_case),
+        "many" => Some(many_case),
         _ => None,
     }
 }
@@ -27,3 +30,4 @@ pub use frees::free_case;
 pub use jobs::job_text;
 pub use runs::run_case;
 pub use signed::signed_case;
+pub use subjects::many_case;

@@ -85,7 +85,7 @@ fn declared(random: &mut Random, signature: &[u32]) -> Option<usize> {
 }
 
 /// Breaks the agreement at one place, or the signature itself.
-fn disobey(random: &mut Random, run: &mut RunCase, signature: &mut Vec<u32>) {
+pub(super) fn disobey(random: &mut Random, run: &mut RunCase, signature: &mut Vec<u32>) {
     match random.below(12) {
         // A declared constructor loses its count or gets another.
         0..=2 => {
