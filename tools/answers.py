@@ -52,7 +52,7 @@ def specs():
     found = {("number " + name, int(n)) for name, n in pairs(answer, r"(?m)^number \(?(\w+)(?: \w+\))? = (\d+)$")}
     found |= {("returned", int(n)) for n in re.findall(r"\banswer = (\d+);", answer)}
     found |= pairs(answer, r"\b(asGiven) i (\d+) ")
-    for path in ("crates/checks/specs/Checked.antt", "crates/checks/specs/Signature.antt", "crates/marshtrundle/specs/Refused.antt"):
+    for path in ("crates/checks/specs/Checked.antt", "crates/checks/specs/Signature.antt", "crates/calls/specs/Refused.antt"):
         found |= pairs((ROOT / path).read_text(), r"\b(checked|found) (\d+) ")
     found |= pairs((ROOT / "crates/checks/specs/Plain.antt").read_text(), r"\b(of-\w+) : .*Faulty (\d+)")
     found |= pairs((ROOT / "crates/whole_job/specs/Whole.antt").read_text(), r"\b(answered) (\d+) ")

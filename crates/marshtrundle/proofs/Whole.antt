@@ -37,15 +37,11 @@ use Rattle.leaves.specs.Visits.{visit, limitOf, meaning, out, Entries, Steady, 
 use Rattle.cycle.specs.Cycle.{Hinted, Ready}
 use Rattle.leaves.proofs.Holding.{mark-missing, miss-missing, held-missing, framed-missing}
 use Rattle.leaves.proofs.AnswerWords.{node-packed, units-packed, out-answer}
-use Rattle.marshtrundle.specs.Loaded.{Loaded, Opened}
-use Rattle.marshtrundle.specs.Refused.{refusedWith}
-use Rattle.marshtrundle.specs.Run.{atReturn, refusing, runWith, cutNumber, cutPlace, numbers, wordsOf, Ends}
-use Rattle.marshtrundle.specs.declared.running.Outcome.{Outcome}
-
--- the units that a run has left are not more than it was given
-pub units-left : (i : Input) → unitsLeft (ran places nowhere i) ≤ i .units
-unfolding ran
-units-left i = units-fall stored (does (table (i .table))) deepest (apply (i .start) (i .subject) (bindings (i .bindings))) (on (i .store) (at (i .mark) nowhere)) (i .units)
+use Rattle.loading.specs.Loaded.{Loaded, Opened}
+use Rattle.calls.specs.Refused.{refusedWith}
+use Rattle.calls.specs.Run.{atReturn, refusing, runWith, numbers, wordsOf}
+use Rattle.marshtrundle.specs.Ends.{cutNumber, cutPlace, Ends}
+use Rattle.calls.specs.declared.Outcome.{Outcome}
 
 -- a binding's word that is not above the mark names a node below it
 below : (n j m : ℕ) → n ≤ m → named n ≡ some j → j < m

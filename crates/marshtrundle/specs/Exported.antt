@@ -5,7 +5,7 @@ use lib.ListN.{getD}
 use Rattle.checks.specs.declared.Checked.{Checked}
 use Rattle.collect.specs.declared.Collected.{Collected}
 use Rattle.free.specs.declared.FreeVariables.{FreeVariables}
-use Rattle.marshtrundle.specs.declared.running.Outcome.{Outcome}
+use Rattle.calls.specs.declared.Outcome.{Outcome}
 
 -- answer and place
 abbrev pub two : List ℕ → Checked

@@ -1,10 +1,4 @@
--- What the contracts of this crate cite, and what they promise: `runOf` is the contract of `run`, `Promises` says it in the
--- reader's words.
-pub mod Refused
-pub mod Loaded
-pub mod Run
-pub mod Many
+-- What the contracts of this crate cite beside the definitions of calls: the end of a run as the engine leaves it, and the numbers of an
+-- exported function in the array that its caller lends.
+pub mod Ends
 pub mod Exported
-pub mod Promises
-pub mod Signed
-pub mod Subjects

@@ -13,8 +13,8 @@ ghost use mathlib.Core.Option.{none, some};
 ghost use Rattle.checks.specs.Checked.{tableChecked, storeChecked};
 ghost use Rattle.collect.specs.Collected.{lent, atEnd, collectedOf};
 ghost use Rattle.free.specs.Answered.{Answered};
-ghost use Rattle.marshtrundle.specs.Run.{input, atReturn, runWith, runOf};
-ghost use Rattle.marshtrundle.specs.Many.{handed, manyAtReturn, manyOf};
+ghost use Rattle.calls.specs.Run.{input, atReturn, runWith, runOf};
+ghost use Rattle.calls.specs.Many.{handed, manyAtReturn, manyOf};
 ghost use Rattle.marshtrundle.specs.Exported.{two, three, four, five};
 
 // The run: answer, place, subject, mark and units used.

@@ -1,7 +1,5 @@
-// What the linker links is `run`, in running: it has no `requires` and refuses by number. The other modules are its parts.
+// What the linker links is `run`, in running: it has no `requires` and refuses by number. `run_many`, in many, runs a list of subjects.
+// In exported stands each call as C sees it.
 pub mod exported;
-mod hints;
-mod loading;
 pub mod many;
-mod refusals;
 pub mod running;

@@ -1,18 +1,18 @@
 // A whole module in one call: the same start on each of a list of subjects. Table and store are checked once, the table is copied and
 // hinted once, and the store is cleared once, at the end.
-use crate::loading::loaded;
-use crate::loading::opened;
-use crate::refusals::many_refusal;
 use crate::running::run_accepted;
 use checks::Checked;
+use loading::load;
+use loading::opened;
+use refusals::many_refusal;
 use words::clear_from;
 ghost use mathlib.Core.Path.{_≡_};
 ghost use mathlib.Core.Option.{none, some};
 ghost use Prim.Native.Nat.{_+_, _≤_};
 ghost use lib.ListN.{length};
 ghost use lib.Seq.{paste};
-ghost use Rattle.marshtrundle.specs.Refused.{lentIf};
-ghost use Rattle.marshtrundle.specs.Many.{handed, manyAtReturn, manyOf};
+ghost use Rattle.calls.specs.Refused.{lentIf};
+ghost use Rattle.calls.specs.Many.{handed, manyAtReturn, manyOf};
 
 // The five numbers written from place `at` on, which lie inside the list.
 fn put_five(results: &mut [u32], at: usize, numbers: [u32; 5])
@@ -62,7 +62,8 @@ fn run_many_lent(
             place: 0,
         };
     }
-    let code = loaded(table);
+    let mut code = [0u32; 32768];
+    load(&mut code, table);
     let mut left = mark;
     let mut j: usize = 0;
     while j < subjects.len() {

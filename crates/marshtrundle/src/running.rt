@@ -1,8 +1,5 @@
 // The run: table, store and bindings as slices, the mark, the start, the subject, the units.
-use crate::loading::closed;
-use crate::loading::loaded;
-use crate::loading::opened;
-use crate::refusals::refusal;
+use calls::Outcome;
 use cycle::visits::apply;
 use leaves::answers::Answer;
 use leaves::answers::HALF;
@@ -13,6 +10,10 @@ use leaves::answers::done;
 use leaves::record::MARK;
 use leaves::record::MISS;
 use leaves::record::RECORD;
+use loading::closed;
+use loading::load;
+use loading::opened;
+use refusals::refusal;
 use words::clear_from;
 ghost use mathlib.Core.Path.{_≡_};
 ghost use mathlib.Core.Option.{some};
@@ -23,20 +24,12 @@ ghost use Rattle.leaves.specs.Answers.{packed};
 ghost use Rattle.leaves.specs.Record.{markOf, held};
 ghost use Rattle.leaves.specs.Visits.{visit};
 ghost use Rattle.cycle.specs.Cycle.{Ready};
-ghost use Rattle.marshtrundle.specs.Refused.{lentIf};
-ghost use Rattle.marshtrundle.specs.Run.{input, atReturn, runWith, runOf, cutNumber, cutPlace, Ends};
+ghost use Rattle.calls.specs.Refused.{lentIf};
+ghost use Rattle.calls.specs.Run.{input, atReturn, runWith, runOf};
+ghost use Rattle.marshtrundle.specs.Ends.{cutNumber, cutPlace, Ends};
 
 // The place of a failed run in which no match gave up: no table has such an entry.
 pub const NOWHERE: u32 = 4096;
-
-// The five numbers that a run returns.
-pub struct Outcome {
-    pub answer: u32,
-    pub place: u32,
-    pub subject: u32,
-    pub mark: u32,
-    pub units: u32,
-}
 
 // The answer of a cut-off: 6 units, 7 room, 8 nesting, 12 a variable to be built that has no binding.
 pub fn cut_answer(c: u64) -> u32
@@ -142,7 +135,8 @@ fn run_lent(
             units: 0,
         };
     }
-    let code = loaded(table);
+    let mut code = [0u32; 32768];
+    load(&mut code, table);
     let mut st = opened(bindings, mark);
     let r = run_accepted(&code, store, &mut st, start, subject, units);
     clear_from(store, 8 * (r.mark as usize));

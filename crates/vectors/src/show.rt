@@ -1,10 +1,10 @@
 // What a call gave back, as text.
 ghost use Prim.Native.Nat.{_<_};
+use calls::Outcome;
 use checks::Checked;
 use collect::Collected;
 use free::FreeVariables;
 use libc::STDOUT_FILENO;
-use marshtrundle::running::Outcome;
 
 // Prints a space and a number.
 fn show_number(n: u64) {

@@ -16,10 +16,10 @@ use Rattle.meaning.specs.Store.{Input, Leaves, ran}
 use Rattle.meaning.specs.Answer.{Returned, returned}
 use Rattle.meaning.proofs.Demands.{over-the-words}
 use Rattle.leaves.specs.Noted.{Ran}
-use Rattle.marshtrundle.specs.Refused.{refused}
-use Rattle.marshtrundle.specs.Run.{atReturn, refusing, runWith, runOf}
-use Rattle.marshtrundle.specs.declared.running.Outcome.{Outcome as Five}
-use Rattle.marshtrundle.proofs.Accepting.{accepted-answer}
+use Rattle.calls.specs.Refused.{refused}
+use Rattle.calls.specs.Run.{atReturn, refusing, runWith, runOf}
+use Rattle.calls.specs.declared.Outcome.{Outcome as Five}
+use Rattle.calls.proofs.Accepting.{accepted-answer}
 use Rattle.job.specs.declared.Heading.{Heading}
 use Rattle.job.specs.declared.Parsed.{Parsed}
 use Rattle.job.specs.declared.Parsed.the-variants as told

@@ -25,13 +25,13 @@ use Rattle.meaning.proofs.Checked.{Node, Filled, node-of-good, store-filled}
 use Rattle.meaning.proofs.Words.{kept-filled}
 use Rattle.meaning.proofs.Demands.{over-the-words}
 use Rattle.leaves.specs.Noted.{Ran}
-use Rattle.marshtrundle.specs.Refused.{refused}
-use Rattle.marshtrundle.specs.Run.{runWith, runOf}
-use Rattle.marshtrundle.specs.declared.running.Outcome.{Outcome as Five}
-use Rattle.marshtrundle.proofs.Accepting.{accepted-answer, accepted-back}
-use Rattle.marshtrundle.proofs.Copying.{length-words, word-of}
-use Rattle.marshtrundle.specs.Promises.{Refusal, of-sizes, of-entry, of-node, of-start}
-use Rattle.marshtrundle.proofs.Promises.{refuses, never-three}
+use Rattle.calls.specs.Refused.{refused}
+use Rattle.calls.specs.Run.{runWith, runOf}
+use Rattle.calls.specs.declared.Outcome.{Outcome as Five}
+use Rattle.calls.proofs.Accepting.{accepted-answer, accepted-back}
+use Rattle.calls.proofs.Words.{length-words, word-of}
+use Rattle.calls.specs.Promises.{Refusal, of-sizes, of-entry, of-node, of-start}
+use Rattle.calls.proofs.Promises.{refuses, never-three}
 use Rattle.job.specs.Answer.{shown}
 use Rattle.job.specs.Promises.{Plain, Left}
 use Rattle.whole_job.proofs.Answering.{returned-mark}

@@ -13,10 +13,10 @@ use Rattle.words.specs.Tests.{if_then_else_}
 use Rattle.words.specs.Words.{rows}
 use Rattle.checks.specs.declared.Checked.{Checked}
 use Rattle.checks.specs.Checked.{checked, tableLengthFits, storeLengthFits}
-use Rattle.marshtrundle.specs.Refused.{sizesFit, orElse, wordsRefused, refusedWith, refused}
+use Rattle.calls.specs.Refused.{sizesFit, orElse, wordsRefused, refusedWith, refused}
 use Rattle.meaning.specs.Store.{Input}
 use Rattle.meaning.specs.Answer.{Returned}
-use Rattle.marshtrundle.specs.Run.{runWith}
+use Rattle.calls.specs.Run.{runWith}
 use Rattle.job.specs.declared.Heading.{Heading}
 use Rattle.job.specs.Lines.{Line}
 use Rattle.job.specs.Job.{Reading, headed, with, Meant, bad, good, meant}

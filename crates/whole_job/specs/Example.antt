@@ -13,8 +13,8 @@ use Rattle.meaning.specs.Rules.{nth, put, zip, agree, when, again, walk, strate
 use Rattle.meaning.specs.Limits.{roomFor, settled, after, runPlan, closed, run}
 use Rattle.meaning.specs.Store.{row, named, bindings, ran}
 use Rattle.meaning.specs.Answer.{number, bindingWord, bindingWords, returned}
-use Rattle.marshtrundle.specs.Refused.{sizesFit, boundBelow, isStart, startFits, wordsRefused, refusedWith}
-use Rattle.marshtrundle.specs.Run.{runWith}
+use Rattle.calls.specs.Refused.{sizesFit, boundBelow, isStart, startFits, wordsRefused, refusedWith}
+use Rattle.calls.specs.Run.{runWith}
 use Rattle.text.specs.Text.{parts, valued, numberOf, numbersOf, digits}
 use Rattle.text.specs.Written.{numbersText}
 use Rattle.job.specs.Lines.{letterOf, nameOf, jobFits, entryFits, nodeFits, bindingFits, fits, lineOf, entryRow, nodeRow}

@@ -7,7 +7,7 @@ use mathlib.Core.List.{List, [], _∷_, _++_}
 use Prim.Native.Nat.{ℕ, _*_, _≤_, _<_}
 use lib.ListN.{length, take}
 use Rattle.meaning.specs.Answer.{Returned}
-use Rattle.marshtrundle.specs.Run.{runOf}
+use Rattle.calls.specs.Run.{runOf}
 use Rattle.job.specs.Lines.{Line}
 use Rattle.job.specs.Job.{Reading, unread, good, meant}
 use Rattle.job.specs.Written.{written, Follow}

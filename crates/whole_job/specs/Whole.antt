@@ -6,7 +6,7 @@ use Prim.Native.Nat.{ℕ, _*_, _≤_}
 use lib.ListN.{length, take}
 use Rattle.meaning.specs.Store.{Input}
 use Rattle.meaning.specs.Answer.{Returned}
-use Rattle.marshtrundle.specs.Run.{input, runOf}
+use Rattle.calls.specs.Run.{input, runOf}
 use Rattle.job.specs.declared.Heading.{Heading}
 use Rattle.job.specs.Job.{Reading, Meant, bad, good, meant}
 use Rattle.text.specs.Written.{Put}

@@ -7,12 +7,12 @@ use lib.ListN.{length}
 use borrow.Author.Needs.{needs}
 use Rattle.words.proofs.Rows.{length-clearedFrom}
 use Rattle.checks.specs.Checked.{checked}
-use Rattle.marshtrundle.specs.Refused.{lentIf}
-use Rattle.marshtrundle.specs.Many.{handed, manyAtReturn}
-use Rattle.marshtrundle.proofs.Fetching.{table-loaded, entries-loaded}
-use Rattle.marshtrundle.proofs.Hinting.{hints-loaded}
+use Rattle.calls.specs.Refused.{lentIf}
+use Rattle.calls.specs.Many.{handed, manyAtReturn}
+use Rattle.loading.proofs.Fetching.{table-loaded, entries-loaded}
+use Rattle.loading.proofs.Hinting.{hints-loaded}
 use Rattle.marshtrundle.proofs.Whole.{ready, ended-as, table-fits}
-use Rattle.marshtrundle.proofs.Turns.{Going, table-short, mark-short, accepted-single, going-first, going-next, going-last, many-refused, many-ran, many-given, many-none}
+use Rattle.calls.proofs.Turns.{Going, table-short, mark-short, accepted-single, going-first, going-next, going-last, many-refused, many-ran, many-given, many-none}
 use Rattle.marshtrundle.proofs.many.run_many_lent.Statement.{statement}
 use Rattle.marshtrundle.proofs.many.run_many_lent.Tie as tie
 
@@ -44,9 +44,9 @@ returns-2 c =
     let is = at-refusal .many-refusal .ensures (a .results .now) (a .units) refl in
     many-none g k _ is (at-if1 .if1 .left) (c .if2 .taken)
 
-loaded-requires : tie.Need-loaded-requires Inv-loop μ-loop
-loaded-requires c κs =
-    let at-if1 = c .before in
+load-requires : tie.Need-load-requires Inv-loop μ-loop
+load-requires c κs =
+    let at-if1 = c .before .before in
     let at-refusal = at-if1 .before .before in
     let at-start = at-refusal .before .before .before .before .before .before .before .before in
     let a = at-start .args in
@@ -54,11 +54,11 @@ loaded-requires c κs =
     let k = handed (a .table .now) (a .store .now) (a .bindings .now) (a .mark) (a .start) (a .subjects .now) (a .units) (a .results .now) in
     let is = at-refusal .many-refusal .ensures (a .results .now) (a .units) refl in
     let γ = many-given g k _ is (at-if1 .if1 .left) .0 in
-    table-short γ
+    (table-short γ, refl)
 
 loop-holds : tie.Need-loop-holds Inv-loop μ-loop
 loop-holds c =
-    let at-if1 = c .before .before in
+    let at-if1 = c .before .before .before in
     let at-refusal = at-if1 .before .before in
     let at-start = at-refusal .before .before .before .before .before .before .before .before in
     let a = at-start .args in
@@ -70,8 +70,8 @@ loop-holds c =
 opened-requires : tie.Need-opened-requires Inv-loop μ-loop
 opened-requires c κs =
     let at-loop = c .before in
-    let at-loaded = at-loop .before in
-    let at-if1 = at-loaded .before .before in
+    let at-load = at-loop .before in
+    let at-if1 = at-load .before .before .before in
     let at-refusal = at-if1 .before .before in
     let at-start = at-refusal .before .before .before .before .before .before .before .before in
     let a = at-start .args in
@@ -85,8 +85,8 @@ opened-requires c κs =
 mul-run-accepted : tie.Need-mul-run-accepted Inv-loop μ-loop
 mul-run-accepted c =
     let at-loop = c .before .before .before .before .before in
-    let at-loaded = at-loop .before in
-    let at-if1 = at-loaded .before .before in
+    let at-load = at-loop .before in
+    let at-if1 = at-load .before .before .before in
     let at-refusal = at-if1 .before .before in
     let at-start = at-refusal .before .before .before .before .before .before .before .before in
     let a = at-start .args in
@@ -100,8 +100,8 @@ mul-run-accepted c =
 shared-slice-read-run-accepted : tie.Need-shared-slice-read-run-accepted Inv-loop μ-loop
 shared-slice-read-run-accepted c =
     let at-loop = c .before .before .before .before .before .before in
-    let at-loaded = at-loop .before in
-    let at-if1 = at-loaded .before .before in
+    let at-load = at-loop .before in
+    let at-if1 = at-load .before .before .before in
     let at-refusal = at-if1 .before .before in
     let at-start = at-refusal .before .before .before .before .before .before .before .before in
     let a = at-start .args in
@@ -115,8 +115,8 @@ shared-slice-read-run-accepted c =
 run-accepted-requires : tie.Need-run-accepted-requires Inv-loop μ-loop
 run-accepted-requires c κs =
     let at-loop = c .before .before .before .before .before .before in
-    let at-loaded = at-loop .before in
-    let at-if1 = at-loaded .before .before in
+    let at-load = at-loop .before in
+    let at-if1 = at-load .before .before .before in
     let at-refusal = at-if1 .before .before in
     let at-start = at-refusal .before .before .before .before .before .before .before .before in
     let a = at-start .args in
@@ -126,14 +126,14 @@ run-accepted-requires c κs =
     let γ = many-given g k _ is (at-if1 .if1 .left) .0 in
     let G = at-loop .loop .inv in
     let h = accepted-single γ (G .stands) _ (γ .subjects _ (c .before .before .before .before .before .loop-test .taken)) in
-    let l = at-loaded .loaded .ensures in
+    let l = at-load .load .ensures in
     ready _ h _ _ _ (table-loaded l) (entries-loaded (h .table) l) (hints-loaded (h .table) l) (c .before .before .before .before .opened .ensures) (at-start .fits .units .fits) refl
 
 mul-put-five : tie.Need-mul-put-five Inv-loop μ-loop
 mul-put-five c =
     let at-loop = c .before .before .before .before .before .before .before .before .before .before in
-    let at-loaded = at-loop .before in
-    let at-if1 = at-loaded .before .before in
+    let at-load = at-loop .before in
+    let at-if1 = at-load .before .before .before in
     let at-refusal = at-if1 .before .before in
     let at-start = at-refusal .before .before .before .before .before .before .before .before in
     let a = at-start .args in
@@ -147,8 +147,8 @@ mul-put-five c =
 put-five-requires : tie.Need-put-five-requires Inv-loop μ-loop
 put-five-requires c κs =
     let at-loop = c .before .before .before .before .before .before .before .before .before .before in
-    let at-loaded = at-loop .before in
-    let at-if1 = at-loaded .before .before in
+    let at-load = at-loop .before in
+    let at-if1 = at-load .before .before .before in
     let at-refusal = at-if1 .before .before in
     let at-start = at-refusal .before .before .before .before .before .before .before .before in
     let a = at-start .args in
@@ -162,8 +162,8 @@ put-five-requires c κs =
 add-j : tie.Need-add-j Inv-loop μ-loop
 add-j c =
     let at-loop = c .before .before .before .before .before .before .before .before .before .before .before .before .before in
-    let at-loaded = at-loop .before in
-    let at-if1 = at-loaded .before .before in
+    let at-load = at-loop .before in
+    let at-if1 = at-load .before .before .before in
     let at-refusal = at-if1 .before .before in
     let at-start = at-refusal .before .before .before .before .before .before .before .before in
     let a = at-start .args in
@@ -177,8 +177,8 @@ add-j c =
 loop-less : tie.Need-loop-less Inv-loop μ-loop
 loop-less c =
     let at-loop = c .before .before .before .before .before .before .before .before .before .before .before .before .before in
-    let at-loaded = at-loop .before in
-    let at-if1 = at-loaded .before .before in
+    let at-load = at-loop .before in
+    let at-if1 = at-load .before .before .before in
     let at-refusal = at-if1 .before .before in
     let at-start = at-refusal .before .before .before .before .before .before .before .before in
     let a = at-start .args in
@@ -192,8 +192,8 @@ loop-less c =
 loop-again : tie.Need-loop-again Inv-loop μ-loop
 loop-again c =
     let at-loop = c .before .before .before .before .before .before .before .before .before .before .before .before .before in
-    let at-loaded = at-loop .before in
-    let at-if1 = at-loaded .before .before in
+    let at-load = at-loop .before in
+    let at-if1 = at-load .before .before .before in
     let at-refusal = at-if1 .before .before in
     let at-start = at-refusal .before .before .before .before .before .before .before .before in
     let a = at-start .args in
@@ -204,16 +204,16 @@ loop-again c =
     let G = at-loop .loop .inv in
     let below = c .before .before .before .before .before .before .before .before .before .before .before .before .loop-test .taken in
     let h = accepted-single γ (G .stands) _ (γ .subjects _ below) in
-    let l = at-loaded .loaded .ensures in
+    let l = at-load .load .ensures in
     let at-run = c .before .before .before .before .before .before in
     let e = ended-as _ h _ _ _ (table-loaded l) (entries-loaded (h .table) l) (hints-loaded (h .table) l) (at-run .before .before .before .before .before .opened .ensures) (at-start .fits .units .fits) refl _ _ _ (at-run .run-accepted .ensures) in
-    rw (c .before .before .put-five .ensures) (going-next γ _ _ _ _ G below _ _ _ e)
+    rw (c .before .before .put-five .ensures) (going-next γ _ _ _ _ G below _ _ (e .numbers) (e .words))
 
 cast-clear-from : tie.Need-cast-clear-from Inv-loop μ-loop
 cast-clear-from c =
     let at-loop = c .before .before in
-    let at-loaded = at-loop .before in
-    let at-if1 = at-loaded .before .before in
+    let at-load = at-loop .before in
+    let at-if1 = at-load .before .before .before in
     let at-refusal = at-if1 .before .before in
     let at-start = at-refusal .before .before .before .before .before .before .before .before in
     let a = at-start .args in
@@ -227,8 +227,8 @@ cast-clear-from c =
 mul-clear-from : tie.Need-mul-clear-from Inv-loop μ-loop
 mul-clear-from c =
     let at-loop = c .before .before in
-    let at-loaded = at-loop .before in
-    let at-if1 = at-loaded .before .before in
+    let at-load = at-loop .before in
+    let at-if1 = at-load .before .before .before in
     let at-refusal = at-if1 .before .before in
     let at-start = at-refusal .before .before .before .before .before .before .before .before in
     let a = at-start .args in
@@ -247,8 +247,8 @@ same-length-3 c =
 same-length-4 : tie.Need-same-length-4 Inv-loop μ-loop
 same-length-4 c =
     let at-loop = c .before .before .before .before .before in
-    let at-loaded = at-loop .before in
-    let at-if1 = at-loaded .before .before in
+    let at-load = at-loop .before in
+    let at-if1 = at-load .before .before .before in
     let at-refusal = at-if1 .before .before in
     let at-start = at-refusal .before .before .before .before .before .before .before .before in
     let a = at-start .args in
@@ -262,8 +262,8 @@ same-length-4 c =
 returns-3 : tie.Need-returns-3 Inv-loop μ-loop
 returns-3 c =
     let at-loop = c .before .before .before .before .before in
-    let at-loaded = at-loop .before in
-    let at-if1 = at-loaded .before .before in
+    let at-load = at-loop .before in
+    let at-if1 = at-load .before .before .before in
     let at-refusal = at-if1 .before .before in
     let at-start = at-refusal .before .before .before .before .before .before .before .before in
     let a = at-start .args in
@@ -272,13 +272,13 @@ returns-3 c =
     let is = at-refusal .many-refusal .ensures (a .results .now) (a .units) refl in
     let γ = many-given g k _ is (at-if1 .if1 .left) .0 in
     let G = at-loop .loop .inv in
-    let last = going-last γ _ _ _ _ G (omega (arith, G .few, c .before .before .before .before .loop-test .left)) (omega (arith, at-loaded .before .if2 .left, G .few, c .before .before .before .before .loop-test .left)) in
+    let last = going-last γ _ _ _ _ G (omega (arith, G .few, c .before .before .before .before .loop-test .left)) (omega (arith, at-load .before .before .if2 .left, G .few, c .before .before .before .before .loop-test .left)) in
     (λ z. manyAtReturn (checked 0 0) (at-loop .loop .results) (c .before .before .clear-from .ensures z)) ∙ sym last ∙ many-ran g k _ is (at-if1 .if1 .left)
 
 pub run-many-lent-spec : {M : Type 1} → statement M
 run-many-lent-spec =
     tie.close
     (tie.spec
-    Inv-loop μ-loop (λ c κs. search needs) (λ c. search needs) returns (λ c. search needs) returns-2 loaded-requires loop-holds opened-requires
+    Inv-loop μ-loop (λ c κs. search needs) (λ c. search needs) returns (λ c. search needs) returns-2 load-requires loop-holds opened-requires
     mul-run-accepted shared-slice-read-run-accepted run-accepted-requires mul-put-five put-five-requires add-j loop-less loop-again
     cast-clear-from mul-clear-from (λ c κs. search needs) same-length-3 same-length-4 returns-3)
