@@ -1,13 +1,13 @@
 // What a program in C or Rust calls, from the archive. A slice is a pointer and a number of words. The numbers that come
 // back go into an array that the caller lends. The contracts are those of the functions called, over that array.
-use crate::many::run_many;
-use crate::many::run_many_signed;
-use crate::running::run;
-use crate::running::run_signed;
 use checks::entries::check_table;
 use checks::nodes::check_store;
 use collect::collect;
 use free::free_variables;
+use many::run_many;
+use many::run_many_signed;
+use running::run;
+use running::run_signed;
 ghost use mathlib.Core.Path.{_≡_};
 ghost use mathlib.Core.Option.{none, some};
 ghost use Rattle.checks.specs.Checked.{tableChecked, storeChecked};

@@ -5,17 +5,17 @@
 //     m  run_many        n  run_many_signed
 //
 // The bytes of `j` are a job's text. Those of the others say which memory is lent (memory.rt), and end in a label. A further
-// call takes a tag and a function in calls.rt, and tools/cases.py writes its cases.
+// call takes a tag and a function in requests.rt, and tools/cases.py writes its cases.
 ghost use Prim.Native.Nat.{_+_, _≤_};
 ghost use lib.ListN.{length};
-use calls::answer_case;
 use libc::STDIN_FILENO;
 use libc::STDOUT_FILENO;
 use numbers::number;
+use requests::answer_case;
 
-mod calls;
 mod memory;
 mod numbers;
+mod requests;
 mod show;
 
 fn wide(b: u8) -> u32 {

@@ -3,7 +3,7 @@ use job::Heading;
 use job::Parsed;
 use job::answer::answer;
 use job::read::read;
-use marshtrundle::running::run;
+use running::run;
 ghost use mathlib.Core.Path.{_≡_};
 ghost use Prim.Native.Nat.{_≤_};
 ghost use lib.ListN.{length};

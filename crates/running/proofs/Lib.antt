@@ -1,0 +1,2 @@
+-- The laws of a run that was not refused.
+pub mod Whole
