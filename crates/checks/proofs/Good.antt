@@ -1,21 +1,21 @@
 -- A length that fits, a good entry and a good node are the plain facts of specs/Plain.antt, both ways.
 -- Assumes nothing.
-use mathlib.Core.Path.{_≡_, refl, subst}
-use mathlib.Core.Bool.{Bool, true, false, true≢false, false≢true}
+use mathlib.Core.Path.{_≡_, refl, ap, subst}
+use mathlib.Core.Bool.{Bool, true, false, _&&_, true≢false, false≢true}
 use mathlib.Core.Logic.{_↔_, _≢_}
 use mathlib.Core.List.{List}
-use Prim.Native.Nat.{ℕ, _-_, _%_, _≤_, _<_}
+use Prim.Native.Nat.{ℕ, zero, suc, _+_, _-_, _%_, _≤_, _<_}
 use native.Mathlib.Nat.{le-trans}
 use native.Mathlib.Omega.{arith}
 use lib.Dec.{leb, ltb, eqb}
 use borrow.Author.Tests.{leb-true, ltb-true, eqb-true, eqb-false, le-leb, lt-ltb, eq-eqb, ne-eqb}
 use Rattle.words.specs.Tests.{if_then_else_, every}
-use Rattle.words.specs.Words.{rows}
+use Rattle.words.specs.Words.{wordAt, rows}
 use Rattle.words.proofs.Tests.{and-true, every-true}
-use Rattle.checks.specs.Kinds.{lines, lineOf, kind, lowest, highest, sortOf, takes, same}
-use Rattle.checks.specs.Good.{kindOf, operandCount, argumentOf, operand, countFits, argumentFits, operandPlaced, operandSorted, operandsFault, unusedZero, fault, goodEntry, constructorOf, childCount, child, goodNode}
+use Rattle.checks.specs.Kinds.{lines, lineOf, kind, lowest, highestBy, operandsFromBy, sortOf, takes, same}
+use Rattle.checks.specs.Good.{kindOf, operandCount, zerosFrom, argumentBy, operandBy, countFits, argumentFitsBy, operandPlacedBy, operandSortedBy, operandsFaultBy, unusedZeroBy, faultBy, goodEntryBy, constructorOf, childCount, child, goodNode}
 use Rattle.checks.specs.Checked.{tableLengthFits, storeLengthFits}
-use Rattle.checks.specs.Plain.{TableLength, StoreLength, Counted, Argued, Placed, Sorted, Unused, Entry, Faulty, of-count, of-argument, of-place, of-sort, of-unused, Node}
+use Rattle.checks.specs.Plain.{TableLength, StoreLength, Counted, ArguedBy, PlacedBy, SortedBy, UnusedBy, EntryBy, FaultyBy, of-count, of-argument, of-place, of-sort, of-unused, Node}
 use Rattle.checks.proofs.Tables.{at-each, same-true, same-itself}
 
 -- No kind takes more than six operands, by one computed test.
@@ -27,16 +27,27 @@ all-six = refl
 most-six : (k : ℕ) → k ≤ 19 → kind k .most ≤ 6
 most-six k l = leb-true (kind k .most) 6 (at-each (λ j. leb (kind j .most) 6) all-six k l)
 
--- The words after the n that are used are zero, as a test and in plain.
-unused-zero : (w : ℕ → ℕ) (n : ℕ) → n ≤ 6
-    → every (λ i. eqb (w i) 0) n (6 - n) ≡ true ↔ ((i : ℕ) → n ≤ i → i < 6 → w i ≡ 0)
-unused-zero w n l = (
-  λ h i m o. eqb-true (w i) 0 (every-true zeros n (6 - n) .0 h i m (omega arith)),
-  λ z. every-true zeros n (6 - n) .1 (λ i m o. eq-eqb (w i) 0 (z i m (omega arith))),
+-- The words from n up to m are zero, as a test and in plain.
+zeros-plain : (w : ℕ → ℕ) (n m : ℕ) → every (λ i. eqb (w i) 0) n (m - n) ≡ true ↔ ((i : ℕ) → n ≤ i → i < m → w i ≡ 0)
+zeros-plain w n m = (
+  λ h i l o. eqb-true (w i) 0 (every-true zeros n (m - n) .0 h i l (omega arith)),
+  λ z. every-true zeros n (m - n) .1 (λ i l o. eq-eqb (w i) 0 (z i l (omega arith))),
 )
   where
     zeros : ℕ → Bool
     zeros i = eqb (w i) 0
+
+-- A test of the numbers after a is the test of the numbers from there.
+every-after : (p : ℕ → Bool) (a i k : ℕ) → every p (a + i) k ≡ every (λ j. p (a + j)) i k
+unfolding every
+every-after p a i zero = refl
+every-after p a i (suc k) =
+    let e : a + i + 1 ≡ a + (i + 1) = omega arith in
+    rw e (ap (λ (b : Bool). p (a + i) && b) (every-after p a (i + 1) k))
+
+-- The zeros after a node's last child, counted from word 0 and from the first child.
+pub child-zeros : (s : List ℕ) (k n : ℕ) → zerosFrom s k (2 + n) ≡ every (λ i. eqb (child s k i) 0) n (6 - n)
+child-zeros s k n = let e : 8 - (2 + n) ≡ 6 - n = omega arith in rw e (every-after (λ i. eqb (wordAt s k i) 0) 2 n (6 - n))
 
 -- A test that stands for a fact fails where the fact does.
 pub not-fact : {A : Type 0} (b : Bool) → b ≡ true ↔ A → b ≡ false ↔ ¬ A
@@ -62,105 +73,106 @@ module _ (t : List ℕ) (e : ℕ) where
   pub at-most-six : countFits t e ≡ true → operandCount t e ≤ 6
   at-most-six h = counted-six (counted .0 h)
 
+module _ (W : ℕ) (t : List ℕ) (e : ℕ) where
   -- So is a good entry's.
-  pub operandCount-six : Entry t e → operandCount t e ≤ 6
-  operandCount-six p = counted-six (p .counted)
+  pub operandCount-six : EntryBy W t e → operandCount t e ≤ 6
+  operandCount-six p = counted-six t e (p .counted)
 
   -- The test of the argument.
-  pub argued : argumentFits t e ≡ true ↔ Argued t e
-  unfolding argumentFits
+  pub argued : argumentFitsBy W t e ≡ true ↔ ArguedBy W t e
+  unfolding argumentFitsBy
   argued = (
     λ h.
-        let a : (leb (lowest (kind (kindOf t e) .argument)) (argumentOf t e) ≡ true) × _ = and-true _ _ h in
+        let a : (leb (lowest (kind (kindOf t e) .argument)) (argumentBy W t e) ≡ true) × _ = and-true _ _ h in
         record { low = leb-true _ _ (a .0); high = leb-true _ _ (a .1) },
     λ p. rw (le-leb _ _ (p .low), le-leb _ _ (p .high)),
   )
 
   -- What the test of an operand's place says.
   PlacedAt : ℕ → Type 0
-  PlacedAt i = (operand t e i < rows t) × (kindOf t e ≢ 8 → e < operand t e i)
+  PlacedAt i = (operandBy W t e i < rows t) × (kindOf t e ≢ 8 → e < operandBy W t e i)
 
   -- The test is that.
-  placed-at : (i : ℕ) → operandPlaced t e i ≡ true ↔ PlacedAt i
-  unfolding operandPlaced PlacedAt
+  placed-at : (i : ℕ) → operandPlacedBy W t e i ≡ true ↔ PlacedAt i
+  unfolding operandPlacedBy PlacedAt
   placed-at i = (apart, λ p. together p (eqb (kindOf t e) 8) refl)
     where
-      apart : operandPlaced t e i ≡ true → PlacedAt i
+      apart : operandPlacedBy W t e i ≡ true → PlacedAt i
       apart h =
-          let a : (ltb (operand t e i) (rows t) ≡ true) × _ = and-true _ _ h in
+          let a : (ltb (operandBy W t e i) (rows t) ≡ true) × _ = and-true _ _ h in
           (ltb-true _ _ (a .0), λ n. ltb-true _ _ (rw (ne-eqb _ _ n) at (a .1)))
 
-      together : PlacedAt i → (b : Bool) → eqb (kindOf t e) 8 ≡ b → operandPlaced t e i ≡ true
+      together : PlacedAt i → (b : Bool) → eqb (kindOf t e) 8 ≡ b → operandPlacedBy W t e i ≡ true
       together p true q = rw (lt-ltb _ _ (p .0), q)
       together p false q = rw (lt-ltb _ _ (p .0), q, lt-ltb _ _ (p .1 (eqb-false _ _ q)))
 
   -- What the test of an operand's sort says.
   SortedAt : ℕ → Type 0
   SortedAt i =
-      (kindOf t e ≢ 8 → sortOf (kindOf t (operand t e i)) ≡ takes (kindOf t e))
-      × (kindOf t e ≡ 8 → kindOf t (operand t e i) ≡ 7)
+      (kindOf t e ≢ 8 → sortOf (kindOf t (operandBy W t e i)) ≡ takes (kindOf t e))
+      × (kindOf t e ≡ 8 → kindOf t (operandBy W t e i) ≡ 7)
 
   -- The test is that.
-  sorted-at : (i : ℕ) → operandSorted t e i ≡ true ↔ SortedAt i
-  unfolding operandSorted SortedAt
+  sorted-at : (i : ℕ) → operandSortedBy W t e i ≡ true ↔ SortedAt i
+  unfolding operandSortedBy SortedAt
   sorted-at i = (apart, λ p. together p (eqb (kindOf t e) 8) refl)
     where
-      apart : operandSorted t e i ≡ true → SortedAt i
+      apart : operandSortedBy W t e i ≡ true → SortedAt i
       apart h = (λ n. same-true _ _ (rw (ne-eqb _ _ n) at h), λ q. eqb-true _ _ (rw (eq-eqb _ _ q) at h))
 
-      together : SortedAt i → (b : Bool) → eqb (kindOf t e) 8 ≡ b → operandSorted t e i ≡ true
+      together : SortedAt i → (b : Bool) → eqb (kindOf t e) 8 ≡ b → operandSortedBy W t e i ≡ true
       together p true q = rw (q, eq-eqb _ _ (p .1 (eqb-true _ _ q)))
       together p false q = rw (q, p .0 (eqb-false _ _ q)) (same-itself (takes (kindOf t e)))
 
   -- The tests of all operands, and of the unused words.
-  pub placed : every (operandPlaced t e) 0 (operandCount t e) ≡ true ↔ Placed t e
+  pub placed : every (operandPlacedBy W t e) 0 (operandCount t e) ≡ true ↔ PlacedBy W t e
   unfolding PlacedAt
   placed = (
     λ h.
-        let at : (i : ℕ) → i < operandCount t e → PlacedAt i = λ i l. placed-at i .0 (every-true (operandPlaced t e) 0 (operandCount t e) .0 h i (omega arith) (omega arith)) in
+        let at : (i : ℕ) → i < operandCount t e → PlacedAt i = λ i l. placed-at i .0 (every-true (operandPlacedBy W t e) 0 (operandCount t e) .0 h i (omega arith) (omega arith)) in
         record { inside = λ i l. at i l .0; above = λ n i l. at i l .1 n },
-    λ p. every-true (operandPlaced t e) 0 (operandCount t e) .1 (λ i l m. placed-at i .1 (p .inside i (omega arith), λ n. p .above n i (omega arith))),
+    λ p. every-true (operandPlacedBy W t e) 0 (operandCount t e) .1 (λ i l m. placed-at i .1 (p .inside i (omega arith), λ n. p .above n i (omega arith))),
   )
 
-  pub sorted : every (operandSorted t e) 0 (operandCount t e) ≡ true ↔ Sorted t e
+  pub sorted : every (operandSortedBy W t e) 0 (operandCount t e) ≡ true ↔ SortedBy W t e
   unfolding SortedAt
   sorted = (
     λ h.
-        let at : (i : ℕ) → i < operandCount t e → SortedAt i = λ i l. sorted-at i .0 (every-true (operandSorted t e) 0 (operandCount t e) .0 h i (omega arith) (omega arith)) in
+        let at : (i : ℕ) → i < operandCount t e → SortedAt i = λ i l. sorted-at i .0 (every-true (operandSortedBy W t e) 0 (operandCount t e) .0 h i (omega arith) (omega arith)) in
         record { sorted = λ n i l. at i l .0 n; called = λ n i l. at i l .1 n },
-    λ p. every-true (operandSorted t e) 0 (operandCount t e) .1 (λ i l m. sorted-at i .1 (λ n. p .sorted n i (omega arith), λ n. p .called n i (omega arith))),
+    λ p. every-true (operandSortedBy W t e) 0 (operandCount t e) .1 (λ i l m. sorted-at i .1 (λ n. p .sorted n i (omega arith), λ n. p .called n i (omega arith))),
   )
 
-  pub unused : Counted t e → unusedZero t e ≡ true ↔ Unused t e
-  unfolding unusedZero
-  unused p =
-      let z = unused-zero (operand t e) (operandCount t e) (counted-six p) in
+  pub unused : unusedZeroBy W t e ≡ true ↔ UnusedBy W t e
+  unfolding unusedZeroBy
+  unused =
+      let z = zeros-plain (wordAt t e) (operandsFromBy W (kindOf t e) + operandCount t e) 8 in
       (λ h. record { zero = z .0 h }, λ q. z .1 (q .zero))
 
   -- ---- the fault
 
   -- An entry is good, or has a fault.
   pub data Judged : ℕ → Type 0 where
-    good : Entry t e → Judged 0
-    bad : (n : ℕ) → Faulty t e n → Judged n
+    good : EntryBy W t e → Judged 0
+    bad : (n : ℕ) → FaultyBy W t e n → Judged n
 
   -- By the five tests a, b, c, d and u.
-  judge : (a b c d u : Bool) → a ≡ true ↔ Counted t e → b ≡ true ↔ Argued t e → c ≡ true ↔ Placed t e → d ≡ true ↔ Sorted t e
-      → (Counted t e → u ≡ true ↔ Unused t e)
+  judge : (a b c d u : Bool) → a ≡ true ↔ Counted t e → b ≡ true ↔ ArguedBy W t e → c ≡ true ↔ PlacedBy W t e → d ≡ true ↔ SortedBy W t e
+      → u ≡ true ↔ UnusedBy W t e
       → Judged (if a then if b then if eqb (if c then if d then 0 else 16 else 15) 0 then if u then 0 else 17 else if c then if d then 0 else 16 else 15 else 14 else 13)
-  judge true true true true true f g h k j = good record { counted = f .0 refl; argued = g .0 refl; placed = h .0 refl; sorted = k .0 refl; unused = j (f .0 refl) .0 refl }
-  judge true true true true false f g h k j = bad 17 (of-unused (f .0 refl) (g .0 refl) (h .0 refl) (k .0 refl) (not-fact false (j (f .0 refl)) .0 refl))
+  judge true true true true true f g h k j = good record { counted = f .0 refl; argued = g .0 refl; placed = h .0 refl; sorted = k .0 refl; unused = j .0 refl }
+  judge true true true true false f g h k j = bad 17 (of-unused (f .0 refl) (g .0 refl) (h .0 refl) (k .0 refl) (not-fact false j .0 refl))
   judge true true true false u f g h k j = bad 16 (of-sort (f .0 refl) (g .0 refl) (h .0 refl) (not-fact false k .0 refl))
   judge true true false d u f g h k j = bad 15 (of-place (f .0 refl) (g .0 refl) (not-fact false h .0 refl))
   judge true false c d u f g h k j = bad 14 (of-argument (f .0 refl) (not-fact false g .0 refl))
   judge false b c d u f g h k j = bad 13 (of-count (not-fact false f .0 refl))
 
-  pub judged : Judged (fault t e)
-  unfolding fault operandsFault
-  judged = judge (countFits t e) (argumentFits t e) (every (operandPlaced t e) 0 (operandCount t e)) (every (operandSorted t e) 0 (operandCount t e)) (unusedZero t e) counted argued placed sorted unused
+  pub judged : Judged (faultBy W t e)
+  unfolding faultBy operandsFaultBy
+  judged = judge (countFits t e) (argumentFitsBy W t e) (every (operandPlacedBy W t e) 0 (operandCount t e)) (every (operandSortedBy W t e) 0 (operandCount t e)) (unusedZeroBy W t e) (counted t e) argued placed sorted unused
 
   -- A fault is from 13 to 17.
-  pub faulty-within : (n : ℕ) → Faulty t e n → (12 < n) × (n < 18)
+  pub faulty-within : (n : ℕ) → FaultyBy W t e n → (12 < n) × (n < 18)
   faulty-within n (of-count a) = (omega arith, omega arith)
   faulty-within n (of-argument a b) = (omega arith, omega arith)
   faulty-within n (of-place a b c) = (omega arith, omega arith)
@@ -168,38 +180,38 @@ module _ (t : List ℕ) (e : ℕ) where
   faulty-within n (of-unused a b c d f) = (omega arith, omega arith)
 
   -- Where a fault holds, it is the entry's.
-  faulty-is : (n : ℕ) → Faulty t e n → fault t e ≡ n
-  unfolding fault operandsFault
-  faulty-is n (of-count a) = rw (not-fact _ counted .1 a)
-  faulty-is n (of-argument a b) = rw (counted .1 a, not-fact _ argued .1 b)
-  faulty-is n (of-place a b c) = rw (counted .1 a, argued .1 b, not-fact _ placed .1 c)
-  faulty-is n (of-sort a b c d) = rw (counted .1 a, argued .1 b, placed .1 c, not-fact _ sorted .1 d)
-  faulty-is n (of-unused a b c d f) = rw (counted .1 a, argued .1 b, placed .1 c, sorted .1 d, not-fact _ (unused a) .1 f)
+  faulty-is : (n : ℕ) → FaultyBy W t e n → faultBy W t e ≡ n
+  unfolding faultBy operandsFaultBy
+  faulty-is n (of-count a) = rw (not-fact _ (counted t e) .1 a)
+  faulty-is n (of-argument a b) = rw (counted t e .1 a, not-fact _ argued .1 b)
+  faulty-is n (of-place a b c) = rw (counted t e .1 a, argued .1 b, not-fact _ placed .1 c)
+  faulty-is n (of-sort a b c d) = rw (counted t e .1 a, argued .1 b, placed .1 c, not-fact _ sorted .1 d)
+  faulty-is n (of-unused a b c d f) = rw (counted t e .1 a, argued .1 b, placed .1 c, sorted .1 d, not-fact _ unused .1 f)
 
-  is-faulty : (n : ℕ) → 0 < n → Judged n → Faulty t e n
+  is-faulty : (n : ℕ) → 0 < n → Judged n → FaultyBy W t e n
   is-faulty n l (good p) = absurd (omega arith)
   is-faulty n l (bad m p) = p
 
-  is-good : (n : ℕ) → n ≡ 0 → Judged n → Entry t e
+  is-good : (n : ℕ) → n ≡ 0 → Judged n → EntryBy W t e
   is-good n q (good p) = p
   is-good n q (bad m p) = absurd (omega (arith, q, faulty-within m p .0))
 
   -- A fault is the plain facts.
-  pub fault-plain : (n : ℕ) → 0 < n → fault t e ≡ n ↔ Faulty t e n
+  pub fault-plain : (n : ℕ) → 0 < n → faultBy W t e ≡ n ↔ FaultyBy W t e n
   fault-plain n l = (λ q. is-faulty n l (subst Judged q judged), faulty-is n)
 
   -- A good entry is the plain facts.
-  pub goodEntry-plain : goodEntry t e ≡ true ↔ Entry t e
-  unfolding goodEntry fault operandsFault
+  pub goodEntry-plain : goodEntryBy W t e ≡ true ↔ EntryBy W t e
+  unfolding goodEntryBy faultBy operandsFaultBy
   goodEntry-plain = (
-    λ h. is-good (fault t e) (eqb-true _ _ h) judged,
-    λ p. rw (counted .1 (p .counted), argued .1 (p .argued), placed .1 (p .placed), sorted .1 (p .sorted), unused (p .counted) .1 (p .unused)),
+    λ h. is-good (faultBy W t e) (eqb-true _ _ h) judged,
+    λ p. rw (counted t e .1 (p .counted), argued .1 (p .argued), placed .1 (p .placed), sorted .1 (p .sorted), unused .1 (p .unused)),
   )
 
   -- A bad entry has a fault.
-  pub bad-fault : goodEntry t e ≡ false → Faulty t e (fault t e)
-  unfolding goodEntry
-  bad-fault h = let n : fault t e ≢ 0 = eqb-false _ _ h in is-faulty (fault t e) (omega arith) judged
+  pub bad-fault : goodEntryBy W t e ≡ false → FaultyBy W t e (faultBy W t e)
+  unfolding goodEntryBy
+  bad-fault h = let n : faultBy W t e ≢ 0 = eqb-false _ _ h in is-faulty (faultBy W t e) (omega arith) judged
 
 -- A good node is the plain facts.
 pub goodNode-plain : (s : List ℕ) (k : ℕ) → goodNode s k ≡ true ↔ Node s k
@@ -218,7 +230,7 @@ goodNode-plain s k = (apart, together)
           constructor = leb-true _ _ (a .0);
           count = leb-true _ _ (b .0);
           below = λ i l. ltb-true _ _ (every-true lower 0 (childCount s k) .0 (c .0) i (omega arith) (omega arith));
-          unused = unused-zero (child s k) (childCount s k) (leb-true _ _ (b .0)) .0 (c .1);
+          unused = zeros-plain (child s k) (childCount s k) 6 .0 (c .1);
         }
 
     together : Node s k → goodNode s k ≡ true
@@ -228,7 +240,7 @@ goodNode-plain s k = (apart, together)
           le-leb _ _ (p .count),
           every-true lower 0 (childCount s k) .1 (λ i l m. lt-ltb _ _ (p .below i (omega arith))),
         )
-        (unused-zero (child s k) (childCount s k) (p .count) .1 (p .unused))
+        (zeros-plain (child s k) (childCount s k) 6 .1 (p .unused))
 
 -- A table's length that fits is the plain facts.
 pub tableLengthFits-plain : (n : ℕ) → tableLengthFits n ≡ true ↔ TableLength n

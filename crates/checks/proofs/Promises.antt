@@ -15,9 +15,9 @@ use Rattle.words.specs.Tests.{if_then_else_, rejected}
 use Rattle.words.specs.Words.{rows}
 use Rattle.words.proofs.Tests.{First, and-true, rejected-none, rejected-some}
 use Rattle.checks.specs.declared.Checked.{Checked}
-use Rattle.checks.specs.Good.{fault, goodEntry, goodNode}
-use Rattle.checks.specs.Plain.{TableLength, StoreLength, Faulty}
-use Rattle.checks.specs.Checked.{checked, found, faulted, tableLengthFits, storeLengthFits, tableChecked, storeChecked}
+use Rattle.checks.specs.Good.{faultBy, goodEntryBy, goodNode}
+use Rattle.checks.specs.Plain.{TableLength, StoreLength, FaultyBy}
+use Rattle.checks.specs.Checked.{checked, found, faultedBy, tableLengthFits, storeLengthFits, tableCheckedBy, storeChecked}
 use Rattle.checks.specs.Promises as promises
 use Rattle.checks.specs.Promises.{AllGood, Lowest, StoreFits, TableAnswer, passed, length-bad, entry-bad}
 use Rattle.checks.proofs.Good.{not-fact, faulty-within, fault-plain, goodEntry-plain, bad-fault, goodNode-plain, tableLengthFits-plain, storeLengthFits-plain}
@@ -105,29 +105,29 @@ pub data Known : Checked → Type 0 where
   rejects-at : (n p : ℕ) → 12 < n → n < 18 → Known (checked n p)
 
 -- The search's outcome decides, behind the test of the length.
-table-outcome : Bool → List ℕ → Option ℕ → Checked
-table-outcome b t o = if b then faulted t o else checked 2 0
+table-outcome : ℕ → Bool → List ℕ → Option ℕ → Checked
+table-outcome W b t o = if b then faultedBy W t o else checked 2 0
 
-module _ (t : List ℕ) where
+module _ (W : ℕ) (t : List ℕ) where
   -- what the search says of the table t
   abbrev Search : Option ℕ → Type 0
-  Search o = rejected (goodEntry t) 0 (rows t) ≡ o
+  Search o = rejected (goodEntryBy W t) 0 (rows t) ≡ o
 
   -- the fault of an entry that was found is one of 13 to 17
-  found-fault : (e : ℕ) → Search (some e) → Faulty t e (fault t e)
-  found-fault e q = bad-fault t e (some-lowest (goodEntry t) (rows t) e .0 q .bad)
+  found-fault : (e : ℕ) → Search (some e) → FaultyBy W t e (faultBy W t e)
+  found-fault e q = bad-fault W t e (some-lowest (goodEntryBy W t) (rows t) e .0 q .bad)
 
-  found-above : (e : ℕ) → Search (some e) → 12 < fault t e
-  found-above e q = faulty-within t e (fault t e) (found-fault e q) .0
+  found-above : (e : ℕ) → Search (some e) → 12 < faultBy W t e
+  found-above e q = faulty-within W t e (faultBy W t e) (found-fault e q) .0
 
-  table-passes : (b : Bool) (o : Option ℕ) → Search o → table-outcome b t o .answer ≡ 0 ↔ (b ≡ true) × (o ≡ none)
+  table-passes : (b : Bool) (o : Option ℕ) → Search o → table-outcome W b t o .answer ≡ 0 ↔ (b ≡ true) × (o ≡ none)
   unfolding table-outcome
   table-passes true none q = (λ e. (refl, refl), λ e. refl)
   table-passes true (some k) q = (λ e. absurd (omega (arith, found-above k q)), λ e. let q : _≡_ {A = ℕ} 0 1 = cc (e .1) in absurd (omega arith))
   table-passes false o q = (λ e. absurd (omega arith), λ e. absurd (false≢true (e .0)))
 
   table-rejects : (n p : ℕ) → 12 < n → (b : Bool) (o : Option ℕ) → Search o
-      → table-outcome b t o ≡ checked n p ↔ (b ≡ true) × ((o ≡ some p) × (fault t p ≡ n))
+      → table-outcome W b t o ≡ checked n p ↔ (b ≡ true) × ((o ≡ some p) × (faultBy W t p ≡ n))
   unfolding table-outcome
   table-rejects n p l true none q = (
     λ e. absurd (omega (arith, ap (λ (r : Checked). r .answer) e)),
@@ -136,12 +136,12 @@ module _ (t : List ℕ) where
   table-rejects n p l true (some k) q = (
     λ e.
         let z : k ≡ p = ap (λ (r : Checked). r .place) e in
-        (refl, (ap some z, ap (fault t) (sym z) ∙ ap (λ (r : Checked). r .answer) e)),
-    λ e. let z : k ≡ p = cc (e .1 .0) in ap (λ (m : ℕ). checked (fault t m) m) z ∙ ap (λ (m : ℕ). checked m p) (e .1 .1),
+        (refl, (ap some z, ap (faultBy W t) (sym z) ∙ ap (λ (r : Checked). r .answer) e)),
+    λ e. let z : k ≡ p = cc (e .1 .0) in ap (λ (m : ℕ). checked (faultBy W t m) m) z ∙ ap (λ (m : ℕ). checked m p) (e .1 .1),
   )
   table-rejects n p l false o q = (λ e. absurd (omega (arith, ap (λ (r : Checked). r .answer) e)), λ e. absurd (false≢true (e .0)))
 
-  table-refuses : (b : Bool) (o : Option ℕ) → Search o → table-outcome b t o ≡ checked 2 0 ↔ b ≡ false
+  table-refuses : (b : Bool) (o : Option ℕ) → Search o → table-outcome W b t o ≡ checked 2 0 ↔ b ≡ false
   unfolding table-outcome
   table-refuses true none q = (
     λ e. let q : _≡_ {A = ℕ} 0 2 = ap (λ (r : Checked). r .answer) e in absurd (omega arith),
@@ -150,35 +150,35 @@ module _ (t : List ℕ) where
   table-refuses true (some k) q = (λ e. absurd (omega (arith, found-above k q, ap (λ (r : Checked). r .answer) e)), λ e. absurd (true≢false e))
   table-refuses false o q = (λ e. refl, λ e. refl)
 
-  known-outcome : (b : Bool) (o : Option ℕ) → Search o → Known (table-outcome b t o)
+  known-outcome : (b : Bool) (o : Option ℕ) → Search o → Known (table-outcome W b t o)
   unfolding table-outcome
   known-outcome true none q = passes-all
-  known-outcome true (some k) q = let w = faulty-within t k (fault t k) (found-fault k q) in rejects-at (fault t k) k (w .0) (w .1)
+  known-outcome true (some k) q = let w = faulty-within W t k (faultBy W t k) (found-fault k q) in rejects-at (faultBy W t k) k (w .0) (w .1)
   known-outcome false o q = refuses-length
 
 pub tablePasses : promises.tablePasses
-unfolding tableChecked table-outcome
-tablePasses t = in-words (table-passes t _ _ refl) (tableLengthFits-plain (length t)) (none-good (goodEntry t) (rows t))
+unfolding tableCheckedBy table-outcome
+tablePasses W t = in-words (table-passes W t _ _ refl) (tableLengthFits-plain (length t)) (none-good (goodEntryBy W t) (rows t))
 
 pub tableRejects : promises.tableRejects
-unfolding tableChecked table-outcome
-tableRejects t n p l =
-    in-words (table-rejects t n p l _ _ refl) (tableLengthFits-plain (length t))
-    (both (some-lowest (goodEntry t) (rows t) p) (fault-plain t p n (omega arith)))
+unfolding tableCheckedBy table-outcome
+tableRejects W t n p l =
+    in-words (table-rejects W t n p l _ _ refl) (tableLengthFits-plain (length t))
+    (both (some-lowest (goodEntryBy W t) (rows t) p) (fault-plain W t p n (omega arith)))
 
 pub tableRefuses : promises.tableRefuses
-unfolding tableChecked table-outcome
-tableRefuses t =
-    let f = table-refuses t (tableLengthFits (length t)) _ refl in
+unfolding tableCheckedBy table-outcome
+tableRefuses W t =
+    let f = table-refuses W t (tableLengthFits (length t)) _ refl in
     let g = not-fact _ (tableLengthFits-plain (length t)) in
     (λ e. g .0 (f .0 e), λ h. f .1 (g .1 h))
 
-pub known : (t : List ℕ) → Known (tableChecked t)
-unfolding tableChecked table-outcome
-known t = known-outcome t (tableLengthFits (length t)) _ refl
+pub known : (W : ℕ) (t : List ℕ) → Known (tableCheckedBy W t)
+unfolding tableCheckedBy table-outcome
+known W t = known-outcome W t (tableLengthFits (length t)) _ refl
 
 pub tableAnswers : promises.tableAnswers
-tableAnswers t = go (known t)
+tableAnswers W t = go (known W t)
   where
     go : {c : Checked} → Known c → TableAnswer (c .answer)
     go passes-all = passed
@@ -220,10 +220,10 @@ store-not-three false o q = omega arith
 
 pub neverThree : promises.neverThree
 unfolding storeChecked outcome
-neverThree t s mark = (table-not-three _ (tableAnswers t), store-not-three (storeLengthFits (length s) && leb mark (rows s)) (rejected (goodNode s) 0 mark))
+neverThree W t s mark = (table-not-three _ (tableAnswers W t), store-not-three (storeLengthFits (length s) && leb mark (rows s)) (rejected (goodNode s) 0 mark))
 
 pub tableAgrees : promises.tableAgrees
-tableAgrees t r r′ e f = e ∙ sym f
+tableAgrees W t r r′ e f = e ∙ sym f
 
 pub storeAgrees : promises.storeAgrees
 storeAgrees s mark r r′ e f = e ∙ sym f

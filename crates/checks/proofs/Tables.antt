@@ -4,16 +4,16 @@
 use mathlib.Core.Path.{_≡_, refl, sym}
 use mathlib.Core.Bool.{Bool, true, false, _&&_, true≢false}
 use mathlib.Core.List.{List, [], _∷_}
-use Prim.Native.Nat.{ℕ, _≤_}
+use Prim.Native.Nat.{ℕ, _+_, _≤_}
 use native.Mathlib.Omega.{arith}
-use lib.Dec.{eqb}
+use lib.Dec.{leb, eqb}
 use lib.ListN.{getD}
-use borrow.Author.Tests.{eqb-true}
+use borrow.Author.Tests.{leb-true, eqb-true}
 use Rattle.words.specs.Tests.{every}
 use Rattle.words.proofs.Tests.{and-true, every-true}
 use Rattle.checks.specs.declared.kinds.Sort.{Sort}
 use Rattle.checks.specs.declared.kinds.Sort.the-variants.{Strategy, Pattern, Neither}
-use Rattle.checks.specs.Kinds.{lowest, highest, lines, lineOf, kind, takes, same}
+use Rattle.checks.specs.Kinds.{ours, lowest, highestBy, operandsFromBy, lines, lineOf, kind, takes, same}
 
 -- LEAST, as the source has it.
 abbrev leasts : List ℕ
@@ -32,6 +32,10 @@ abbrev highs : List ℕ
 highs =
     0 ∷ 0 ∷ 0 ∷ 0 ∷ 0 ∷ 0 ∷ 0 ∷ 0 ∷ 0 ∷ 6 ∷ 65535 ∷ 0 ∷ 0 ∷ 0 ∷ 0 ∷ 0 ∷ 4294967295 ∷ 0 ∷ 31 ∷ 65535 ∷ []
 
+-- OPERANDS_FROM, as the source has it.
+abbrev froms : List ℕ
+froms = 2 ∷ 2 ∷ 2 ∷ 2 ∷ 2 ∷ 2 ∷ 2 ∷ 2 ∷ 2 ∷ 2 ∷ 2 ∷ 2 ∷ 2 ∷ 2 ∷ 2 ∷ 2 ∷ 2 ∷ 2 ∷ 2 ∷ 2 ∷ []
+
 -- TAKES, as the source has it.
 abbrev taken : List Sort
 taken =
@@ -43,7 +47,8 @@ pub record Agree (k : ℕ) : Type 0 where
   pub least : getD leasts k 0 ≡ kind k .least
   pub most : getD mosts k 0 ≡ kind k .most
   pub low : getD lows k 0 ≡ lowest (kind k .argument)
-  pub high : getD highs k 0 ≡ highest (kind k .argument)
+  pub high : getD highs k 0 ≡ highestBy ours (kind k .argument)
+  pub from : getD froms k 0 ≡ operandsFromBy ours k
   pub sort : getD taken k Strategy ≡ takes k
 
 -- The same as a test.
@@ -52,8 +57,9 @@ agree k =
     eqb (getD leasts k 0) (kind k .least)
     && (eqb (getD mosts k 0) (kind k .most)
     && (eqb (getD lows k 0) (lowest (kind k .argument))
-    && (eqb (getD highs k 0) (highest (kind k .argument))
-    && same (getD taken k Strategy) (takes k))))
+    && (eqb (getD highs k 0) (highestBy ours (kind k .argument))
+    && (eqb (getD froms k 0) (operandsFromBy ours k)
+    && same (getD taken k Strategy) (takes k)))))
 
 -- A test that holds at all twenty kinds holds at each.
 pub at-each : (p : ℕ → Bool) → every p 0 20 ≡ true → (k : ℕ) → k ≤ 19 → p k ≡ true
@@ -89,11 +95,21 @@ at-kind k l =
     let a : (eqb (getD leasts k 0) (kind k .least) ≡ true) × _ = and-true _ _ (at-each agree all-agree k l) in
     let b : (eqb (getD mosts k 0) (kind k .most) ≡ true) × _ = and-true _ _ (a .1) in
     let c : (eqb (getD lows k 0) (lowest (kind k .argument)) ≡ true) × _ = and-true _ _ (b .1) in
-    let d : (eqb (getD highs k 0) (highest (kind k .argument)) ≡ true) × _ = and-true _ _ (c .1) in
+    let d : (eqb (getD highs k 0) (highestBy ours (kind k .argument)) ≡ true) × _ = and-true _ _ (c .1) in
+    let f : (eqb (getD froms k 0) (operandsFromBy ours k) ≡ true) × _ = and-true _ _ (d .1) in
     record {
       least = eqb-true _ _ (a .0);
       most = eqb-true _ _ (b .0);
       low = eqb-true _ _ (c .0);
       high = eqb-true _ _ (d .0);
-      sort = same-true _ _ (d .1);
+      from = eqb-true _ _ (f .0);
+      sort = same-true _ _ (f .1);
     }
+
+-- The operands of each kind have room after its argument, however many it takes.
+all-roomy : every (λ j. leb (operandsFromBy ours j + kind j .most) 8) 0 20 ≡ true
+unfolding every kind lineOf lines
+all-roomy = refl
+
+pub roomy : (k : ℕ) → k ≤ 19 → operandsFromBy ours k + kind k .most ≤ 8
+roomy k l = leb-true _ 8 (at-each (λ j. leb (operandsFromBy ours j + kind j .most) 8) all-roomy k l)

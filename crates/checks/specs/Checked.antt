@@ -7,7 +7,8 @@ use lib.Dec.{leb, ltb, eqb}
 use lib.ListN.{length, getD}
 use Rattle.words.specs.Tests.{if_then_else_, every, rejected}
 use Rattle.words.specs.Words.{rows}
-use Rattle.checks.specs.Good.{fault, goodEntry, goodNode}
+use Rattle.checks.specs.Kinds.{ours}
+use Rattle.checks.specs.Good.{faultBy, goodEntryBy, goodNode}
 use Rattle.checks.specs.declared.Checked.{Checked}
 use Rattle.checks.specs.declared.Found.{Found}
 use Rattle.checks.specs.declared.Found.the-variants.{At, Nothing}
@@ -34,14 +35,19 @@ tableLengthFits n = ltb 0 n && (eqb (n % 8) 0 && leb n 32768)
 unfoldable pub storeLengthFits : ℕ → Bool
 storeLengthFits n = eqb (n % 8) 0 && leb n 1048576
 
--- the fault of the entry that was found, with its place; nothing found is answer 0 with place 0
-abbrev pub faulted : List ℕ → Option ℕ → Checked
-faulted t none = checked 0 0
-faulted t (some e) = checked (fault t e) e
+module _ (W : ℕ) where
+  -- the fault of the entry that was found, with its place; nothing found is answer 0 with place 0
+  abbrev pub faultedBy : List ℕ → Option ℕ → Checked
+  faultedBy t none = checked 0 0
+  faultedBy t (some e) = checked (faultBy W t e) e
 
--- the table check: 2 for a bad length, the fault of the lowest bad entry
-unfoldable pub tableChecked : List ℕ → Checked
-tableChecked t = if tableLengthFits (length t) then faulted t (rejected (goodEntry t) 0 (rows t)) else checked 2 0
+  -- the table check: 2 for a bad length, the fault of the lowest bad entry
+  unfoldable pub tableCheckedBy : List ℕ → Checked
+  tableCheckedBy t = if tableLengthFits (length t) then faultedBy t (rejected (goodEntryBy W t) 0 (rows t)) else checked 2 0
+
+-- the table check in the product
+abbrev pub tableChecked : List ℕ → Checked
+tableChecked = tableCheckedBy ours
 
 -- the store check: 2 for a bad length or a mark above the store's nodes, 4 with the lowest bad node below the mark
 unfoldable pub storeChecked : List ℕ → ℕ → Checked

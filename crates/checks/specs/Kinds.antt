@@ -1,7 +1,10 @@
 -- The twenty kinds of entry, as the table of document 01's chapter "The strategy table" reads.
+--
+-- One number decides how many variables there are: W, the words of a scope's mask, of 32 variables each. Whatever depends on
+-- it takes W as its first argument and has a name that ends in By; the same name without it is its use at the product's own W.
 use mathlib.Core.Bool.{Bool, true, false, _&&_, _||_}
 use mathlib.Core.List.{List, [], _∷_}
-use Prim.Native.Nat.{ℕ, _^_, _-_}
+use Prim.Native.Nat.{ℕ, _+_, _*_, _^_, _-_}
 use lib.Dec.{leb, eqb}
 use Rattle.words.specs.Tests.{if_then_else_}
 use Rattle.checks.specs.declared.kinds.Sort.{Sort}
@@ -11,9 +14,16 @@ use Rattle.checks.specs.declared.kinds.Sort.the-variants.{Strategy, Patt
 pub data Argument : Type 0 where
   absent position constructor mask variable : Argument
 
+-- the words of a scope's mask in the product
+abbrev pub ours : ℕ
+ours = 1
+
 -- the number of variables
+abbrev pub variablesBy : ℕ → ℕ
+variablesBy W = 32 * W
+
 abbrev pub variables : ℕ
-variables = 32
+variables = variablesBy ours
 
 -- the least and the greatest number that an argument may be
 abbrev pub lowest : Argument → ℕ
@@ -23,12 +33,20 @@ lowest constructor = 0
 lowest mask = 0
 lowest variable = 0
 
-abbrev pub highest : Argument → ℕ
-highest absent = 0
-highest position = 6
-highest constructor = 65535
-highest mask = 2 ^ variables - 1
-highest variable = variables - 1
+abbrev pub highestBy : ℕ → Argument → ℕ
+highestBy W absent = 0
+highestBy W position = 6
+highestBy W constructor = 65535
+highestBy W mask = 2 ^ variablesBy W - 1
+highestBy W variable = variablesBy W - 1
+
+-- the words that the argument of the kind k has: W for a SCOPE, whose argument is a mask, and one for every other
+abbrev pub argumentWordsBy : ℕ → ℕ → ℕ
+argumentWordsBy W k = if eqb k 16 then W else 1
+
+-- where the operands of the kind k begin: word 0 and the argument's words come before them
+abbrev pub operandsFromBy : ℕ → ℕ → ℕ
+operandsFromBy W k = 1 + argumentWordsBy W k
 
 -- one line of the table: the kinds from `first` to `last`, the least and the most operands, the argument
 pub record Line : Type 0 where

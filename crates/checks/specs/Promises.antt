@@ -7,9 +7,9 @@ use Prim.Native.Nat.{ℕ, _≤_, _<_}
 use lib.ListN.{length}
 use Rattle.words.specs.Words.{rows}
 use Rattle.checks.specs.declared.Checked.{Checked}
-use Rattle.checks.specs.Good.{fault, goodEntry, goodNode}
-use Rattle.checks.specs.Plain.{TableLength, StoreLength, Entry, Faulty, Node}
-use Rattle.checks.specs.Checked.{checked, tableChecked, storeChecked}
+use Rattle.checks.specs.Good.{faultBy, goodEntryBy, goodNode}
+use Rattle.checks.specs.Plain.{TableLength, StoreLength, EntryBy, FaultyBy, Node}
+use Rattle.checks.specs.Checked.{checked, tableCheckedBy, storeChecked}
 use Rattle.checks.specs.Signature.{signatureFits, entryObeys, nodeObeys, entriesChecked, nodesChecked, Signature, EntryObeys, NodeObeys}
 
 -- every number below n is good
@@ -30,24 +30,24 @@ pub data TableAnswer : ℕ → Type 0 where
 
 -- answer 0: the length fits, and every entry is good
 abbrev pub tablePasses : Type 0
-tablePasses = (t : List ℕ) → tableChecked t .answer ≡ 0 ↔ TableLength (length t) × AllGood (goodEntry t) (rows t)
+tablePasses = (W : ℕ) (t : List ℕ) → tableCheckedBy W t .answer ≡ 0 ↔ TableLength (length t) × AllGood (goodEntryBy W t) (rows t)
 
 -- an answer from 13 on with its place: the length fits, the place is the lowest bad entry, and the answer is its first fault
 abbrev pub tableRejects : Type 0
 tableRejects =
-    (t : List ℕ) (n p : ℕ) → 12 < n
-    → tableChecked t ≡ checked n p ↔ TableLength (length t) × (Lowest (goodEntry t) (rows t) p × Faulty t p n)
+    (W : ℕ) (t : List ℕ) (n p : ℕ) → 12 < n
+    → tableCheckedBy W t ≡ checked n p ↔ TableLength (length t) × (Lowest (goodEntryBy W t) (rows t) p × FaultyBy W t p n)
 
 -- no other answer is given; 3 is not
 abbrev pub tableAnswers : Type 0
-tableAnswers = (t : List ℕ) → TableAnswer (tableChecked t .answer)
+tableAnswers = (W : ℕ) (t : List ℕ) → TableAnswer (tableCheckedBy W t .answer)
 
 abbrev pub neverThree : Type 0
-neverThree = (t s : List ℕ) (mark : ℕ) → (tableChecked t .answer ≢ 3) × (storeChecked s mark .answer ≢ 3)
+neverThree = (W : ℕ) (t s : List ℕ) (mark : ℕ) → (tableCheckedBy W t .answer ≢ 3) × (storeChecked s mark .answer ≢ 3)
 
 -- answer 2: the length does not fit
 abbrev pub tableRefuses : Type 0
-tableRefuses = (t : List ℕ) → tableChecked t ≡ checked 2 0 ↔ ¬ TableLength (length t)
+tableRefuses = (W : ℕ) (t : List ℕ) → tableCheckedBy W t ≡ checked 2 0 ↔ ¬ TableLength (length t)
 
 -- the length fits, and the mark is at most the store's nodes
 abbrev pub StoreFits : List ℕ → ℕ → Type 0
@@ -68,7 +68,7 @@ storeRefuses = (s : List ℕ) (mark : ℕ) → storeChecked s mark ≡ checked 2
 
 -- two outcomes of the table check that satisfy its contract agree
 abbrev pub tableAgrees : Type 0
-tableAgrees = (t : List ℕ) (r r′ : Checked) → r ≡ tableChecked t → r′ ≡ tableChecked t → r ≡ r′
+tableAgrees = (W : ℕ) (t : List ℕ) (r r′ : Checked) → r ≡ tableCheckedBy W t → r′ ≡ tableCheckedBy W t → r ≡ r′
 
 -- two outcomes of the store check that satisfy its contract agree
 abbrev pub storeAgrees : Type 0
@@ -77,11 +77,11 @@ storeAgrees =
 
 -- a fault is the plain facts, and all before it is right
 abbrev pub faultPlain : Type 0
-faultPlain = (t : List ℕ) (e n : ℕ) → 0 < n → fault t e ≡ n ↔ Faulty t e n
+faultPlain = (W : ℕ) (t : List ℕ) (e n : ℕ) → 0 < n → faultBy W t e ≡ n ↔ FaultyBy W t e n
 
 -- a good entry is the plain facts
 abbrev pub entryPlain : Type 0
-entryPlain = (t : List ℕ) (e : ℕ) → goodEntry t e ≡ true ↔ Entry t e
+entryPlain = (W : ℕ) (t : List ℕ) (e : ℕ) → goodEntryBy W t e ≡ true ↔ EntryBy W t e
 
 -- a good node is the plain facts
 abbrev pub nodePlain : Type 0

@@ -1,24 +1,26 @@
 // The table check: what is wrong with an entry, the lowest entry with which something is, and the answer. Each word of an
 // entry is read once.
 ghost use mathlib.Core.Path.{_≡_};
-ghost use Prim.Native.Nat.{_≤_};
+ghost use Prim.Native.Nat.{_+_, _≤_, _<_};
 ghost use lib.ListN.{length};
 ghost use Rattle.words.specs.Tests.{rejected};
 ghost use Rattle.words.specs.Words.{rows};
-ghost use Rattle.checks.specs.Good.{countOf, argumentIn, kindOf, operandCount, placedFor, sortedFor, operandsFault, fault, goodEntry};
+ghost use Rattle.checks.specs.Good.{countOf, argumentInBy, kindOf, operandCount, maskBy, argumentBy, operandBy, placedFor, sortedFor, operandsFaultBy, fault, goodEntry};
 ghost use Rattle.checks.specs.Kinds as kinds;
-ghost use Rattle.checks.specs.Checked.{faulted, tableLengthFits, tableChecked};
+ghost use Rattle.checks.specs.Kinds.{ours, operandsFromBy};
+ghost use Rattle.checks.specs.Checked.{faultedBy, tableLengthFits, tableChecked};
 use crate::Checked;
+use crate::kinds::SCOPE;
 use crate::kinds::Sort;
 use crate::kinds::highest_argument;
 use crate::kinds::least;
 use crate::kinds::lowest_argument;
 use crate::kinds::most;
+use crate::kinds::operands_from;
 use crate::kinds::same;
 use crate::kinds::sort_of;
 use crate::kinds::takes;
-use crate::rows::held;
-use crate::rows::unused_zero;
+use crate::rows::zeros_from;
 use words::word;
 
 // The kind of entry e.
@@ -35,6 +37,32 @@ pub fn operand_count(table: &[u32], e: u32) -> u32
     word(table, e, 0) % 16
 }
 
+// The mask of entry e, a SCOPE.
+pub fn mask(table: &[u32], e: u32) -> u64
+    ensures { λ r. ⌜ r ≡ maskBy ours (now (table .entry)) e ⌝ }
+{
+    word(table, e, 1) as u64
+}
+
+// The argument of entry e, of the kind k.
+fn argument(table: &[u32], e: u32, k: u32) -> u64
+    requires { ⌜ k ≡ kindOf (now table) e ⌝ }
+    ensures { λ r. ⌜ r ≡ argumentBy ours (now (table .entry)) e ⌝ }
+{
+    if k == SCOPE {
+        return mask(table, e);
+    }
+    word(table, e, 1) as u64
+}
+
+// Operand i of entry e, whose operands begin at word `from`.
+pub fn operand(table: &[u32], e: u32, from: u32, i: u32) -> u32
+    requires { ⌜ (from ≡ operandsFromBy ours (kindOf (now table) e)) × (from + i < 8) ⌝ }
+    ensures { λ r. ⌜ r ≡ operandBy ours (now (table .entry)) e i ⌝ }
+{
+    word(table, e, from + i)
+}
+
 // The kind k is known, and the count n lies within its bounds.
 fn count_fits(k: u32, n: u32) -> bool
     ensures { λ r. ⌜ r ≡ countOf k n ⌝ }
@@ -49,9 +77,9 @@ fn count_fits(k: u32, n: u32) -> bool
 }
 
 // The argument a is in the range of the kind k, and zero where none is named.
-fn argument_fits(k: u32, a: u32) -> bool
+fn argument_fits(k: u32, a: u64) -> bool
     requires { ⌜ k ≤ 19 ⌝ }
-    ensures { λ r. ⌜ r ≡ argumentIn k a ⌝ }
+    ensures { λ r. ⌜ r ≡ argumentInBy ours k a ⌝ }
 {
     if a < lowest_argument(k) {
         return false;
@@ -87,17 +115,18 @@ fn operand_sorted(table: &[u32], k: u32, sort: Sort, o: u32) -> bool
 // The operands' fault of entry e, of the kind k and with n operands: 15 where one is not in its place, else 16 where one has
 // not its sort, else 0. A wrong sort is kept in mind while the places of the rest are looked at.
 fn operands_fault(table: &[u32], e: u32, k: u32, n: u32) -> u32
-    requires { ⌜ (k ≡ kindOf (now table) e) × ((n ≡ operandCount (now table) e) × ((k ≤ 19) × (n ≤ 6))) ⌝ }
-    ensures { λ r. ⌜ r ≡ operandsFault (now (table .entry)) e ⌝ }
+    requires { ⌜ (k ≡ kindOf (now table) e) × ((n ≡ operandCount (now table) e) × ((k ≤ 19) × (operandsFromBy ours k + n ≤ 8))) ⌝ }
+    ensures { λ r. ⌜ r ≡ operandsFaultBy ours (now (table .entry)) e ⌝ }
 {
     if n == 0 {
         return 0;
     }
     let sort = takes(k);
+    let from = operands_from(k);
     let mut fault: u32 = 0;
     let mut i: u32 = 0;
     while i < n {
-        let o = held(table, e, i);
+        let o = operand(table, e, from, i);
         if !operand_placed(table, e, k, o) {
             return 15;
         }
@@ -119,14 +148,14 @@ pub fn entry_fault(table: &[u32], e: u32) -> u32
     if !count_fits(k, n) {
         return 13;
     }
-    if !argument_fits(k, word(table, e, 1)) {
+    if !argument_fits(k, argument(table, e, k)) {
         return 14;
     }
     let operands = operands_fault(table, e, k, n);
     if operands != 0 {
         return operands;
     }
-    if !unused_zero(table, e, n) {
+    if !zeros_from(table, e, operands_from(k) + n) {
         return 17;
     }
     0
@@ -135,7 +164,7 @@ pub fn entry_fault(table: &[u32], e: u32) -> u32
 // The fault of the lowest bad entry of a table that is no longer than the longest, and its place.
 fn lowest_fault(table: &[u32]) -> Checked
     requires { ⌜ length (now table) ≤ 32768 ⌝ }
-    ensures { λ r. ⌜ r ≡ faulted (now (table .entry)) (rejected (goodEntry (now (table .entry))) 0 (rows (now (table .entry)))) ⌝ }
+    ensures { λ r. ⌜ r ≡ faultedBy ours (now (table .entry)) (rejected (goodEntry (now (table .entry))) 0 (rows (now (table .entry)))) ⌝ }
 {
     let n = table.len() / 8;
     let mut e: u32 = 0;

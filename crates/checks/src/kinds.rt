@@ -1,7 +1,7 @@
 // The twenty kinds: constant tables of document 01's chapter "The strategy table", and the sort of an entry.
 ghost use mathlib.Core.Path.{_≡_};
 ghost use Prim.Native.Nat.{_≤_};
-ghost use Rattle.checks.specs.Kinds.{kind, lowest, highest, sortOf};
+ghost use Rattle.checks.specs.Kinds.{kind, ours, lowest, highestBy, operandsFromBy, sortOf};
 ghost use Rattle.checks.specs.Kinds as table;
 
 // The kinds by document 01's names.
@@ -59,10 +59,10 @@ const LEAST: [u32; 20] = [0, 0, 1, 1, 2, 2, 2, 1, 1, 1, 0, 1, 1, 1, 1, 1, 1, 1, 
 const MOST: [u32; 20] = [0, 0, 1, 1, 2, 2, 2, 1, 1, 1, 6, 1, 1, 1, 1, 1, 1, 1, 0, 6];
 
 // The least argument of each kind: PATH's alone is not 0.
-const LOWEST: [u32; 20] = [0, 0, 0, 0, 0, 0, 0, 0, 0, 1, 0, 0, 0, 0, 0, 0, 0, 0, 0, 0];
+const LOWEST: [u64; 20] = [0, 0, 0, 0, 0, 0, 0, 0, 0, 1, 0, 0, 0, 0, 0, 0, 0, 0, 0, 0];
 
 // The greatest argument of each kind; 0 where none is named.
-const HIGHEST: [u32; 20] = [
+const HIGHEST: [u64; 20] = [
     0,
     0,
     0,
@@ -84,6 +84,9 @@ const HIGHEST: [u32; 20] = [
     31,
     65535,
 ];
+
+// The word at which the operands of each kind begin: after word 0 and the argument, which is a SCOPE's mask and otherwise one word.
+const OPERANDS_FROM: [u32; 20] = [2, 2, 2, 2, 2, 2, 2, 2, 2, 2, 2, 2, 2, 2, 2, 2, 2, 2, 2, 2];
 
 // The sort of the operands of each kind: MATCH, BUILD and PCON take patterns.
 const TAKES: [Sort; 20] = [
@@ -126,7 +129,7 @@ pub(crate) fn most(k: u32) -> u32
 }
 
 // The least argument of the kind k.
-pub(crate) fn lowest_argument(k: u32) -> u32
+pub(crate) fn lowest_argument(k: u32) -> u64
     requires { ⌜ k ≤ 19 ⌝ }
     ensures { λ r. ⌜ r ≡ lowest (kind k .argument) ⌝ }
 {
@@ -134,11 +137,19 @@ pub(crate) fn lowest_argument(k: u32) -> u32
 }
 
 // The greatest argument of the kind k.
-pub(crate) fn highest_argument(k: u32) -> u32
+pub(crate) fn highest_argument(k: u32) -> u64
     requires { ⌜ k ≤ 19 ⌝ }
-    ensures { λ r. ⌜ r ≡ highest (kind k .argument) ⌝ }
+    ensures { λ r. ⌜ r ≡ highestBy ours (kind k .argument) ⌝ }
 {
     HIGHEST[k as usize]
+}
+
+// The word at which the operands of the kind k begin.
+pub fn operands_from(k: u32) -> u32
+    requires { ⌜ k ≤ 19 ⌝ }
+    ensures { λ r. ⌜ r ≡ operandsFromBy ours k ⌝ }
+{
+    OPERANDS_FROM[k as usize]
 }
 
 // The sort of the operands of the kind k.

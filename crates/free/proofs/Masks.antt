@@ -13,18 +13,19 @@ use lib.Seq.{getD-set-same, getD-set-other, set-getD, drop-cons, drop-length}
 use lib.Pow.{pow-lt}
 use lib.Bits.{bitAnd, bitOr, or-lt, and-le-r}
 use borrow.Author.Tests.{eqb-true, eqb-false, eq-eqb, ne-eqb}
-use Rattle.words.specs.Words.{rows}
+use Rattle.words.specs.Words.{wordAt, rows}
+use Rattle.checks.specs.Kinds.{variablesBy}
 use Rattle.words.proofs.Tests.{and-true}
-use Rattle.checks.specs.Good.{kindOf, operandCount, argumentOf, operand}
-use Rattle.checks.specs.Plain.{Entry}
+use Rattle.checks.specs.Good.{kindOf, operandCount, argumentOf, maskBy}
+use Rattle.checks.specs.Plain.{EntryBy}
 use Rattle.meaning.specs.Bindings.{has}
-use Rattle.meaning.specs.Table.{PVAR, table, operands}
+use Rattle.meaning.specs.Table.{PVAR, tableBy, operands}
 use Rattle.meaning.specs.Free.{In, here, there, Variable, var, part, Free, in-match, in-build, in-scope, in-operand}
 use Rattle.meaning.proofs.Tests.{decided}
-use Rattle.free.specs.Passes.{joined, joinedOperands, ruled, fuller, grows, grown, passed, changed, Of, pattern, strategy, BitsMeant, Settled}
+use Rattle.free.specs.Passes.{joined, joinedOperands, full, ruled, fuller, grows, grown, passed, changed, Of, pattern, strategy, BitsMeant, Settled}
 use Rattle.meaning.proofs.Bits.{has-nothing, has-and, has-or, has-one, not-has, or-grows}
 use Rattle.free.proofs.Entries.{other, operand-at, length-operands, Strategies, Patterns, Shape, is-plain, is-match, is-build, is-scope, is-variable, is-con, shape, entry-of}
-use Rattle.free.specs.Promises.{GoodTable}
+use Rattle.free.specs.Promises.{GoodTableBy}
 
 -- ---- masks joined
 
@@ -62,14 +63,14 @@ module _ (ms : List ℕ) (v : ℕ) where
   in-joined all (x ∷ xs) y (there i) h = in-joined (bitOr all (getD ms x 0)) xs y i h
 
 -- joined masks fit
-joined-fits : (ms : List ℕ) → ((i : ℕ) → getD ms i 0 < 2 ^ 32) → (all : ℕ) (xs : List ℕ) → all < 2 ^ 32 → joined ms all xs < 2 ^ 32
+joined-fits : (k : ℕ) (ms : List ℕ) → ((i : ℕ) → getD ms i 0 < 2 ^ k) → (all : ℕ) (xs : List ℕ) → all < 2 ^ k → joined ms all xs < 2 ^ k
 unfolding joined
-joined-fits ms w all [] h = h
-joined-fits ms w all (x ∷ xs) h = joined-fits ms w (bitOr all (getD ms x 0)) xs (or-lt 32 all (getD ms x 0) h (w x))
+joined-fits k ms w all [] h = h
+joined-fits k ms w all (x ∷ xs) h = joined-fits k ms w (bitOr all (getD ms x 0)) xs (or-lt k all (getD ms x 0) h (w x))
 
 -- the loop over the operands: one turn, and the end
 module _ (t ms : List ℕ) (e : ℕ) (few : operandCount t e ≤ 6) where
-  pub joined-turn : (all i : ℕ) → i < operandCount t e → joined ms all (drop i (operands t e)) ≡ joined ms (bitOr all (getD ms (operand t e i) 0)) (drop (i + 1) (operands t e))
+  pub joined-turn : (all i : ℕ) → i < operandCount t e → joined ms all (drop i (operands t e)) ≡ joined ms (bitOr all (getD ms (wordAt t e (2 + i)) 0)) (drop (i + 1) (operands t e))
   unfolding joined
   joined-turn all i h =
       let l : i < length (operands t e) = omega (arith, length-operands t e few) in
@@ -83,16 +84,16 @@ module _ (t ms : List ℕ) (e : ℕ) (few : operandCount t e ≤ 6) where
 
 -- ---- the rule of an entry
 
-module _ (t ms : List ℕ) (e : ℕ) where
-  pub ruled-joined : kindOf t e ≢ 16 → kindOf t e ≢ 18 → ruled t ms e ≡ joinedOperands t ms e
+module _ (W : ℕ) (t ms : List ℕ) (e : ℕ) where
+  pub ruled-joined : kindOf t e ≢ 16 → kindOf t e ≢ 18 → ruled W t ms e ≡ joinedOperands t ms e
   unfolding ruled
   ruled-joined n m = rw (ne-eqb (kindOf t e) 16 n, ne-eqb (kindOf t e) 18 m)
 
-  pub ruled-scope : kindOf t e ≡ 16 → ruled t ms e ≡ bitAnd (joinedOperands t ms e) (4294967295 - argumentOf t e)
+  pub ruled-scope : kindOf t e ≡ 16 → ruled W t ms e ≡ bitAnd (getD ms (wordAt t e (1 + W)) 0) (full W - maskBy W t e)
   unfolding ruled
   ruled-scope k = rw (eq-eqb (kindOf t e) 16 k)
 
-  pub ruled-variable : kindOf t e ≡ 18 → ruled t ms e ≡ 2 ^ argumentOf t e
+  pub ruled-variable : kindOf t e ≡ 18 → ruled W t ms e ≡ 2 ^ argumentOf t e
   unfolding ruled
   ruled-variable k = rw (ne-eqb (kindOf t e) 16 (other 18 16 k refl), eq-eqb (kindOf t e) 18 k)
 
@@ -100,84 +101,81 @@ module _ (t ms : List ℕ) (e : ℕ) where
 only : {x y : ℕ} → In y (x ∷ []) → x ≡ y
 only here = refl
 
-module _ (t : List ℕ) where
+module _ (W : ℕ) (t : List ℕ) where
   -- by its sort, what a bit stands for
-  pub as-strategy : {x v : ℕ} → Of t x v → kindOf t x ≤ 17 → Free (table t) x v
+  pub as-strategy : {x v : ℕ} → Of W t x v → kindOf t x ≤ 17 → Free (tableBy W t) x v
   as-strategy (strategy h f) l = f
   as-strategy (pattern h f) l = absurd (omega arith)
 
-  as-pattern : {x v : ℕ} → Of t x v → 18 ≤ kindOf t x → Variable (table t) x v
+  as-pattern : {x v : ℕ} → Of W t x v → 18 ≤ kindOf t x → Variable (tableBy W t) x v
   as-pattern (strategy h f) l = absurd (omega arith)
   as-pattern (pattern h f) l = f
 
 -- ---- soundness: the rules give nothing else
 
-module _ (t ms : List ℕ) (sound : BitsMeant t ms) (e v : ℕ) where
+module _ (W : ℕ) (t ms : List ℕ) (sound : BitsMeant W t ms) (e v : ℕ) where
   -- the operand that has the variable
   operand-with : has (joinedOperands t ms e) v ≡ true → (y : ℕ) × In y (operands t e) × (has (getD ms y 0) v ≡ true)
   operand-with h = ⊎-elim (λ z. absurd (false≢true (sym (has-nothing v) ∙ z))) (λ z. z) (of-joined ms v 0 (operands t e) h)
 
   -- an operand in which it is free, and one of which it is a variable
-  by-strategy : Strategies t e → has (joinedOperands t ms e) v ≡ true → (y : ℕ) × In y (operands t e) × Free (table t) y v
-  by-strategy s h = let (y, i, b) = operand-with h in (y, i, as-strategy t (sound y v b) (s y i .1))
+  by-strategy : Strategies W t e → has (joinedOperands t ms e) v ≡ true → (y : ℕ) × In y (operands t e) × Free (tableBy W t) y v
+  by-strategy s h = let (y, i, b) = operand-with h in (y, i, as-strategy W t (sound y v b) (s y i .1))
 
-  by-pattern : Patterns t e → has (joinedOperands t ms e) v ≡ true → (y : ℕ) × In y (operands t e) × Variable (table t) y v
-  by-pattern s h = let (y, i, b) = operand-with h in (y, i, as-pattern t (sound y v b) (s y i .1))
+  by-pattern : Patterns W t e → has (joinedOperands t ms e) v ≡ true → (y : ℕ) × In y (operands t e) × Variable (tableBy W t) y v
+  by-pattern s h = let (y, i, b) = operand-with h in (y, i, as-pattern W t (sound y v b) (s y i .1))
 
   -- of one operand
-  one-strategy : {x : ℕ} → operands t e ≡ x ∷ [] → Strategies t e → has (joinedOperands t ms e) v ≡ true → Free (table t) x v
-  one-strategy {x} o s h = let (y, i, f) = by-strategy s h in subst (λ y. Free (table t) y v) (sym (only (subst (In y) o i))) f
-
-  one-pattern : {x : ℕ} → operands t e ≡ x ∷ [] → Patterns t e → has (joinedOperands t ms e) v ≡ true → Variable (table t) x v
-  one-pattern {x} o s h = let (y, i, f) = by-pattern s h in subst (λ y. Variable (table t) y v) (sym (only (subst (In y) o i))) f
+  one-pattern : {x : ℕ} → operands t e ≡ x ∷ [] → Patterns W t e → has (joinedOperands t ms e) v ≡ true → Variable (tableBy W t) x v
+  one-pattern {x} o s h = let (y, i, f) = by-pattern s h in subst (λ y. Variable (tableBy W t) y v) (sym (only (subst (In y) o i))) f
 
   -- by the entry's shape
-  ruled-sound : Shape t e → has (ruled t ms e) v ≡ true → Of t e v
+  ruled-sound : Shape W t e → has (ruled W t ms e) v ≡ true → Of W t e v
   ruled-sound (is-plain k n p o s) h =
-      let (y, i, f) = by-strategy s (rw (ruled-joined t ms e n (λ z. absurd (omega arith))) at h) in
+      let (y, i, f) = by-strategy s (rw (ruled-joined W t ms e n (λ z. absurd (omega arith))) at h) in
       strategy k (in-operand refl (subst (In y) (sym o) i) f)
   ruled-sound (is-match k q o s) h =
-      strategy (omega arith) (in-match q (one-pattern o s (rw (ruled-joined t ms e (other 14 16 k refl) (other 14 18 k refl)) at h)))
+      strategy (omega arith) (in-match q (one-pattern o s (rw (ruled-joined W t ms e (other 14 16 k refl) (other 14 18 k refl)) at h)))
   ruled-sound (is-build k q o s) h =
-      strategy (omega arith) (in-build q (one-pattern o s (rw (ruled-joined t ms e (other 15 16 k refl) (other 15 18 k refl)) at h)))
-  ruled-sound (is-scope k q o a s) h =
-      let both = and-true _ _ (sym (has-and (joinedOperands t ms e) (4294967295 - argumentOf t e) v) ∙ rw (ruled-scope t ms e k) at h) in
-      strategy (omega arith) (in-scope q (not-has (argumentOf t e) v a (both .1)) (one-strategy o s (both .0)))
+      strategy (omega arith) (in-build q (one-pattern o s (rw (ruled-joined W t ms e (other 15 16 k refl) (other 15 18 k refl)) at h)))
+  ruled-sound (is-scope k q a s) h =
+      let both = and-true _ _ (sym (has-and (getD ms (wordAt t e (1 + W)) 0) (full W - maskBy W t e) v) ∙ rw (ruled-scope W t ms e k) at h) in
+      strategy (omega arith) (in-scope q (not-has (variablesBy W) (maskBy W t e) v a (both .1)) (as-strategy W t (sound (wordAt t e (1 + W)) v (both .0)) (s .1)))
   ruled-sound (is-variable k q a) h =
-      let z : v ≡ argumentOf t e = eqb-true _ _ (sym (has-one (argumentOf t e) v) ∙ rw (ruled-variable t ms e k) at h) in
+      let z : v ≡ argumentOf t e = eqb-true _ _ (sym (has-one (argumentOf t e) v) ∙ rw (ruled-variable W t ms e k) at h) in
       pattern (omega arith) (var (q ∙ ap PVAR (sym z)))
   ruled-sound (is-con k q s) h =
-      let (y, i, f) = by-pattern s (rw (ruled-joined t ms e (other 19 16 k refl) (other 19 18 k refl)) at h) in
+      let (y, i, f) = by-pattern s (rw (ruled-joined W t ms e (other 19 16 k refl) (other 19 18 k refl)) at h) in
       pattern (omega arith) (part q i f)
 
 -- ---- a turn and a pass
 
--- how far the masks are from full
-pub room : List ℕ → ℕ
-room [] = 0
-room (m ∷ ms) = (4294967295 - m) + room ms
+-- how far the masks are from the full mask f
+pub room : ℕ → List ℕ → ℕ
+room f [] = 0
+room f (m ∷ ms) = (f - m) + room f ms
 
 -- a greater mask leaves less room
-room-set : (ms : List ℕ) (i m : ℕ) → i < length ms → getD ms i 0 < m → m ≤ 4294967295 → room (set ms i m) < room ms
+room-set : (f : ℕ) (ms : List ℕ) (i m : ℕ) → i < length ms → getD ms i 0 < m → m ≤ f → room f (set ms i m) < room f ms
 unfolding room
-room-set [] i m h l k = absurd (omega arith)
-room-set (x ∷ ms) zero m h l k = omega arith
-room-set (x ∷ ms) (suc i) m h l k = let r = room-set ms i m (omega arith) l k in omega arith
+room-set f [] i m h l k = absurd (omega arith)
+room-set f (x ∷ ms) zero m h l k = omega arith
+room-set f (x ∷ ms) (suc i) m h l k = let r = room-set f ms i m (omega arith) l k in omega arith
 
 -- a mask that does not grow stays
-pub stays : (t ms : List ℕ) (e : ℕ) → grows t ms e ≡ false → fuller t ms e ≡ getD ms e 0
+pub stays : (W : ℕ) (t ms : List ℕ) (e : ℕ) → grows W t ms e ≡ false → fuller W t ms e ≡ getD ms e 0
 unfolding grows
-stays t ms e h = eqb-true _ _ (go _ h)
+stays W t ms e h = eqb-true _ _ (go _ h)
   where
     go : (b : Bool) → not b ≡ false → b ≡ true
     go true h = refl
     go false h = absurd (true≢false h)
 
 -- what holds of the masks between two passes
-pub record State (t ms : List ℕ) : Type 0 where
+pub record State (W : ℕ) (t ms : List ℕ) : Type 0 where
   pub long : rows t ≤ length ms
-  pub fits : (i : ℕ) → getD ms i 0 < 2 ^ 32
-  pub sound : BitsMeant t ms
+  pub fits : (i : ℕ) → getD ms i 0 < 2 ^ variablesBy W
+  pub sound : BitsMeant W t ms
 
 -- a mask that was put, and the others
 put-at : (P : ℕ → ℕ → Type 0) (ms : List ℕ) (e m : ℕ) → e < length ms → P e m → ((x : ℕ) → P x (getD ms x 0)) → (x : ℕ) → P x (getD (set ms e m) x 0)
@@ -186,62 +184,62 @@ put-at P ms e m l h o x =
     (λ z. let q : x ≡ e = eqb-true x e z in subst (λ x. P x (getD (set ms e m) x 0)) (sym q) (rw (getD-set-same ms e m 0) h))
     (λ z. let n : x ≢ e = eqb-false x e z in rw (getD-set-other ms e x m 0) (o x))
 
-module _ (t ms : List ℕ) (e : ℕ) (s : State t ms) (inside : e < rows t) (good : Entry t e) where
+module _ (W : ℕ) (some : 0 < W) (t ms : List ℕ) (e : ℕ) (s : State W t ms) (inside : e < rows t) (good : EntryBy W t e) where
   -- e has a mask
   within : e < length ms
   within = omega (arith, s .long)
 
   -- what a rule gives fits
-  ruled-fits : Shape t e → ruled t ms e < 2 ^ 32
-  ruled-fits (is-plain k n p o f) = rw (ruled-joined t ms e n (λ z. absurd (omega arith))) (joined-fits ms (s .fits) 0 _ (omega arith))
-  ruled-fits (is-match k q o f) = rw (ruled-joined t ms e (other 14 16 k refl) (other 14 18 k refl)) (joined-fits ms (s .fits) 0 _ (omega arith))
-  ruled-fits (is-build k q o f) = rw (ruled-joined t ms e (other 15 16 k refl) (other 15 18 k refl)) (joined-fits ms (s .fits) 0 _ (omega arith))
-  ruled-fits (is-scope k q o a f) = rw (ruled-scope t ms e k) (omega (arith, and-le-r (joinedOperands t ms e) (4294967295 - argumentOf t e)))
-  ruled-fits (is-variable k q a) = rw (ruled-variable t ms e k) (pow-lt {j = 32} (omega arith))
-  ruled-fits (is-con k q f) = rw (ruled-joined t ms e (other 19 16 k refl) (other 19 18 k refl)) (joined-fits ms (s .fits) 0 _ (omega arith))
+  ruled-fits : Shape W t e → ruled W t ms e < 2 ^ variablesBy W
+  ruled-fits (is-plain k n p o f) = rw (ruled-joined W t ms e n (λ z. absurd (omega arith))) (joined-fits (variablesBy W) ms (s .fits) 0 _ (omega (arith, s .fits 0)))
+  ruled-fits (is-match k q o f) = rw (ruled-joined W t ms e (other 14 16 k refl) (other 14 18 k refl)) (joined-fits (variablesBy W) ms (s .fits) 0 _ (omega (arith, s .fits 0)))
+  ruled-fits (is-build k q o f) = rw (ruled-joined W t ms e (other 15 16 k refl) (other 15 18 k refl)) (joined-fits (variablesBy W) ms (s .fits) 0 _ (omega (arith, s .fits 0)))
+  ruled-fits (is-scope k q a f) = rw (ruled-scope W t ms e k) (omega (arith, a, and-le-r (getD ms (wordAt t e (1 + W)) 0) (full W - maskBy W t e)))
+  ruled-fits (is-variable k q a) = rw (ruled-variable W t ms e k) (pow-lt {j = variablesBy W} a)
+  ruled-fits (is-con k q f) = rw (ruled-joined W t ms e (other 19 16 k refl) (other 19 18 k refl)) (joined-fits (variablesBy W) ms (s .fits) 0 _ (omega (arith, s .fits 0)))
 
   -- a fuller mask fits, and stands for nothing else
-  fuller-fits : fuller t ms e < 2 ^ 32
+  fuller-fits : fuller W t ms e < 2 ^ variablesBy W
   unfolding fuller
-  fuller-fits = or-lt 32 (getD ms e 0) (ruled t ms e) (s .fits e) (ruled-fits (shape t e good))
+  fuller-fits = or-lt (variablesBy W) (getD ms e 0) (ruled W t ms e) (s .fits e) (ruled-fits (shape W t e some good))
 
-  fuller-sound : (v : ℕ) → has (fuller t ms e) v ≡ true → Of t e v
+  fuller-sound : (v : ℕ) → has (fuller W t ms e) v ≡ true → Of W t e v
   unfolding fuller
-  fuller-sound v h = ⊎-elim (s .sound e v) (ruled-sound t ms (s .sound) e v (shape t e good)) (either _ _ (sym (has-or (getD ms e 0) (ruled t ms e) v) ∙ h))
+  fuller-sound v h = ⊎-elim (s .sound e v) (ruled-sound W t ms (s .sound) e v (shape W t e some good)) (either _ _ (sym (has-or (getD ms e 0) (ruled W t ms e) v) ∙ h))
 
   -- a turn keeps what holds
-  grown-state : State t (grown t ms e)
+  grown-state : State W t (grown W t ms e)
   unfolding grown
   grown-state =
       record {
         long = rw length-set (s .long);
-        fits = put-at (λ x m. m < 2 ^ 32) ms e (fuller t ms e) within fuller-fits (s .fits);
-        sound = put-at (λ x m. (v : ℕ) → has m v ≡ true → Of t x v) ms e (fuller t ms e) within fuller-sound (s .sound);
+        fits = put-at (λ x m. m < 2 ^ variablesBy W) ms e (fuller W t ms e) within fuller-fits (s .fits);
+        sound = put-at (λ x m. (v : ℕ) → has m v ≡ true → Of W t x v) ms e (fuller W t ms e) within fuller-sound (s .sound);
       }
 
   -- masks of which none grows stay
-  grown-stays : grows t ms e ≡ false → grown t ms e ≡ ms
+  grown-stays : grows W t ms e ≡ false → grown W t ms e ≡ ms
   unfolding grown
-  grown-stays h = rw (stays t ms e h) (set-getD ms e 0)
+  grown-stays h = rw (stays W t ms e h) (set-getD ms e 0)
 
   -- one that grows leaves less room
-  grown-less : grows t ms e ≡ true → room (grown t ms e) < room ms
+  grown-less : grows W t ms e ≡ true → room (full W) (grown W t ms e) < room (full W) ms
   unfolding grows grown fuller
   grown-less h =
-      let n : fuller t ms e ≢ getD ms e 0 = eqb-false _ _ (go _ h) in
-      room-set ms e (fuller t ms e) within (omega (arith, or-grows (getD ms e 0) (ruled t ms e), n)) (omega (arith, fuller-fits))
+      let n : fuller W t ms e ≢ getD ms e 0 = eqb-false _ _ (go _ h) in
+      room-set (full W) ms e (fuller W t ms e) within (omega (arith, or-grows (getD ms e 0) (ruled W t ms e), n)) (omega (arith, fuller-fits))
     where
       go : (b : Bool) → not b ≡ true → b ≡ false
       go true h = absurd (false≢true h)
       go false h = refl
 
 -- what the turns of the entries below n do
-pub record Pass (t : List ℕ) (n : ℕ) (ms : List ℕ) : Type 0 where
-  pub state : State t (passed t n ms)
-  pub most : room (passed t n ms) ≤ room ms
-  pub less : changed t n ms ≡ true → room (passed t n ms) < room ms
-  pub still : changed t n ms ≡ false → passed t n ms ≡ ms
-  pub none : changed t n ms ≡ false → (e : ℕ) → e < n → grows t ms e ≡ false
+pub record Pass (W : ℕ) (t : List ℕ) (n : ℕ) (ms : List ℕ) : Type 0 where
+  pub state : State W t (passed W t n ms)
+  pub most : room (full W) (passed W t n ms) ≤ room (full W) ms
+  pub less : changed W t n ms ≡ true → room (full W) (passed W t n ms) < room (full W) ms
+  pub still : changed W t n ms ≡ false → passed W t n ms ≡ ms
+  pub none : changed W t n ms ≡ false → (e : ℕ) → e < n → grows W t ms e ≡ false
 
 -- neither test holds where their disjunction does not
 neither : (a b : Bool) → a || b ≡ false → (a ≡ false) × (b ≡ false)
@@ -249,78 +247,78 @@ neither true b e = absurd (true≢false e)
 neither false b e = (refl, e)
 
 -- by induction: the highest entry's turn, then those below it
-pub pass-does : (t : List ℕ) → GoodTable t → (n : ℕ) → n ≤ rows t → (ms : List ℕ) → State t ms → Pass t n ms
+pub pass-does : (W : ℕ) → 0 < W → (t : List ℕ) → GoodTableBy W t → (n : ℕ) → n ≤ rows t → (ms : List ℕ) → State W t ms → Pass W t n ms
 unfolding passed changed
-pass-does t good zero l ms s =
+pass-does W some t good zero l ms s =
     record { state = s; most = omega arith; less = λ h. absurd (false≢true h); still = λ h. refl; none = λ h e k. absurd (omega arith) }
-pass-does t good (suc e) l ms s =
+pass-does W some t good (suc e) l ms s =
     let inside : e < rows t = omega arith in
-    let entry : Entry t e = entry-of t good e inside in
-    let r : Pass t e (grown t ms e) = pass-does t good e (omega arith) (grown t ms e) (grown-state t ms e s inside entry) in
-    let least : room (grown t ms e) ≤ room ms =
-    decided (grows t ms e) (λ h. let k = grown-less t ms e s inside entry h in omega arith) (λ h. rw (grown-stays t ms e s inside entry h) (omega arith)) in
+    let entry : EntryBy W t e = entry-of W t good e inside in
+    let r : Pass W t e (grown W t ms e) = pass-does W some t good e (omega arith) (grown W t ms e) (grown-state W some t ms e s inside entry) in
+    let least : room (full W) (grown W t ms e) ≤ room (full W) ms =
+    decided (grows W t ms e) (λ h. let k = grown-less W some t ms e s inside entry h in omega arith) (λ h. rw (grown-stays W some t ms e s inside entry h) (omega arith)) in
     record {
       state = r .state;
       most = omega (arith, r .most);
       less = λ h.
-          ⊎-elim (λ g. let k = grown-less t ms e s inside entry g in omega (arith, r .most)) (λ g. let k = r .less g in omega arith) (either _ _ h);
-      still = λ h. let (g, k) = neither _ _ h in r .still k ∙ grown-stays t ms e s inside entry g;
+          ⊎-elim (λ g. let k = grown-less W some t ms e s inside entry g in omega (arith, r .most)) (λ g. let k = r .less g in omega arith) (either _ _ h);
+      still = λ h. let (g, k) = neither _ _ h in r .still k ∙ grown-stays W some t ms e s inside entry g;
       none = λ h x b.
           let (g, k) = neither _ _ h in
           decided (eqb x e)
           (λ z. let q : x ≡ e = eqb-true x e z in rw q g)
-          (λ z. let q : x ≢ e = eqb-false x e z in subst (λ ms. grows t ms x ≡ false) (grown-stays t ms e s inside entry g) (r .none k x (omega arith)));
+          (λ z. let q : x ≢ e = eqb-false x e z in subst (λ ms. grows W t ms x ≡ false) (grown-stays W some t ms e s inside entry g) (r .none k x (omega arith)));
     }
 
 -- the loop over the entries: one turn, and the end
-module _ (t ms : List ℕ) (e : ℕ) where
-  module _ (some : 0 < e) (g : Bool) (ms′ : List ℕ) (r : g ≡ grows t ms (e - 1)) (p : ms′ ≡ grown t ms (e - 1)) where
+module _ (W : ℕ) (t ms : List ℕ) (e : ℕ) where
+  module _ (some : 0 < e) (g : Bool) (ms′ : List ℕ) (r : g ≡ grows W t ms (e - 1)) (p : ms′ ≡ grown W t ms (e - 1)) where
     last : e ≡ suc (e - 1)
     last = omega arith
 
-    pub pass-turn : passed t (e - 1) ms′ ≡ passed t e ms
+    pub pass-turn : passed W t (e - 1) ms′ ≡ passed W t e ms
     unfolding passed
-    pass-turn = rw p (sym (ap (λ (n : ℕ). passed t n ms) last))
+    pass-turn = rw p (sym (ap (λ (n : ℕ). passed W t n ms) last))
 
-    either-way : changed t e ms ≡ g || changed t (e - 1) ms′
+    either-way : changed W t e ms ≡ g || changed W t (e - 1) ms′
     unfolding changed
-    either-way = ap (λ (n : ℕ). changed t n ms) last ∙ rw (r, p)
+    either-way = ap (λ (n : ℕ). changed W t n ms) last ∙ rw (r, p)
 
-    pub changed-grew : (any : Bool) → g ≡ true → true ≡ any || changed t e ms
+    pub changed-grew : (any : Bool) → g ≡ true → true ≡ any || changed W t e ms
     changed-grew any h = rw (either-way, h) (sym (or-true any))
 
-    pub changed-same : (any : Bool) → g ≡ false → any || changed t (e - 1) ms′ ≡ any || changed t e ms
+    pub changed-same : (any : Bool) → g ≡ false → any || changed W t (e - 1) ms′ ≡ any || changed W t e ms
     changed-same any h = rw (either-way, h)
 
-  pub pass-end : e ≤ 0 → passed t e ms ≡ ms
+  pub pass-end : e ≤ 0 → passed W t e ms ≡ ms
   unfolding passed
   pass-end h = let z : e ≡ 0 = omega arith in rw z
 
-  pub changed-end : (any : Bool) → e ≤ 0 → any || changed t e ms ≡ any
+  pub changed-end : (any : Bool) → e ≤ 0 → any || changed W t e ms ≡ any
   unfolding changed
   changed-end any h = let z : e ≡ 0 = omega arith in rw z (or-false any)
 
 -- the turns that the loop of passes has left: the last one says that nothing changed
-abbrev pub turns : Bool → List ℕ → ℕ
-turns true ms = suc (room ms)
-turns false ms = 0
+abbrev pub turns : ℕ → Bool → List ℕ → ℕ
+turns W true ms = suc (room (full W) ms)
+turns W false ms = 0
 
 -- after one more pass
-module _ (t ms : List ℕ) (good : GoodTable t) (s : State t ms) (more : Bool) (ms′ : List ℕ) (m : more ≡ changed t (rows t) ms) (p : ms′ ≡ passed t (rows t) ms) where
-  does : Pass t (rows t) ms
-  does = pass-does t good (rows t) (omega arith) ms s
+module _ (W : ℕ) (some : 0 < W) (t ms : List ℕ) (good : GoodTableBy W t) (s : State W t ms) (more : Bool) (ms′ : List ℕ) (m : more ≡ changed W t (rows t) ms) (p : ms′ ≡ passed W t (rows t) ms) where
+  does : Pass W t (rows t) ms
+  does = pass-does W some t good (rows t) (omega arith) ms s
 
-  pub turn-state : State t ms′
+  pub turn-state : State W t ms′
   turn-state = rw p (does .state)
 
-  pub turn-less : turns more ms′ < suc (room ms)
+  pub turn-less : turns W more ms′ < suc (room (full W) ms)
   turn-less = go more m
     where
-      go : (b : Bool) → b ≡ changed t (rows t) ms → turns b ms′ < suc (room ms)
+      go : (b : Bool) → b ≡ changed W t (rows t) ms → turns W b ms′ < suc (room (full W) ms)
       go true e = let l = does .less (sym e) in rw p (omega arith)
       go false e = omega arith
 
-  pub turn-settled : more ≡ false → Settled t ms′
+  pub turn-settled : more ≡ false → Settled W t ms′
   turn-settled z e h =
-      let none : changed t (rows t) ms ≡ false = sym m ∙ z in
+      let none : changed W t (rows t) ms ≡ false = sym m ∙ z in
       rw (p ∙ does .still none) (does .none none e h)

@@ -10,17 +10,18 @@ use lib.Dec.{eqb}
 use lib.ListN.{length}
 use borrow.Author.Tests.{ne-eqb, eqb-true, eqb-false}
 use Rattle.words.specs.Tests.{if_then_else_}
+use Rattle.checks.specs.Kinds.{variablesBy}
 use Rattle.checks.specs.declared.Checked.{Checked}
-use Rattle.checks.specs.Checked.{checked, tableChecked}
+use Rattle.checks.specs.Checked.{checked, tableCheckedBy}
 use Rattle.checks.proofs.Promises.{Known, passes-all, refuses-length, rejects-at, known}
 use Rattle.checks.proofs.Promises as checks
 use Rattle.meaning.specs.Bindings.{has}
 use Rattle.meaning.proofs.Tests.{decided}
 use Rattle.free.specs.declared.FreeVariables.{FreeVariables}
-use Rattle.free.specs.Answered.{isStrategy, asked, MaskOf, Answered}
+use Rattle.free.specs.Answered.{isStrategy, askedBy, MaskOfBy, AnsweredBy}
 use Rattle.free.specs.Promises as promises
 use Rattle.meaning.proofs.Bits.{same-mask}
-use Rattle.free.proofs.Smallest.{below-32, strategy-plain}
+use Rattle.free.proofs.Smallest.{free-below, strategy-plain}
 
 -- two tests that hold together are one
 same-test : (a b : Bool) → (a ≡ true → b ≡ true) → (b ≡ true → a ≡ true) → a ≡ b
@@ -29,13 +30,13 @@ same-test false true f g = absurd (false≢true (g refl))
 same-test false false f g = refl
 
 -- two masks of the free variables of e are one
-masks-agree : (t : List ℕ) (e m n : ℕ) → MaskOf t e m → MaskOf t e n → m ≡ n
-masks-agree t e m n a b =
-    same-mask 32 m n (a .fits) (b .fits)
+masks-agree : (W : ℕ) (t : List ℕ) (e m n : ℕ) → MaskOfBy W t e m → MaskOfBy W t e n → m ≡ n
+masks-agree W t e m n a b =
+    same-mask (variablesBy W) m n (a .fits) (b .fits)
     (λ v. same-test (has m v) (has n v) (λ h. b .free v .1 (a .free v .0 h)) (λ h. a .free v .1 (b .free v .0 h)))
 
 pub agrees : promises.agrees
-agrees t e r r′ a b =
+agrees W t e r r′ a b =
     let q : checked (r .answer) (r .place) ≡ checked (r′ .answer) (r′ .place) = a .outcome ∙ sym (b .outcome) in
     let x : r .answer ≡ r′ .answer = ap (λ (c : Checked). c .answer) q in
     let y : r .place ≡ r′ .place = ap (λ (c : Checked). c .place) q in
@@ -43,7 +44,7 @@ agrees t e r r′ a b =
     decided (eqb (r .answer) 0)
     (λ h.
     let k : r .answer ≡ 0 = eqb-true _ _ h in
-    masks-agree t e (r .mask) (r′ .mask) (a .mask k) (b .mask (sym x ∙ k)))
+    masks-agree W t e (r .mask) (r′ .mask) (a .mask k) (b .mask (sym x ∙ k)))
     (λ h.
     let k : r .answer ≢ 0 = eqb-false _ _ h in
     a .refused k ∙ sym (b .refused (λ w. k (x ∙ w)))) in
@@ -132,42 +133,42 @@ not-fact : {A : Type 0} (b : Bool) → b ≡ true ↔ A → b ≡ false ↔ ¬ A
 not-fact true f = (λ e. absurd (true≢false e), λ n. absurd (n (f .0 refl)))
 not-fact false f = (λ e x. false≢true (f .1 x), λ n. refl)
 
-module _ (t : List ℕ) (e : ℕ) (r : FreeVariables) (a : Answered t e r) where
-  is-outcome : checked (r .answer) (r .place) ≡ outcome (tableChecked t) (isStrategy t e)
-  unfolding outcome asked
+module _ (W : ℕ) (t : List ℕ) (e : ℕ) (r : FreeVariables) (a : AnsweredBy W t e r) where
+  is-outcome : checked (r .answer) (r .place) ≡ outcome (tableCheckedBy W t) (isStrategy t e)
+  unfolding outcome askedBy
   is-outcome = a .outcome
 
-  is-answer : r .answer ≡ outcome (tableChecked t) (isStrategy t e) .answer
+  is-answer : r .answer ≡ outcome (tableCheckedBy W t) (isStrategy t e) .answer
   is-answer = ap (λ (c : Checked). c .answer) is-outcome
 
-  is-place : r .place ≡ outcome (tableChecked t) (isStrategy t e) .place
+  is-place : r .place ≡ outcome (tableCheckedBy W t) (isStrategy t e) .place
   is-place = ap (λ (c : Checked). c .place) is-outcome
 
-  same-answer : (n : ℕ) → r .answer ≡ n ↔ outcome (tableChecked t) (isStrategy t e) .answer ≡ n
+  same-answer : (n : ℕ) → r .answer ≡ n ↔ outcome (tableCheckedBy W t) (isStrategy t e) .answer ≡ n
   same-answer n = (λ h. sym is-answer ∙ h, λ h. is-answer ∙ h)
 
-  same-place : (n : ℕ) → r .place ≡ n ↔ outcome (tableChecked t) (isStrategy t e) .place ≡ n
+  same-place : (n : ℕ) → r .place ≡ n ↔ outcome (tableCheckedBy W t) (isStrategy t e) .place ≡ n
   same-place n = (λ h. sym is-place ∙ h, λ h. is-place ∙ h)
 
 pub refusesLength : promises.refusesLength
-refusesLength t e r a = in-turn (same-answer t e r a 2) (in-turn (answer-2 (isStrategy t e) (known t)) (checks.tableRefuses t))
+refusesLength W t e r a = in-turn (same-answer W t e r a 2) (in-turn (answer-2 (isStrategy t e) (known W t)) (checks.tableRefuses W t))
 
 pub refusesEntry : promises.refusesEntry
-refusesEntry t e n p r l a =
-    in-turn (both (same-answer t e r a n) (same-place t e r a p)) (in-turn (answer-entry (isStrategy t e) n p l (known t)) (checks.tableRejects t n p l))
+refusesEntry W t e n p r l a =
+    in-turn (both (same-answer W t e r a n) (same-place W t e r a p)) (in-turn (answer-entry (isStrategy t e) n p l (known W t)) (checks.tableRejects W t n p l))
 
 pub neverThree : promises.neverThree
-neverThree t e r a h = answer-3 (isStrategy t e) (known t) (same-answer t e r a 3 .0 h)
+neverThree W t e r a h = answer-3 (isStrategy t e) (known W t) (same-answer W t e r a 3 .0 h)
 
 pub refusesStart : promises.refusesStart
-refusesStart t e r a =
-    in-turn (same-answer t e r a 5)
-    (in-turn (answer-5 (isStrategy t e) (known t)) (both (checks.tablePasses t) (not-fact (isStrategy t e) (strategy-plain t e))))
+refusesStart W t e r a =
+    in-turn (same-answer W t e r a 5)
+    (in-turn (answer-5 (isStrategy t e) (known W t)) (both (checks.tablePasses W t) (not-fact (isStrategy t e) (strategy-plain t e))))
 
 pub accepts : promises.accepts
-accepts t e r a =
-    in-turn (same-answer t e r a 0)
-    (in-turn (answer-0 (isStrategy t e) (known t)) (both (checks.tablePasses t) (strategy-plain t e)))
+accepts W t e r a =
+    in-turn (same-answer W t e r a 0)
+    (in-turn (answer-0 (isStrategy t e) (known W t)) (both (checks.tablePasses W t) (strategy-plain t e)))
 
 pub noneAbove : promises.noneAbove
-noneAbove t e v g s f = below-32 t g e v s f
+noneAbove W t e v some g s f = free-below W some t g e v s f

@@ -2,15 +2,16 @@
 use mathlib.Core.Path.{_≡_}
 use mathlib.Core.Bool.{Bool, true, false, not, _||_}
 use mathlib.Core.List.{List, [], _∷_}
-use Prim.Native.Nat.{ℕ, zero, suc, _-_, _^_, _≤_, _<_}
+use Prim.Native.Nat.{ℕ, zero, suc, _+_, _-_, _^_, _≤_, _<_}
 use lib.Dec.{eqb}
 use lib.ListN.{getD, set}
 use lib.Bits.{bitAnd, bitOr}
 use Rattle.words.specs.Tests.{if_then_else_}
-use Rattle.words.specs.Words.{rows}
-use Rattle.checks.specs.Good.{kindOf, argumentOf}
+use Rattle.words.specs.Words.{wordAt, rows}
+use Rattle.checks.specs.Kinds.{variablesBy}
+use Rattle.checks.specs.Good.{kindOf, argumentOf, maskBy}
 use Rattle.meaning.specs.Bindings.{has}
-use Rattle.meaning.specs.Table.{table, operands}
+use Rattle.meaning.specs.Table.{tableBy, operands}
 use Rattle.meaning.specs.Free.{Free, Variable}
 
 -- the mask `all` and the masks of the entries xs, joined
@@ -18,17 +19,21 @@ unfoldable pub joined : List ℕ → ℕ → List ℕ → ℕ
 joined ms all [] = all
 joined ms all (x ∷ xs) = joined ms (bitOr all (getD ms x 0)) xs
 
-module _ (t : List ℕ) where
-  -- the masks of e's operands, joined
-  abbrev pub joinedOperands : List ℕ → ℕ → ℕ
-  joinedOperands ms e = joined ms 0 (operands t e)
+-- the masks of e's operands, joined; e is no SCOPE
+abbrev pub joinedOperands : List ℕ → List ℕ → ℕ → ℕ
+joinedOperands t ms e = joined ms 0 (operands t e)
 
+-- the mask that has every variable
+abbrev pub full : ℕ → ℕ
+full W = 2 ^ variablesBy W - 1
+
+module _ (W : ℕ) (t : List ℕ) where
   -- what the rule of e gives: SCOPE removes its mask, a variable is its bit, and all others have their operands'
   unfoldable pub ruled : List ℕ → ℕ → ℕ
   ruled ms e =
-      if eqb (kindOf t e) 16 then bitAnd (joinedOperands ms e) (4294967295 - argumentOf t e)
+      if eqb (kindOf t e) 16 then bitAnd (getD ms (wordAt t e (1 + W)) 0) (full W - maskBy W t e)
       else if eqb (kindOf t e) 18 then 2 ^ argumentOf t e
-      else joinedOperands ms e
+      else joinedOperands t ms e
 
   -- e's mask with what its rule gives
   unfoldable pub fuller : List ℕ → ℕ → ℕ
@@ -54,8 +59,8 @@ module _ (t : List ℕ) where
 
   -- v is a variable of the pattern e, or free in the strategy e
   pub data Of (e v : ℕ) : Type 0 where
-    pattern : 18 ≤ kindOf t e → Variable (table t) e v → Of e v
-    strategy : kindOf t e ≤ 17 → Free (table t) e v → Of e v
+    pattern : 18 ≤ kindOf t e → Variable (tableBy W t) e v → Of e v
+    strategy : kindOf t e ≤ 17 → Free (tableBy W t) e v → Of e v
 
   -- every bit of a mask stands for a variable of its entry
   abbrev pub BitsMeant : List ℕ → Type 0

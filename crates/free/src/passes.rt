@@ -5,15 +5,18 @@ ghost use mathlib.Core.Path.{_≡_};
 ghost use Prim.Native.Nat.{_≤_, _<_};
 ghost use lib.ListN.{length, getD};
 ghost use Rattle.words.specs.Words.{rows};
+ghost use Rattle.checks.specs.Kinds.{ours};
 ghost use Rattle.checks.specs.Good.{operandCount};
 ghost use Rattle.checks.specs.Plain.{Entry};
-ghost use Rattle.free.specs.Answered.{MaskOf};
+ghost use Rattle.free.specs.Answered.{MaskOfBy};
 ghost use Rattle.free.specs.Passes.{joinedOperands, ruled, grown, grows, passed, changed, BitsMeant, Settled};
-ghost use Rattle.free.specs.Promises.{GoodTable, StrategyOf};
+ghost use Rattle.free.specs.Promises.{GoodTableBy, StrategyOf};
 use checks::entries::kind_of;
+use checks::entries::operand;
 use checks::entries::operand_count;
 use checks::kinds::PVAR;
 use checks::kinds::SCOPE;
+use checks::kinds::operands_from;
 use checks::rows::held;
 use words::word;
 
@@ -25,7 +28,7 @@ fn mask_at(masks: &[u32], x: u32) -> u32
     if i < masks.len() { masks[i] } else { 0 }
 }
 
-// The masks of entry e's operands, joined.
+// The masks of entry e's operands, joined; e is no SCOPE.
 fn joined(table: &[u32], masks: &[u32], e: u32) -> u32
     requires { ⌜ operandCount (now table) e ≤ 6 ⌝ }
     ensures { λ r. ⌜ r ≡ joinedOperands (now (table .entry)) (now (masks .entry)) e ⌝ }
@@ -43,10 +46,11 @@ fn joined(table: &[u32], masks: &[u32], e: u32) -> u32
 // What the rule of entry e gives of its operands' masks.
 fn rule(table: &[u32], masks: &[u32], e: u32) -> u32
     requires { ⌜ Entry (now table) e ⌝ }
-    ensures { λ r. ⌜ r ≡ ruled (now (table .entry)) (now (masks .entry)) e ⌝ }
+    ensures { λ r. ⌜ r ≡ ruled ours (now (table .entry)) (now (masks .entry)) e ⌝ }
 {
     match kind_of(table, e) {
-        SCOPE => joined(table, masks, e) & (4294967295 - word(table, e, 1)),
+        SCOPE => mask_at(masks, operand(table, e, operands_from(SCOPE), 0))
+            & (4294967295 - word(table, e, 1)),
         PVAR => 1 << word(table, e, 1),
         _ => joined(table, masks, e),
     }
@@ -55,7 +59,7 @@ fn rule(table: &[u32], masks: &[u32], e: u32) -> u32
 // Adds to entry e's mask what its rule gives. Whether the mask grew.
 fn grow(table: &[u32], masks: &mut [u32], e: u32) -> bool
     requires { ⌜ Entry (now table) e × (e < length (now masks)) ⌝ }
-    ensures { λ r. ⌜ (r ≡ grows (now (table .entry)) (now (masks .entry)) e) × (now (masks .exit) ≡ grown (now (table .entry)) (now (masks .entry)) e) ⌝ }
+    ensures { λ r. ⌜ (r ≡ grows ours (now (table .entry)) (now (masks .entry)) e) × (now (masks .exit) ≡ grown ours (now (table .entry)) (now (masks .entry)) e) ⌝ }
 {
     let old = mask_at(masks, e);
     let new = old | rule(table, masks, e);
@@ -65,8 +69,8 @@ fn grow(table: &[u32], masks: &mut [u32], e: u32) -> bool
 
 // One pass. Whether a mask grew.
 fn pass(table: &[u32], masks: &mut [u32]) -> bool
-    requires { ⌜ GoodTable (now table) × (rows (now table) ≤ length (now masks)) ⌝ }
-    ensures { λ r. ⌜ (r ≡ changed (now (table .entry)) (rows (now (table .entry))) (now (masks .entry))) × (now (masks .exit) ≡ passed (now (table .entry)) (rows (now (table .entry))) (now (masks .entry))) ⌝ }
+    requires { ⌜ GoodTableBy ours (now table) × (rows (now table) ≤ length (now masks)) ⌝ }
+    ensures { λ r. ⌜ (r ≡ changed ours (now (table .entry)) (rows (now (table .entry))) (now (masks .entry))) × (now (masks .exit) ≡ passed ours (now (table .entry)) (rows (now (table .entry))) (now (masks .entry))) ⌝ }
 {
     let mut any = false;
     let mut e = (table.len() / 8) as u32;
@@ -81,8 +85,8 @@ fn pass(table: &[u32], masks: &mut [u32]) -> bool
 
 // Passes until one adds nothing.
 fn settle(table: &[u32], masks: &mut [u32])
-    requires { ⌜ GoodTable (now table) × ((rows (now table) ≤ length (now masks)) × BitsMeant (now table) (now masks)) ⌝ }
-    ensures { λ _. ⌜ BitsMeant (now (table .entry)) (now (masks .exit)) × Settled (now (table .entry)) (now (masks .exit)) ⌝ }
+    requires { ⌜ GoodTableBy ours (now table) × ((rows (now table) ≤ length (now masks)) × BitsMeant ours (now table) (now masks)) ⌝ }
+    ensures { λ _. ⌜ BitsMeant ours (now (table .entry)) (now (masks .exit)) × Settled ours (now (table .entry)) (now (masks .exit)) ⌝ }
 {
     let mut more = true;
     while more {
@@ -92,8 +96,8 @@ fn settle(table: &[u32], masks: &mut [u32])
 
 // The mask of the free variables of the strategy e.
 pub fn mask_of(table: &[u32], e: u32) -> u32
-    requires { ⌜ GoodTable (now table) × StrategyOf (now table) e ⌝ }
-    ensures { λ r. ⌜ MaskOf (now (table .entry)) e r ⌝ }
+    requires { ⌜ GoodTableBy ours (now table) × StrategyOf (now table) e ⌝ }
+    ensures { λ r. ⌜ MaskOfBy ours (now (table .entry)) e r ⌝ }
 {
     let mut masks = [0u32; 4096];
     settle(table, &mut masks);

@@ -23,7 +23,7 @@ use Rattle.meaning.proofs.Bits.{bit-has, has-bit, no-bit-has, has-nothing, has-
 -- a mask without the variables of another
 has-without : (m h v : ℕ) → h < 4294967296 → v < variables → has (without m h) v ≡ has m v && not (has h v)
 unfolding without
-has-without m h v l k = has-and m (4294967295 - h) v ∙ ap (λ (b : Bool). has m v && b) (has-not h v l k)
+has-without m h v l k = has-and m (4294967295 - h) v ∙ ap (λ (b : Bool). has m v && b) (has-not 32 h v l k)
 
 -- the word of a variable, where it is bound
 abbrev if-bound : Bool → ℕ → Option ℕ

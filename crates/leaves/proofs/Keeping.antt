@@ -11,7 +11,7 @@ use borrow.Author.Tests.{leb-true, leb-false}
 use Rattle.words.specs.Words.{wordAt, rows}
 use Rattle.checks.specs.Good.{kindOf, operandCount, argumentOf, goodNode}
 use Rattle.meaning.specs.Bindings.{Bindings}
-use Rattle.meaning.specs.Table.{PVAR, PCON, operands, table}
+use Rattle.meaning.specs.Table.{PVAR, PCON, operands, table, tableBy}
 use Rattle.meaning.specs.Rules.{Visit, apply, build, does}
 use Rattle.meaning.specs.Derivation.{places}
 use Rattle.meaning.specs.Limits.{ended, lost, cut, at, run}
@@ -40,7 +40,7 @@ inside t e l h = go (leb (length t) (8 * e + 0)) refl
 
 -- every pattern of the table can be made
 makeable : (t : List ℕ) → Entries t → Makeable Holdable (table t)
-unfolding table
+unfolding tableBy
 makeable t n e a ps q = go (kindOf t e - 18) refl q
   where
     go : (d : ℕ) → kindOf t e - 18 ≡ d → getD (PVAR (argumentOf t e) ∷ PCON (argumentOf t e) (operands t e) ∷ []) d (PVAR 0) ≡ PCON a ps → Holdable a (length ps)

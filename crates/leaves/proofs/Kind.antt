@@ -5,9 +5,10 @@ use Prim.Native.Nat.{ℕ, zero, suc, _+_, _-_, _<_, _≤_}
 use native.Mathlib.Omega.{arith}
 use lib.ListN.{getD}
 use Rattle.words.specs.Words.{wordAt}
-use Rattle.checks.specs.Good.{kindOf, operandCount, argumentOf}
+use Rattle.checks.specs.Kinds.{ours}
+use Rattle.checks.specs.Good.{kindOf, operandCount, argumentOf, maskBy}
 use Rattle.meaning.specs.Bindings.{Bindings}
-use Rattle.meaning.specs.Table.{Strategy, ID, FAIL, TEST, NOT, SEQ, CHOICE, LEFT, REC, CALL, PATH, CONG, ALL, ONE, SOME, MATCH, BUILD, SCOPE, WHERE, Pattern, PVAR, PCON, table, byKind, operands}
+use Rattle.meaning.specs.Table.{Strategy, ID, FAIL, TEST, NOT, SEQ, CHOICE, LEFT, REC, CALL, PATH, CONG, ALL, ONE, SOME, MATCH, BUILD, SCOPE, WHERE, Pattern, PVAR, PCON, table, tableBy, byKind, operands}
 use Rattle.meaning.specs.Rules.{Visit, apply, match, build, Do, does, strategy, matching, building}
 use Rattle.meaning.specs.Limits.{units, nesting, ended, lost, cut, closed, run, runPlan}
 use Rattle.leaves.specs.Noted.{Standing, on, stored, Ran, leftOf}
@@ -54,16 +55,16 @@ module _ (t : List ℕ) (n : ℕ) (q : Visit ℕ) (w : List ℕ) (m : Standing) 
 
 -- an entry's strategy and its pattern, by its kind
 module _ (t : List ℕ) (e : ℕ) where
-  pub kind-is : (k : ℕ) → kindOf t e ≡ k → table t .strategies e ≡ getD (byKind (argumentOf t e) (wordAt t e 2) (wordAt t e 3) (operands t e)) k FAIL
-  unfolding table
-  kind-is k h = ap (λ (k : ℕ). getD (byKind (argumentOf t e) (wordAt t e 2) (wordAt t e 3) (operands t e)) k FAIL) h
+  pub kind-is : (k : ℕ) → kindOf t e ≡ k → table t .strategies e ≡ getD (byKind (argumentOf t e) (wordAt t e 2) (wordAt t e 3) (operands t e) (maskBy ours t e) (wordAt t e (1 + ours))) k FAIL
+  unfolding tableBy
+  kind-is k h = ap (λ (k : ℕ). getD (byKind (argumentOf t e) (wordAt t e 2) (wordAt t e 3) (operands t e) (maskBy ours t e) (wordAt t e (1 + ours))) k FAIL) h
 
   pub pattern-variable : kindOf t e ≡ 18 → table t .patterns e ≡ PVAR (argumentOf t e)
-  unfolding table
+  unfolding tableBy
   pattern-variable h = ap (λ (k : ℕ). getD (PVAR (argumentOf t e) ∷ PCON (argumentOf t e) (operands t e) ∷ []) (k - 18) (PVAR 0)) h
 
   pub pattern-con : kindOf t e ≡ 19 → table t .patterns e ≡ PCON (argumentOf t e) (operands t e)
-  unfolding table
+  unfolding tableBy
   pattern-con h = ap (λ (k : ℕ). getD (PVAR (argumentOf t e) ∷ PCON (argumentOf t e) (operands t e) ∷ []) (k - 18) (PVAR 0)) h
 
 -- the rule of a visited entry

@@ -17,16 +17,16 @@ use Rattle.words.proofs.Tests.{below-or-from}
 use Rattle.checks.specs.Good.{kindOf, argumentOf, operandCount, constructorOf, childCount}
 use Rattle.checks.specs.Signature.{Declared, entryObeys, nodeObeys}
 use Rattle.checks.specs.declared.Checked.{Checked}
-use Rattle.checks.specs.Checked.{checked, tableChecked}
+use Rattle.checks.specs.Checked.{checked, tableCheckedBy}
 use Rattle.checks.specs.Promises.{AllGood}
 use Rattle.checks.proofs.Promises.{tablePasses}
 use Rattle.checks.proofs.Obeying.{entryObeysPlain, nodeObeysPlain}
 use Rattle.meaning.specs.Bindings.{Bindings}
-use Rattle.meaning.specs.Table.{PVAR, PCON, operands, table}
+use Rattle.meaning.specs.Table.{PVAR, PCON, operands, tableBy}
 use Rattle.meaning.specs.Rules.{Visit, apply}
 use Rattle.meaning.specs.Derivation.{what, Notes}
 use Rattle.meaning.specs.Limits.{ended, lost, cut}
-use Rattle.meaning.specs.Store.{children, row, State, on, Left, rest, stored, named, bindings, Input, Accepted, Ran, ran, deepest, Kept}
+use Rattle.meaning.specs.Store.{children, row, State, on, Left, rest, stored, named, bindings, Input, AcceptedBy, Ran, ranBy, deepest, Kept}
 use Rattle.meaning.specs.Above.{inStore, SameBelow, same-ended, same-lost, same-cut, Above-mark, Obeyed}
 use Rattle.meaning.proofs.Tests.{impossible}
 use Rattle.meaning.proofs.Alike.{Holdable, Makeable, Worlds, ORel, o-none, o-some, LRel, l-nil, l-cons, BRel, QRel, q-apply, q-match, q-build, q-compare}
@@ -226,10 +226,10 @@ module _ (Had : ℕ → ℕ → Type 0) (held : (c n : ℕ) → Had c n → Hold
     each-left (e-cut o) k u b t q = impossible (cc)
 
     -- the run of an accepted input, and of another store with the same nodes
-    both : (i : Input) (w : List ℕ) (ν : N) → Accepted i → Makeable Had (table (i .table)) → Each (i .store) (i .mark) → Kept (i .store) (i .mark) w
-        → (v : Pair) × Ends below-mark v (ran Λ ν i) (ran Λ ν (inStore i w))
-    unfolding ran bindings named below-mark
-    both i w ν a mk f k = (start, simulates below-mark (table (i .table)) mk deepest start _ _ _ _ (i .units) (q-apply (record { is = refl; below = a .subject }) bound) (at-both ν))
+    both : (W : ℕ) (i : Input) (w : List ℕ) (ν : N) → AcceptedBy W i → Makeable Had (tableBy W (i .table)) → Each (i .store) (i .mark) → Kept (i .store) (i .mark) w
+        → (v : Pair) × Ends below-mark v (ranBy W Λ ν i) (ranBy W Λ ν (inStore i w))
+    unfolding ranBy bindings named below-mark
+    both W i w ν a mk f k = (start, simulates below-mark (tableBy W (i .table)) mk deepest start _ _ _ _ (i .units) (q-apply (record { is = refl; below = a .subject }) bound) (at-both ν))
       where
         start : Pair
         start = record { words = i .store; words′ = w; mark = i .mark; filled = store-filled (i .store) (i .mark) (a .store); each = f; same = k }
@@ -242,9 +242,9 @@ module _ (Had : ℕ → ℕ → Type 0) (held : (c n : ℕ) → Had c n → Hold
             go (suc n) h = o-some {h = n} (record { is = refl; below = omega arith })
 
 pub above-mark : Above-mark
-above-mark N Λ ν i w a k =
+above-mark W N Λ ν i w a k =
     same-below Holdable (λ c n o. o) Λ
-    (both Holdable (λ c n o. o) Λ i w ν a (table-makeable (i .table) (a .table)) (λ j l. store-filled (i .store) (i .mark) (a .store) .node j l .holdable) k .1)
+    (both Holdable (λ c n o. o) Λ W i w ν a (table-makeable W (i .table) (a .table)) (λ j l. store-filled (i .store) (i .mark) (a .store) .node j l .holdable) k .1)
 
 -- ---- a signature
 
@@ -253,16 +253,16 @@ record Lawful (g : List ℕ) (c n : ℕ) : Type 0 where
   holdable : Holdable c n
   declared : Declared g c n
 
-module _ (g t : List ℕ) (c : tableChecked t ≡ checked 0 0) (o : AllGood (entryObeys g t) (rows t)) where
+module _ (W : ℕ) (g t : List ℕ) (c : tableCheckedBy W t ≡ checked 0 0) (o : AllGood (entryObeys g t) (rows t)) where
   -- a PCON's constructor is declared with its operand count
   pattern-declared : (e : ℕ) → kindOf t e ≡ 19 → Declared g (argumentOf t e) (operandCount t e)
   pattern-declared e k =
-      let i : e < rows t = inside t e (tablePasses t .0 (ap (λ (c : Checked). c .answer) c) .0 .whole) (omega arith) in
+      let i : e < rows t = inside t e (tablePasses W t .0 (ap (λ (c : Checked). c .answer) c) .0 .whole) (omega arith) in
       entryObeysPlain g t e .0 (o e i) (inr k)
 
-  table-lawful : Makeable (Lawful g) (table t)
-  unfolding table
-  table-lawful e a ps q = record { holdable = table-makeable t c e a ps q; declared = go (kindOf t e - 18) refl q }
+  table-lawful : Makeable (Lawful g) (tableBy W t)
+  unfolding tableBy
+  table-lawful e a ps q = record { holdable = table-makeable W t c e a ps q; declared = go (kindOf t e - 18) refl q }
     where
       go : (n : ℕ) → kindOf t e - 18 ≡ n → getD (PVAR (argumentOf t e) ∷ PCON (argumentOf t e) (operands t e) ∷ []) n (PVAR 0) ≡ PCON a ps → Declared g a (length ps)
       go zero k q = impossible (cc)
@@ -276,10 +276,10 @@ module _ (g t : List ℕ) (c : tableChecked t ≡ checked 0 0) (o : AllGood (ent
       go (suc (suc n)) k q = impossible (cc)
 
 pub obeyed : Obeyed
-obeyed N Λ ν i g a entries nodes k u b s e j l =
+obeyed W N Λ ν i g a entries nodes k u b s e j l =
     nodeObeysPlain g (s .words) j .1
     (each-left (Lawful g) (λ c n o. o .holdable) Λ
-    (both (Lawful g) (λ c n o. o .holdable) Λ i (i .store) ν a (table-lawful g (i .table) (a .table) entries) given (kept-refl (i .store) (i .mark)) .1) k u b s e j l .declared)
+    (both (Lawful g) (λ c n o. o .holdable) Λ W i (i .store) ν a (table-lawful W g (i .table) (a .table) entries) given (kept-refl (i .store) (i .mark)) .1) k u b s e j l .declared)
   where
     given : (j : ℕ) → j < i .mark → Lawful g (constructorOf (i .store) j) (childCount (i .store) j)
     given j l = record { holdable = store-filled (i .store) (i .mark) (a .store) .node j l .holdable; declared = nodeObeysPlain g (i .store) j .0 (nodes j l) }

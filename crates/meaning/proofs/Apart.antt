@@ -1,13 +1,13 @@
 -- What a run notes changes nothing else: each run is what its end says, and without the notes the two say the same. Assumes nothing.
 use mathlib.Core.Path.{refl, sym}
 use Rattle.meaning.specs.Term.{Term}
-use Rattle.meaning.specs.Table.{Table, table}
+use Rattle.meaning.specs.Table.{Table, tableBy}
 use Rattle.meaning.specs.Rules.{Visit}
 use Rattle.meaning.specs.Derivation.{Notes, quiet}
 use Rattle.meaning.specs.Limits.{Res, ended, lost, cut, Counted}
 use Rattle.meaning.specs.System.{Env}
 use Rattle.meaning.specs.Beginning.{Given}
-use Rattle.meaning.specs.Store.{ran, value}
+use Rattle.meaning.specs.Store.{ranBy, value}
 use Rattle.meaning.specs.Demands.{Says, Demand-2, limits, startVisit, unnoted, Notes-apart}
 
 -- an end that is so is so without its notes
@@ -18,6 +18,6 @@ says-unnoted N Λ n T g q (lost l u) h = (h .0, h .1, refl)
 says-unnoted N Λ n T g q (cut c l u) h = (h .0, h .1, h .2, refl)
 
 pub notes-apart : Demand-2 → Notes-apart
-notes-apart demand N Λ n i a =
-    sym (demand (Unit {0}) quiet tt i a (unnoted (value (ran Λ n i))) .1
-    (says-unnoted N Λ n (table (i .table)) (limits i) (startVisit i) (value (ran Λ n i)) (demand N Λ n i a (value (ran Λ n i)) .0 refl)))
+notes-apart demand W N Λ n i a =
+    sym (demand W (Unit {0}) quiet tt i a (unnoted (value (ranBy W Λ n i))) .1
+    (says-unnoted N Λ n (tableBy W (i .table)) (limits i) (startVisit i) (value (ranBy W Λ n i)) (demand W N Λ n i a (value (ranBy W Λ n i)) .0 refl)))

@@ -7,11 +7,11 @@ use native.Mathlib.Omega.{arith}
 use lib.ListN.{getD}
 use Rattle.words.specs.Words.{rows}
 use Rattle.meaning.specs.Term.{Term}
-use Rattle.meaning.specs.Table.{table}
+use Rattle.meaning.specs.Table.{tableBy}
 use Rattle.meaning.specs.Limits.{ended, at}
 use Rattle.meaning.specs.Derivation.{Notes}
 use Rattle.meaning.specs.System.{Env}
-use Rattle.meaning.specs.Store.{named, bindings, termOf, meant, Ran, value, deepest, ran, Leaves}
+use Rattle.meaning.specs.Store.{named, bindings, termOf, meant, Ran, value, deepest, ranBy, Leaves}
 use Rattle.meaning.specs.Demands.{Rules-agree, limits, startVisit, Over-the-words, Demand-2}
 use Rattle.meaning.proofs.Limits.{Answer, demand-2-values}
 use Rattle.meaning.proofs.Alike.{ORel, o-none, o-some, BRel, q-apply}
@@ -48,8 +48,8 @@ module _ {size : ℕ} (v : Stored size) where
 
 -- Over the words and over values a run ends alike.
 pub over-the-words : Over-the-words
-unfolding ran bindings meant
-over-the-words N Λ ν i a = alike-value start (together (rows (i .store)) Λ (table (i .table)) (table-makeable (i .table) (a .table)) deepest start _ _ ν (i .units) (q-apply (record { below = a .subject; is = refl }) bound))
+unfolding ranBy bindings meant
+over-the-words W N Λ ν i a = alike-value start (together (rows (i .store)) Λ (tableBy W (i .table)) (table-makeable W (i .table) (a .table)) deepest start _ _ ν (i .units) (q-apply (record { below = a .subject; is = refl }) bound))
   where
     start : Stored (rows (i .store))
     start = record { words = i .store; mark = i .mark; filled = store-filled (i .store) (i .mark) (a .store); long = refl }
@@ -59,7 +59,7 @@ over-the-words N Λ ν i a = alike-value start (together (rows (i .store)) Λ (t
 
 -- Demand 2 over the words.
 pub demand-2 : Rules-agree → Demand-2
-demand-2 agree N Λ ν i a r =
-    let o = over-the-words N Λ ν i a .0 in
-    let d = demand-2-values agree N Λ ν (table (i .table)) (limits i) (startVisit i) r (store-filled (i .store) (i .mark) (a .store) .fits) in
+demand-2 agree W N Λ ν i a r =
+    let o = over-the-words W N Λ ν i a .0 in
+    let d = demand-2-values agree N Λ ν (tableBy W (i .table)) (limits i) (startVisit i) r (store-filled (i .store) (i .mark) (a .store) .fits) in
     ((λ e. d .0 (sym o ∙ e)), (λ s. o ∙ d .1 s))

@@ -28,3 +28,4 @@ pub mod Above
 pub mod Twenty
 pub mod Small
 pub mod Ours
+pub mod Uses

@@ -3,13 +3,13 @@ use mathlib.Core.Path.{_≡_, refl, sym, _∙_, subst}
 use Prim.Native.Nat.{ℕ, _+_, _≤_}
 use native.Mathlib.Omega.{arith}
 use Rattle.meaning.specs.Term.{Term}
-use Rattle.meaning.specs.Table.{Table, table}
+use Rattle.meaning.specs.Table.{Table, tableBy}
 use Rattle.meaning.specs.Rules.{Visit}
 use Rattle.meaning.specs.Derivation.{stays, Trace, left, Notes}
 use Rattle.meaning.specs.Limits.{Res, ended, lost, cut, Counted, at}
 use Rattle.meaning.specs.System.{Env, trace}
 use Rattle.meaning.specs.Beginning.{Given, Fits}
-use Rattle.meaning.specs.Store.{ran, value}
+use Rattle.meaning.specs.Store.{ranBy, value}
 use Rattle.meaning.specs.Demands.{whole, Says, limits, startVisit}
 use Rattle.meaning.specs.Lower.{Again, Lower-mark}
 use Rattle.meaning.proofs.Demands.{demand-2}
@@ -31,8 +31,8 @@ module _ {N : Type 0} (Λ : Notes N) (n : N) (T : Table) (q : Visit Term) (g h :
   again answer f (cut c l u) s = tt
 
 pub lower-mark : Lower-mark
-lower-mark N Λ n i j a b t u s m e =
-    again Λ n (table (i .table)) (startVisit i) (limits i) (limits j) u s refl m (value (ran Λ n j))
-    (λ r x. demand-2 N Λ n j b r .1
-    (subst (λ T. Says Λ n (table T) (limits j) (startVisit j) r) (sym t) (subst (λ q. Says Λ n (table (i .table)) (limits j) q r) (sym e) x)))
-    (value (ran Λ n i)) (demand-2 N Λ n i a _ .0 refl)
+lower-mark W N Λ n i j a b t u s m e =
+    again Λ n (tableBy W (i .table)) (startVisit i) (limits i) (limits j) u s refl m (value (ranBy W Λ n j))
+    (λ r x. demand-2 W N Λ n j b r .1
+    (subst (λ T. Says Λ n (tableBy W T) (limits j) (startVisit j) r) (sym t) (subst (λ q. Says Λ n (tableBy W (i .table)) (limits j) q r) (sym e) x)))
+    (value (ranBy W Λ n i)) (demand-2 W N Λ n i a _ .0 refl)

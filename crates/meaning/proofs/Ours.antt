@@ -3,21 +3,21 @@ use mathlib.Core.Path.{refl}
 use Rattle.words.specs.Tests.{every, rejected}
 use Rattle.words.specs.Words.{putRow, clearedFrom}
 use Rattle.checks.specs.Kinds.{lines, lineOf, kind, sortOf, takes}
-use Rattle.checks.specs.Good.{countFits, argumentFits, operandPlaced, operandSorted, operandsFault, unusedZero, fault, goodEntry, goodNode}
-use Rattle.checks.specs.Checked.{tableLengthFits, storeLengthFits, tableChecked, storeChecked}
+use Rattle.checks.specs.Good.{number as word-number, countFits, argumentFitsBy, operandPlacedBy, operandSortedBy, operandsFaultBy, unusedZeroBy, faultBy, goodEntryBy, goodNode}
+use Rattle.checks.specs.Checked.{tableLengthFits, storeLengthFits, tableCheckedBy, storeChecked}
 use Rattle.meaning.specs.Bindings.{bind, has, masked}
-use Rattle.meaning.specs.Table.{byKind, table}
+use Rattle.meaning.specs.Table.{byKind, tableBy}
 use Rattle.meaning.specs.Rules.{nth, put, zip, agree, when, given as given-of, again, walk, oneOf, someOf, strategy, variable, whenAt, matching, needed, building, comparing, does}
 use Rattle.meaning.specs.Limits.{roomFor, settled, after, runPlan, closed, run}
-use Rattle.meaning.specs.Store.{row, named, bindings, ran}
-use Rattle.meaning.specs.Answer.{number, placeOf, bindingWord, bindingWords, returned}
-use Rattle.meaning.specs.Small.{entry, roomy, bound, three, four, given, gives, fails-at, matchX, seen, expected}
-use Rattle.meaning.specs.Ours.{paired, build7, match7, build-v3, no-v3, build-pair, two, scopes, ours, Our-runs}
+use Rattle.meaning.specs.Store.{row, named, bindings, ranBy}
+use Rattle.meaning.specs.Answer.{number, placeOf, bindingWord, bindingWords, returnedBy}
+use Rattle.meaning.specs.Small.{wordsOf, entry, roomy, bound, three, four, given, gives, fails-at, matchX, seen, expected}
+use Rattle.meaning.specs.Ours.{paired, build7, match7, build-v3, no-v3, build-pair, two, scopes, our-cases, Our-runs}
 
 pub our-runs : Our-runs
-unfolding every rejected putRow clearedFrom lines lineOf kind sortOf takes countFits argumentFits operandPlaced
-    operandSorted operandsFault unusedZero fault goodEntry goodNode tableLengthFits storeLengthFits tableChecked storeChecked bind has masked byKind
-    table nth put zip agree when given-of again walk oneOf someOf strategy variable whenAt matching needed building comparing does
-    roomFor settled after runPlan closed run row named bindings ran number placeOf bindingWord bindingWords returned entry roomy bound
-    three four given gives fails-at matchX seen expected paired build7 match7 build-v3 no-v3 build-pair two scopes ours
-our-runs = refl
+unfolding every rejected putRow clearedFrom lines lineOf kind sortOf takes word-number countFits argumentFitsBy operandPlacedBy
+    operandSortedBy operandsFaultBy unusedZeroBy faultBy goodEntryBy goodNode tableLengthFits storeLengthFits tableCheckedBy storeChecked bind has masked byKind
+    tableBy nth put zip agree when given-of again walk oneOf someOf strategy variable whenAt matching needed building comparing does
+    roomFor settled after runPlan closed run row named bindings ranBy number placeOf bindingWord bindingWords returnedBy wordsOf entry roomy bound
+    three four given gives fails-at matchX seen expected paired build7 match7 build-v3 no-v3 build-pair two scopes our-cases
+our-runs = record { with-32 = refl; with-64 = refl }

@@ -4,8 +4,9 @@ use mathlib.Core.List.{List}
 use Prim.Native.Nat.{ℕ, _+_, _*_, _/_, _%_, _≤_}
 use native.Mathlib.Omega.{arith}
 use Rattle.words.specs.Words.{wordAt}
-use Rattle.meaning.specs.Table.{byKind, table}
-use Rattle.meaning.specs.Twenty.{Twenty, Twenty-kinds}
+use Rattle.checks.specs.Good.{number}
+use Rattle.meaning.specs.Table.{byKind, tableBy}
+use Rattle.meaning.specs.Twenty.{Twenty, Twenty-kinds, Scope-read}
 
 -- the kind and the count of a word 0 that has up to six operands
 kind-of : (k n : ℕ) → n ≤ 6 → (16 * k + n) / 16 ≡ k
@@ -15,8 +16,8 @@ count-of : (k n : ℕ) → n ≤ 6 → (16 * k + n) % 16 ≡ n
 count-of k n l = omega arith
 
 pub twenty-kinds : Twenty-kinds
-unfolding byKind table
-twenty-kinds t e = record {
+unfolding byKind tableBy
+twenty-kinds W t e = record {
   ID-0 = λ q. rw q;
   FAIL-1 = λ q. rw q;
   TEST-2 = λ q. rw q;
@@ -38,3 +39,7 @@ twenty-kinds t e = record {
   PVAR-18 = λ q. rw q;
   PCON-19 = λ n l q. rw (q, kind-of 19 n l, count-of 19 n l);
 }
+
+pub scope-read : Scope-read
+unfolding byKind tableBy number
+scope-read = record { with-32 = λ t e q. rw q; with-64 = λ t e q. rw q }

@@ -10,7 +10,7 @@ use Rattle.checks.specs.Promises.{AllGood}
 use Rattle.meaning.specs.Bindings.{Bindings}
 use Rattle.meaning.specs.Derivation.{Notes}
 use Rattle.meaning.specs.Limits.{Limit, ended, lost, cut}
-use Rattle.meaning.specs.Store.{State, on, rest, Input, Accepted, Ran, ran, Kept}
+use Rattle.meaning.specs.Store.{State, on, rest, Input, AcceptedBy, Ran, ranBy, Kept}
 
 -- the same input with another store
 abbrev pub inStore : Input → List ℕ → Input
@@ -23,12 +23,14 @@ pub data SameBelow {N : Type 0} : Ran N → Ran N → Type 0 where
   same-cut : {c : Limit} {u : ℕ} {n : N} {w w′ : List ℕ} → SameBelow (cut c (rest w n) u) (cut c (rest w′ n) u)
 
 abbrev pub Above-mark : Type 1
-Above-mark = (N : Type 0) (Λ : Notes N) (n : N) (i : Input) (w : List ℕ) → Accepted i → Kept (i .store) (i .mark) w → SameBelow (ran Λ n i) (ran Λ n (inStore i w))
+Above-mark =
+    (W : ℕ) (N : Type 0) (Λ : Notes N) (n : N) (i : Input) (w : List ℕ) → AcceptedBy W i → Kept (i .store) (i .mark) w
+    → SameBelow (ranBy W Λ n i) (ranBy W Λ n (inStore i w))
 
 -- With a signature g that every entry of the table and every node below the mark obeys, every node below the mark of a done run
 -- obeys it, old and new, reachable or not.
 abbrev pub Obeyed : Type 1
 Obeyed =
-    (N : Type 0) (Λ : Notes N) (n : N) (i : Input) (g : List ℕ) → Accepted i
+    (W : ℕ) (N : Type 0) (Λ : Notes N) (n : N) (i : Input) (g : List ℕ) → AcceptedBy W i
     → AllGood (entryObeys g (i .table)) (rows (i .table)) → AllGood (nodeObeys g (i .store)) (i .mark)
-    → (k u : ℕ) (b : Bindings ℕ) (s : State N) → ran Λ n i ≡ ended k b s u → AllGood (nodeObeys g (s .words)) (s .mark)
+    → (k u : ℕ) (b : Bindings ℕ) (s : State N) → ranBy W Λ n i ≡ ended k b s u → AllGood (nodeObeys g (s .words)) (s .mark)

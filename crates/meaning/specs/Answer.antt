@@ -3,7 +3,7 @@ use mathlib.Core.Option.{Option, none, some}
 use mathlib.Core.List.{List, [], _∷_, _++_}
 use Prim.Native.Nat.{ℕ, zero, suc, _-_, _*_}
 use Rattle.words.specs.Words.{clearedFrom}
-use Rattle.checks.specs.Kinds.{variables}
+use Rattle.checks.specs.Kinds.{ours, variablesBy}
 use Rattle.meaning.specs.Bindings.{Bindings}
 use Rattle.meaning.specs.Limits.{Limit, units, room, nesting, unbound, ended, lost, cut}
 use Rattle.meaning.specs.Store.{Input, Ran}
@@ -46,7 +46,11 @@ asGiven i a p w u = record { answer = a; place = p; subject = i .subject; mark =
 
 -- 0 with the new subject, mark and bindings; else as given, failed with the place that was noted. The units are those used, and
 -- from the mark on the store is zero
-unfoldable pub returned : Input → Ran ℕ → Returned
-returned i (ended k b s u) = record { answer = 0; place = 0; subject = k; mark = s .mark; units = i .units - u; store = clearedFrom (s .words) (8 * s .mark); bindings = bindingWords variables b }
-returned i (lost l u) = asGiven i 1 (l .notes) (l .words) u
-returned i (cut c l u) = asGiven i (number c) (placeOf c) (l .words) u
+unfoldable pub returnedBy : ℕ → Input → Ran ℕ → Returned
+returnedBy W i (ended k b s u) = record { answer = 0; place = 0; subject = k; mark = s .mark; units = i .units - u; store = clearedFrom (s .words) (8 * s .mark); bindings = bindingWords (variablesBy W) b }
+returnedBy W i (lost l u) = asGiven i 1 (l .notes) (l .words) u
+returnedBy W i (cut c l u) = asGiven i (number c) (placeOf c) (l .words) u
+
+-- the same in the product
+abbrev pub returned : Input → Ran ℕ → Returned
+returned = returnedBy ours

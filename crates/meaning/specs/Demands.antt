@@ -6,14 +6,14 @@ use mathlib.Core.List.{List, [], _∷_}
 use Prim.Native.Nat.{ℕ, _+_, _≤_}
 use Rattle.words.specs.Words.{rows}
 use Rattle.meaning.specs.Term.{Term}
-use Rattle.meaning.specs.Table.{Table, SEQ, PATH, table}
+use Rattle.meaning.specs.Table.{Table, SEQ, PATH, tableBy}
 use Rattle.meaning.specs.Plan.{keep, ret, fail, ask}
 use Rattle.meaning.specs.Rules.{Visit, apply, does, compare}
 use Rattle.meaning.specs.Derivation.{Out, done, failed, what, Fate, stays, fails, Trace, over, visit, left, Notes, noted, quiet, places, misses, lastOf, terms, Der, trace as traceDer}
 use Rattle.meaning.specs.Limits.{Res, ended, lost, cut, Counted, at, counting, run}
 use Rattle.meaning.specs.System.{Env, _∶_is_, _⊢_⇒_, trace}
 use Rattle.meaning.specs.Beginning.{at-unbound, Begun, Given, Fits, Met, stop, level, trace as traceBegun}
-use Rattle.meaning.specs.Store.{Input, Accepted, ran, term, meant, bindings, value, deepest, Leaves}
+use Rattle.meaning.specs.Store.{Input, AcceptedBy, ranBy, term, meant, bindings, value, deepest, Leaves}
 pub use Rattle.meaning.specs.Store.{Kept, Sound, Leaves}
 use Rattle.meaning.specs.Free.{Free, Closed}
 
@@ -60,8 +60,14 @@ abbrev pub startVisit : Input → Visit Term
 startVisit i = apply (i .start) (term (i .store) (i .subject)) (meant (i .store) (bindings (i .bindings)))
 
 -- Demand 2 over the words: on an accepted input the run answers r exactly when r says what is so of the terms that the words name.
+-- It holds whatever number of words W a scope's mask has, and so whatever the number of variables.
+abbrev pub Demand-2-by : ℕ → Type 1
+Demand-2-by W =
+    (N : Type 0) (Λ : Notes N) (n : N) (i : Input) → AcceptedBy W i → (r : Res Term Env (Counted N) N)
+    → (value (ranBy W Λ n i) ≡ r) ↔ Says Λ n (tableBy W (i .table)) (limits i) (startVisit i) r
+
 abbrev pub Demand-2 : Type 1
-Demand-2 = (N : Type 0) (Λ : Notes N) (n : N) (i : Input) → Accepted i → (r : Res Term Env (Counted N) N) → (value (ran Λ n i) ≡ r) ↔ Says Λ n (table (i .table)) (limits i) (startVisit i) r
+Demand-2 = (W : ℕ) → Demand-2-by W
 
 -- how a run ends, without what it noted
 unfoldable pub unnoted : {N : Type 0} → Res Term Env (Counted N) N → Res Term Env (Counted (Unit {0})) (Unit {0})
@@ -71,14 +77,14 @@ unnoted (cut c l u) = cut c tt u
 
 -- What a run notes changes nothing else: it ends as the run that notes nothing.
 abbrev pub Notes-apart : Type 1
-Notes-apart = (N : Type 0) (Λ : Notes N) (n : N) (i : Input) → Accepted i → unnoted (value (ran Λ n i)) ≡ value (ran quiet tt i)
+Notes-apart = (W : ℕ) (N : Type 0) (Λ : Notes N) (n : N) (i : Input) → AcceptedBy W i → unnoted (value (ranBy W Λ n i)) ≡ value (ranBy W quiet tt i)
 
 -- Over the words and over values a run ends alike; nodes in use stay, new ones come after, and what is left is sound.
 abbrev pub Over-the-words : Type 1
 Over-the-words =
-    (N : Type 0) (Λ : Notes N) (n : N) (i : Input) → Accepted i
-    → (value (ran Λ n i) ≡ run (counting terms Λ (rows (i .store))) (does (table (i .table))) deepest (startVisit i) (at (i .mark) n) (i .units))
-    × Leaves (i .store) (i .mark) (ran Λ n i)
+    (W : ℕ) (N : Type 0) (Λ : Notes N) (n : N) (i : Input) → AcceptedBy W i
+    → (value (ranBy W Λ n i) ≡ run (counting terms Λ (rows (i .store))) (does (tableBy W (i .table))) deepest (startVisit i) (at (i .mark) n) (i .units))
+    × Leaves (i .store) (i .mark) (ranBy W Λ n i)
 
 -- Two terms compare equal exactly when they are equal as values.
 abbrev pub Compared : Type 0
@@ -132,8 +138,11 @@ abbrev pub started : Input → (start units : ℕ) → Input
 started i s u = record { table = i .table; store = i .store; bindings = i .bindings; mark = i .mark; start = s; subject = i .subject; units = u }
 
 -- Demand 3, of runs: two runs, one in each order, that both end in done or failed agree, whatever units each is given.
+abbrev pub Demand-3-runs-by : ℕ → Type 1
+Demand-3-runs-by W =
+    (N : Type 0) (Λ : Notes N) (n : N) (i : Input) (s u : ℕ) → AcceptedBy W i → AcceptedBy W (started i s u)
+    → Either-order (tableBy W (i .table)) (i .start) s (term (i .store) (i .subject)) (meant (i .store) (bindings (i .bindings)))
+    → Agreed (value (ranBy W Λ n i)) (value (ranBy W Λ n (started i s u)))
+
 abbrev pub Demand-3-runs : Type 1
-Demand-3-runs =
-    (N : Type 0) (Λ : Notes N) (n : N) (i : Input) (s u : ℕ) → Accepted i → Accepted (started i s u)
-    → Either-order (table (i .table)) (i .start) s (term (i .store) (i .subject)) (meant (i .store) (bindings (i .bindings)))
-    → Agreed (value (ran Λ n i)) (value (ran Λ n (started i s u)))
+Demand-3-runs = (W : ℕ) → Demand-3-runs-by W

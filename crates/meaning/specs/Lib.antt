@@ -20,3 +20,4 @@ pub mod Above
 pub mod Orderings
 pub mod Small
 pub mod Ours
+pub mod Uses

@@ -7,7 +7,7 @@ use Rattle.meaning.specs.Term.{Term}
 use Rattle.meaning.specs.Derivation.{Notes}
 use Rattle.meaning.specs.Limits.{Res, ended, lost, cut, Counted, at}
 use Rattle.meaning.specs.System.{Env}
-use Rattle.meaning.specs.Store.{Input, Accepted, ran, value}
+use Rattle.meaning.specs.Store.{Input, AcceptedBy, ranBy, value}
 use Rattle.meaning.specs.Demands.{startVisit}
 
 -- where the first answer is done or failed, the second is the first, but for the mark
@@ -19,6 +19,6 @@ Again (cut c l u) r = Unit {0}
 -- Table, units and the store's nodes are the same, the mark is not higher, and subject and bindings name the same terms.
 abbrev pub Lower-mark : Type 1
 Lower-mark =
-    (N : Type 0) (Λ : Notes N) (n : N) (i j : Input) → Accepted i → Accepted j
+    (W : ℕ) (N : Type 0) (Λ : Notes N) (n : N) (i j : Input) → AcceptedBy W i → AcceptedBy W j
     → j .table ≡ i .table → j .units ≡ i .units → rows (j .store) ≡ rows (i .store) → j .mark ≤ i .mark → startVisit j ≡ startVisit i
-    → Again (value (ran Λ n i)) (value (ran Λ n j))
+    → Again (value (ranBy W Λ n i)) (value (ranBy W Λ n j))

@@ -8,13 +8,13 @@ use Prim.Native.Nat.{ℕ, zero, suc, _+_, _-_, _*_, _≤_, _<_}
 use lib.Dec.{leb}
 use lib.ListN.{length, getD, take, replicate}
 use Rattle.words.specs.Words.{rows, putRow}
-use Rattle.checks.specs.Kinds.{sortOf, variables}
+use Rattle.checks.specs.Kinds.{ours, sortOf, variablesBy}
 use Rattle.checks.specs.Good.{kindOf, constructorOf, childCount, goodNode}
-use Rattle.checks.specs.Checked.{checked, tableChecked, storeChecked}
+use Rattle.checks.specs.Checked.{checked, tableCheckedBy, storeChecked}
 use Rattle.checks.specs.declared.kinds.Sort.the-variants.{Strategy}
 use Rattle.meaning.specs.Term.{Term, mk}
 use Rattle.meaning.specs.Bindings.{Bindings}
-use Rattle.meaning.specs.Table.{six, table}
+use Rattle.meaning.specs.Table.{six, tableBy}
 use Rattle.meaning.specs.Rules.{Visit, apply, does}
 use Rattle.meaning.specs.Limits.{Store, Res, ended, lost, cut, Counted, at, run}
 use Rattle.meaning.specs.Derivation.{Notes, what}
@@ -107,10 +107,10 @@ pub record Input : Type 0 where
   pub units : ℕ
 
 -- the checks let it through, and the start is good: neither 2, 3, 4 nor 5 is answered
-pub record Accepted (i : Input) : Type 0 where
-  pub table : tableChecked (i .table) ≡ checked 0 0
+pub record AcceptedBy (W : ℕ) (i : Input) : Type 0 where
+  pub table : tableCheckedBy W (i .table) ≡ checked 0 0
   pub store : storeChecked (i .store) (i .mark) ≡ checked 0 0
-  pub bindings : length (i .bindings) ≡ variables
+  pub bindings : length (i .bindings) ≡ variablesBy W
   pub inside : i .start < rows (i .table)
   pub strategy : sortOf (kindOf (i .table) (i .start)) ≡ Strategy
   pub subject : i .subject < i .mark
@@ -121,8 +121,15 @@ abbrev pub deepest : ℕ
 deepest = 4096
 
 -- the run over the words
-unfoldable pub ran : {N : Type 0} → Notes N → N → Input → Ran N
-ran Λ n i = run (stored Λ) (does (table (i .table))) deepest (apply (i .start) (i .subject) (bindings (i .bindings))) (on (i .store) (i .mark) n) (i .units)
+unfoldable pub ranBy : ℕ → {N : Type 0} → Notes N → N → Input → Ran N
+ranBy W Λ n i = run (stored Λ) (does (tableBy W (i .table))) deepest (apply (i .start) (i .subject) (bindings (i .bindings))) (on (i .store) (i .mark) n) (i .units)
+
+-- the same in the product
+abbrev pub Accepted : Input → Type 0
+Accepted = AcceptedBy ours
+
+abbrev pub ran : {N : Type 0} → Notes N → N → Input → Ran N
+ran Λ n i = ranBy ours Λ n i
 
 -- nodes below the mark and the store's length stay
 pub record Kept (w : List ℕ) (m : ℕ) (w′ : List ℕ) : Type 0 where

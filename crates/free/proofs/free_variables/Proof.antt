@@ -3,14 +3,15 @@ use mathlib.Core.Path.{refl, sym, _∙_}
 use native.Mathlib.Omega.{arith}
 use borrow.Author.Needs.{needs}
 use borrow.Author.Tests.{eq-eqb, ne-eqb, not-true, not-false}
-use Rattle.free.specs.Answered.{asked}
+use Rattle.checks.specs.Kinds.{ours}
+use Rattle.free.specs.Answered.{askedBy}
 use Rattle.checks.proofs.Promises.{tablePasses}
 use Rattle.free.proofs.Smallest.{strategy-plain}
 use Rattle.free.proofs.free_variables.Statement.{statement}
 use Rattle.free.proofs.free_variables.Tie as tie
 
 returns : tie.Need-returns
-unfolding asked
+unfolding askedBy
 returns c =
     let k = c .before .before .before .check-table in
     let bad = c .before .if1 .taken in
@@ -18,7 +19,7 @@ returns c =
     record { outcome = rw (← k .ensures, ne-eqb _ _ bad); refused = λ n. refl; mask = λ z. absurd (bad z) }
 
 returns-2 : tie.Need-returns-2
-unfolding asked
+unfolding askedBy
 returns-2 c =
     let k = c .before .before .before .before .before .check-table in
     let s = c .before .before .is-strategy in
@@ -33,12 +34,12 @@ mask-of-requires : tie.Need-mask-of-requires
 mask-of-requires c κs =
     let k = c .before .before .before .before .check-table in
     let s = c .before .is-strategy in (
-      tablePasses _ .0 (rw (← k .ensures) (c .before .before .if1 .left)),
+      tablePasses ours _ .0 (rw (← k .ensures) (c .before .before .if1 .left)),
       strategy-plain _ _ .0 (sym (s .ensures) ∙ not-false (s .result) (c .if2 .left)),
     )
 
 returns-3 : tie.Need-returns-3
-unfolding asked
+unfolding askedBy
 returns-3 c =
     let k = c .before .before .before .before .before .check-table in
     let s = c .before .before .is-strategy in

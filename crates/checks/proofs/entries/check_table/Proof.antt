@@ -3,13 +3,13 @@ use mathlib.Core.Path.{sym, _∙_}
 use lib.ListN.{length}
 use borrow.Author.Needs.{needs}
 use borrow.Author.Tests.{not-true, not-false}
-use Rattle.checks.specs.Checked.{tableChecked}
+use Rattle.checks.specs.Checked.{tableCheckedBy}
 use Rattle.checks.proofs.Good.{tableLengthFits-plain}
 use Rattle.checks.proofs.entries.check_table.Statement.{statement}
 use Rattle.checks.proofs.entries.check_table.Tie as tie
 
 returns : tie.Need-returns
-unfolding tableChecked
+unfolding tableCheckedBy
 returns c =
     rw (← c .before .table-length-fits .ensures, not-true (c .before .table-length-fits .result) (c .if1 .taken))
 
@@ -20,7 +20,7 @@ lowest-fault-requires c κs =
     (sym (c .before .table-length-fits .ensures) ∙ not-false _ (c .if1 .left)) .most
 
 returns-2 : tie.Need-returns-2
-unfolding tableChecked
+unfolding tableCheckedBy
 returns-2 c =
     rw (
       ← c .before .before .table-length-fits .ensures,

@@ -2,12 +2,14 @@
 -- Assumes nothing.
 use mathlib.Core.Path.{_≡_, refl, ap, sym, _∙_}
 use mathlib.Core.Bool.{true}
-use Prim.Native.Nat.{ℕ, _/_, _%_}
+use Prim.Native.Nat.{ℕ, _+_, _/_, _%_, _≤_}
 use native.Mathlib.Omega.{arith}
 use borrow.Author.Needs.{needs}
 use borrow.Author.Tests.{eq-eqb, ne-eqb, not-true, not-false}
-use Rattle.checks.specs.Good.{kindOf, operandCount, countOf, argumentIn, countFits, argumentFits, unusedZero, fault}
-use Rattle.checks.proofs.Good.{counted, at-most-six}
+use Rattle.checks.specs.Kinds.{ours, operandsFromBy, kind}
+use Rattle.checks.specs.Good.{kindOf, operandCount, countFits, argumentFitsBy, unusedZeroBy, faultBy}
+use Rattle.checks.proofs.Good.{counted}
+use Rattle.checks.proofs.Tables.{roomy}
 use Rattle.checks.proofs.entries.entry_fault.Statement.{statement}
 use Rattle.checks.proofs.entries.entry_fault.Tie as tie
 
@@ -24,7 +26,7 @@ unfolding countFits
 count-is c = rw (← kind-read (c .before), ← count-read (c .before)) (c .count-fits .ensures)
 
 returns : tie.Need-returns
-unfolding fault
+unfolding faultBy
 returns c = rw (sym (count-is (c .before)) ∙ not-true _ (c .if1 .taken))
 
 -- Past the first test the count fits, and past the second the argument.
@@ -33,32 +35,44 @@ count c = sym (count-is (c .before)) ∙ not-false _ (c .if1 .left)
 
 argument-is : (c : tie.After-argument-fits)
     → c .argument-fits .result
-    ≡ argumentFits (c .before .before .before .before .before .before .args .table .now) (c .before .before .before .before .before .before .args .e)
-unfolding argumentFits
-argument-is c = rw (← kind-read (c .before .before .before .before), ← c .before .word2 .ensures) (c .argument-fits .ensures)
+    ≡ argumentFitsBy ours (c .before .before .before .before .before .before .args .table .now) (c .before .before .before .before .before .before .args .e)
+unfolding argumentFitsBy
+argument-is c = rw (← c .before .argument .ensures, ← kind-read (c .before .before .before .before)) (c .argument-fits .ensures)
+
+argument-requires : tie.Need-argument-requires
+argument-requires c κs = kind-read (c .before .before)
 
 argument-fits-requires : tie.Need-argument-fits-requires
 argument-fits-requires c κs = rw (kind-read (c .before .before .before)) (counted _ _ .0 (count (c .before)) .known)
 
 returns-2 : tie.Need-returns-2
-unfolding fault
+unfolding faultBy
 returns-2 c = rw (count (c .before .before .before), sym (argument-is (c .before)) ∙ not-true _ (c .if2 .taken))
 
 argument : (c : tie.Else2)
-    → argumentFits (c .before .before .before .before .before .before .before .args .table .now) (c .before .before .before .before .before .before .before .args .e)
+    → argumentFitsBy ours (c .before .before .before .before .before .before .before .args .table .now) (c .before .before .before .before .before .before .before .args .e)
     ≡ true
 argument c = sym (argument-is (c .before)) ∙ not-false _ (c .if2 .left)
+
+-- Past the first test the kind is known, and its operands have room.
+known : (c : tie.Else1) → c .before .before .word .result / 16 ≤ 19
+known c = rw (kind-read (c .before .before)) (counted _ _ .0 (count c) .known)
+
+room : (c : tie.Else1) → operandsFromBy ours (c .before .before .word .result / 16) + c .before .before .word .result % 16 ≤ 8
+room c =
+    let w = c .before .before in
+    let m : c .before .before .word .result % 16 ≤ kind (c .before .before .word .result / 16) .most =
+    rw (kind-read w, count-read w) (counted _ _ .0 (count c) .most) in
+    omega (arith, m, roomy (w .word .result / 16) (known c))
 
 operands-fault-requires : tie.Need-operands-fault-requires
 operands-fault-requires c κs =
     let e = c .before .before .before in
-    let w = e .before .before in (
-      kind-read w,
-      (count-read w, (rw (kind-read w) (counted _ _ .0 (count e) .known), rw (count-read w) (at-most-six _ _ (count e)))),
-    )
+    let w = e .before .before in
+    (kind-read w, (count-read w, (known e, room e)))
 
 returns-3 : tie.Need-returns-3
-unfolding fault
+unfolding faultBy
 returns-3 c =
     rw (
       count (c .before .before .before .before .before),
@@ -67,24 +81,27 @@ returns-3 c =
       ne-eqb _ _ (c .if3 .taken),
     )
 
-unused-zero-requires : tie.Need-unused-zero-requires
-unused-zero-requires c κs =
-    let e = c .before .before .before .before .before in
-    rw (count-read (e .before .before)) (at-most-six _ _ (count e))
+operands-from-requires : tie.Need-operands-from-requires
+operands-from-requires c κs = known (c .before .before .before .before .before)
+
+add-zeros-from : tie.Need-add-zeros-from
+add-zeros-from c = omega (arith, c .operands-from .ensures, room (c .before .before .before .before .before .before))
 
 -- What the test of the unused words says of the entry.
-unused-is : (c : tie.After-unused-zero)
-    → c .unused-zero .result
-    ≡ unusedZero
-    (c .before .before .before .before .before .before .before .before .before .before .args .table .now)
-    (c .before .before .before .before .before .before .before .before .before .before .args .e)
-unfolding unusedZero
-unused-is c = rw (← count-read (c .before .before .before .before .before .before .before .before)) (c .unused-zero .ensures)
+unused-is : (c : tie.After-zeros-from)
+    → c .zeros-from .result
+    ≡ unusedZeroBy ours
+    (c .before .before .before .before .before .before .before .before .before .before .before .args .table .now)
+    (c .before .before .before .before .before .before .before .before .before .before .before .args .e)
+unfolding unusedZeroBy
+unused-is c =
+    let w = c .before .before .before .before .before .before .before .before .before in
+    rw (← kind-read w, ← count-read w, ← c .before .operands-from .ensures) (c .zeros-from .ensures)
 
 returns-4 : tie.Need-returns-4
-unfolding fault
+unfolding faultBy
 returns-4 c =
-    let at-if3 = c .before .before in
+    let at-if3 = c .before .before .before in
     let at-operands = at-if3 .before in
     rw (
       count (at-operands .before .before .before .before),
@@ -92,13 +109,13 @@ returns-4 c =
       ← at-operands .operands-fault .ensures,
       eq-eqb _ _ (at-if3 .if3 .left),
       ← unused-is (c .before),
-      not-true (c .before .unused-zero .result) (c .if4 .taken),
+      not-true (c .before .zeros-from .result) (c .if4 .taken),
     )
 
 returns-5 : tie.Need-returns-5
-unfolding fault
+unfolding faultBy
 returns-5 c =
-    let at-if3 = c .before .before in
+    let at-if3 = c .before .before .before in
     let at-operands = at-if3 .before in
     rw (
       count (at-operands .before .before .before .before),
@@ -106,12 +123,12 @@ returns-5 c =
       ← at-operands .operands-fault .ensures,
       eq-eqb _ _ (at-if3 .if3 .left),
       ← unused-is (c .before),
-      not-false (c .before .unused-zero .result) (c .if4 .left),
+      not-false (c .before .zeros-from .result) (c .if4 .left),
     )
 
 pub entry-fault-spec : {M : Type 1} → statement M
 entry-fault-spec =
     tie.close
     (tie.spec
-    (λ c κs. search needs) (λ c κs. search needs) returns (λ c κs. search needs) argument-fits-requires returns-2
-    operands-fault-requires returns-3 unused-zero-requires returns-4 returns-5)
+    (λ c κs. search needs) (λ c κs. search needs) returns argument-requires argument-fits-requires returns-2
+    operands-fault-requires returns-3 operands-from-requires add-zeros-from (λ c κs. search needs) returns-4 returns-5)

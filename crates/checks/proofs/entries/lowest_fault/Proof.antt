@@ -7,8 +7,8 @@ use borrow.Author.Needs.{needs}
 use borrow.Author.Tests.{eq-eqb, ne-eqb}
 use Rattle.words.specs.Tests.{rejected}
 use Rattle.words.proofs.Tests.{rejected-turn, rejected-stop, rejected-end}
-use Rattle.checks.specs.Good.{fault, goodEntry}
-use Rattle.checks.specs.Checked.{faulted, checked}
+use Rattle.checks.specs.Good.{goodEntry, goodEntryBy}
+use Rattle.checks.specs.Checked.{checked}
 use Rattle.checks.proofs.entries.lowest_fault.Statement.{statement}
 use Rattle.checks.proofs.entries.lowest_fault.Tie as tie
 
@@ -25,7 +25,7 @@ cast-loop : tie.Need-cast-loop Inv-loop μ-loop
 cast-loop c = omega arith
 
 returns : tie.Need-returns Inv-loop μ-loop
-unfolding goodEntry
+unfolding goodEntryBy
 returns c =
     rw (← rejected-stop _ _ _ _
     (c .before .before .before .loop .inv .1)
@@ -40,7 +40,7 @@ loop-less : tie.Need-loop-less Inv-loop μ-loop
 loop-less c = omega arith
 
 loop-again : tie.Need-loop-again Inv-loop μ-loop
-unfolding goodEntry
+unfolding goodEntryBy
 loop-again c = (
   omega arith,
   rejected-turn _ _ _ _

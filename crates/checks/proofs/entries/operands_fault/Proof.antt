@@ -1,6 +1,6 @@
 -- `checks::entries::operands_fault` meets its contract. The loop's invariant: the operands from i on decide, and what was
 -- found of the sorts before them. Assumes nothing.
-use mathlib.Core.Path.{_≡_, refl, sym, _∙_, subst}
+use mathlib.Core.Path.{_≡_, refl, ap, sym, _∙_, subst}
 use mathlib.Core.Bool.{Bool, true, false}
 use mathlib.Core.List.{List}
 use mathlib.Core.Logic.{_⊎_, inl, inr, ⊎-elim}
@@ -12,7 +12,8 @@ use borrow.Author.Needs.{needs}
 use borrow.Author.Tests.{not-true, not-false}
 use Rattle.words.specs.Tests.{if_then_else_, every}
 use Rattle.words.proofs.Tests.{every-turn, every-stop, every-end}
-use Rattle.checks.specs.Good.{kindOf, operandCount, operand, placedFor, sortedFor, operandPlaced, operandSorted, operandsFault}
+use Rattle.checks.specs.Kinds.{ours, operandsFromBy}
+use Rattle.checks.specs.Good.{kindOf, operandCount, operandBy, placedFor, sortedFor, operandPlacedBy, operandSortedBy, operandsFaultBy}
 use Rattle.checks.proofs.entries.operands_fault.Statement.{statement}
 use Rattle.checks.proofs.entries.operands_fault.Tie as tie
 
@@ -44,24 +45,24 @@ module _ (p : ℕ → Bool) (n i : ℕ) (whole : Bool) where
       stop e = rw (← e)
 
 -- the tests of an operand, by what was read before
-placed-is : (t : List ℕ) (e k o i : ℕ) → k ≡ kindOf t e → o ≡ operand t e i → placedFor t e k o ≡ operandPlaced t e i
-unfolding operandPlaced
+placed-is : (t : List ℕ) (e k o i : ℕ) → k ≡ kindOf t e → o ≡ operandBy ours t e i → placedFor t e k o ≡ operandPlacedBy ours t e i
+unfolding operandPlacedBy
 placed-is t e k o i p q = rw (p, q)
 
-sorted-is : (t : List ℕ) (e k o i : ℕ) → k ≡ kindOf t e → o ≡ operand t e i → sortedFor t k o ≡ operandSorted t e i
-unfolding operandSorted
+sorted-is : (t : List ℕ) (e k o i : ℕ) → k ≡ kindOf t e → o ≡ operandBy ours t e i → sortedFor t k o ≡ operandSortedBy ours t e i
+unfolding operandSortedBy
 sorted-is t e k o i p q = rw (p, q)
 
 abbrev Inv-loop : tie.InvT-loop
-Inv-loop table e k n sort fault₀ i₀ fault i =
-    (i ≤ n) × (every (operandPlaced table e) i (n - i) ≡ every (operandPlaced table e) 0 (operandCount table e))
-    × Kept (operandSorted table e) n fault i (every (operandSorted table e) 0 (operandCount table e))
+Inv-loop table e k n sort from fault₀ i₀ fault i =
+    (i ≤ n) × (every (operandPlacedBy ours table e) i (n - i) ≡ every (operandPlacedBy ours table e) 0 (operandCount table e))
+    × Kept (operandSortedBy ours table e) n fault i (every (operandSortedBy ours table e) 0 (operandCount table e))
 
 abbrev μ-loop : tie.MeasureT-loop
-μ-loop table e k n sort fault₀ i₀ fault i = n - i
+μ-loop table e k n sort from fault₀ i₀ fault i = n - i
 
 returns : tie.Need-returns Inv-loop μ-loop
-unfolding operandsFault every
+unfolding operandsFaultBy every
 returns c =
     let n : operandCount (c .before .before .args .table .now) (c .before .before .args .e) ≡ 0 = sym (c .before .before .pre .1 .0) ∙ c .if1 .taken in
     rw n
@@ -71,27 +72,30 @@ takes-requires c κs = c .before .before .pre .1 .1 .0
 
 loop-holds : tie.Need-loop-holds Inv-loop μ-loop
 loop-holds c =
-    let n = c .before .before .before .pre .1 .0 in
+    let n = c .before .before .before .before .pre .1 .0 in
     (omega arith, rw (sub-zero, n), (inl refl, rw (sub-zero, n)))
 
-held-requires : tie.Need-held-requires Inv-loop μ-loop
-held-requires c κs = omega (arith, c .before .before .before .before .before .pre .1 .1 .1)
+operand-requires : tie.Need-operand-requires Inv-loop μ-loop
+operand-requires c κs =
+    let pre = c .before .before .before .before .before .before .pre in
+    let from = c .before .before .operands-from .ensures in
+    (from ∙ ap (operandsFromBy ours) (pre .0), omega (arith, from, pre .1 .1 .1))
 
 returns-2 : tie.Need-returns-2 Inv-loop μ-loop
-unfolding operandsFault
+unfolding operandsFaultBy
 returns-2 c =
     let at-operand-placed = c .before in
-    let at-held = at-operand-placed .before in
-    let at-loop-test = at-held .before in
+    let at-operand = at-operand-placed .before in
+    let at-loop-test = at-operand .before in
     let at-loop = at-loop-test .before in
-    let pre = at-loop .before .before .before .before .pre in
+    let pre = at-loop .before .before .before .before .before .pre in
     rw (← every-stop _ _ _ _
     (at-loop .loop .inv .1)
     (at-loop-test .loop-test .taken)
-    (sym (placed-is _ _ _ _ _ (pre .0) (at-held .held .ensures)) ∙ sym (at-operand-placed .operand-placed .ensures) ∙ not-true _ (c .if2 .taken)))
+    (sym (placed-is _ _ _ _ _ (pre .0) (at-operand .operand .ensures)) ∙ sym (at-operand-placed .operand-placed .ensures) ∙ not-true _ (c .if2 .taken)))
 
 operand-sorted-requires : tie.Need-operand-sorted-requires Inv-loop μ-loop
-operand-sorted-requires c κs = c .before .before .before .before .before .takes .ensures
+operand-sorted-requires c κs = c .before .before .before .before .before .before .takes .ensures
 
 add-i : tie.Need-add-i Inv-loop μ-loop
 add-i c = omega arith
@@ -104,16 +108,16 @@ loop-again c =
     let at-operand-sorted = c .before in
     let at-if2 = at-operand-sorted .before in
     let at-operand-placed = at-if2 .before in
-    let at-held = at-operand-placed .before in
-    let at-loop-test = at-held .before in
+    let at-operand = at-operand-placed .before in
+    let at-loop-test = at-operand .before in
     let at-loop = at-loop-test .before in
-    let pre = at-loop .before .before .before .before .pre in
-    let sorted = sym (sorted-is _ _ _ _ _ (pre .0) (at-held .held .ensures)) ∙ sym (at-operand-sorted .operand-sorted .ensures) in (
+    let pre = at-loop .before .before .before .before .before .pre in
+    let sorted = sym (sorted-is _ _ _ _ _ (pre .0) (at-operand .operand .ensures)) ∙ sym (at-operand-sorted .operand-sorted .ensures) in (
       omega arith,
       every-turn _ _ _ _
           (at-loop .loop .inv .1)
           (at-loop-test .loop-test .taken)
-          (sym (placed-is _ _ _ _ _ (pre .0) (at-held .held .ensures)) ∙ sym (at-operand-placed .operand-placed .ensures) ∙ not-false _ (at-if2 .if2 .left)),
+          (sym (placed-is _ _ _ _ _ (pre .0) (at-operand .operand .ensures)) ∙ sym (at-operand-placed .operand-placed .ensures) ∙ not-false _ (at-if2 .if2 .left)),
       ⊎-elim
           (λ x. kept-wrong _ _ _ _ _ _ (x .1) (at-loop .loop .inv .2) (at-loop-test .loop-test .taken) (sorted ∙ not-true _ (x .0 .taken)))
           (λ x. kept-right _ _ _ _ _ _ (x .1) (at-loop .loop .inv .2) (at-loop-test .loop-test .taken) (sorted ∙ not-false _ (x .0 .left)))
@@ -121,7 +125,7 @@ loop-again c =
     )
 
 returns-3 : tie.Need-returns-3 Inv-loop μ-loop
-unfolding operandsFault
+unfolding operandsFaultBy
 returns-3 c =
     rw (← every-end _ _ _ _ (c .before .loop .inv .1) (c .loop-test .left))
     (kept-end _ _ _ _ _ (c .before .loop .inv .2) (c .loop-test .left))
@@ -130,5 +134,5 @@ pub operands-fault-spec : {M : Type 1} → statement M
 operands-fault-spec =
     tie.close
     (tie.spec
-    Inv-loop μ-loop returns takes-requires loop-holds held-requires (λ c κs. search needs) returns-2 operand-sorted-requires
+    Inv-loop μ-loop returns takes-requires (λ c κs. search needs) loop-holds operand-requires (λ c κs. search needs) returns-2 operand-sorted-requires
     add-i loop-less loop-again returns-3)

@@ -1,7 +1,9 @@
 -- `checks::nodes::node_fits` meets its contract, test by test. Assumes nothing.
+use mathlib.Core.Path.{_∙_}
 use borrow.Author.Needs.{needs}
 use borrow.Author.Tests.{le-leb, lt-leb, not-true, not-false}
 use Rattle.checks.specs.Good.{goodNode}
+use Rattle.checks.proofs.Good.{child-zeros}
 use Rattle.checks.proofs.nodes.node_fits.Statement.{statement}
 use Rattle.checks.proofs.nodes.node_fits.Tie as tie
 
@@ -48,11 +50,11 @@ returns-4 c =
       ← at-children-below .children-below .ensures,
       not-false (at-children-below .children-below .result) (at-if3 .if3 .left),
     )
-    (c .unused-zero .ensures)
+    (c .zeros-from .ensures ∙ child-zeros (at-word .before .before .args .store .now) (at-word .before .before .args .k) (at-word2 .word2 .result))
 
 pub node-fits-spec : {M : Type 1} → statement M
 node-fits-spec =
     tie.close
     (tie.spec
     (λ c κs. search needs) returns (λ c κs. search needs) returns-2 (λ c κs. search needs) returns-3
-    (λ c κs. search needs) returns-4)
+    (λ c. search needs) (λ c κs. search needs) returns-4)

@@ -7,6 +7,7 @@ use native.Mathlib.Omega.{arith}
 use lib.ListN.{length}
 use borrow.Author.Needs.{needs}
 use Rattle.words.specs.Words.{rows}
+use Rattle.checks.specs.Kinds.{ours}
 use Rattle.free.specs.Passes.{passed, changed}
 use Rattle.free.proofs.Entries.{entry-of}
 use Rattle.free.proofs.Masks.{pass-turn, pass-end, changed-grew, changed-same, changed-end}
@@ -17,7 +18,7 @@ abbrev Inv-loop : tie.InvT-loop
 Inv-loop table masks₀ any₀ e₀ masks any e =
     (e ≤ rows table)
     × ((length masks ≡ length masks₀)
-    × ((any || changed table e masks ≡ changed table (rows table) masks₀) × (passed table e masks ≡ passed table (rows table) masks₀)))
+    × ((any || changed ours table e masks ≡ changed ours table (rows table) masks₀) × (passed ours table e masks ≡ passed ours table (rows table) masks₀)))
 
 abbrev μ-loop : tie.MeasureT-loop
 μ-loop table masks₀ any₀ e₀ masks any e = e
@@ -31,7 +32,7 @@ loop-holds c = (omega arith, (refl, (refl, refl)))
 grow-requires : tie.Need-grow-requires Inv-loop μ-loop
 grow-requires c κs =
     let p = c .before .before .before .before .before .pre in
-    (entry-of _ (p .0) _ (omega (arith, c .before .before .loop .inv .0)), omega (arith, p .1, c .before .before .loop .inv))
+    (entry-of ours _ (p .0) _ (omega (arith, c .before .before .loop .inv .0)), omega (arith, p .1, c .before .before .loop .inv))
 
 loop-less : tie.Need-loop-less Inv-loop μ-loop
 loop-less c = omega arith
@@ -46,8 +47,8 @@ loop-again c =
       (
         omega (arith, g .kept),
         (
-          changed-grew t (l .masks) (l .e) some (g .result) (g .last .1 .0) (g .ensures .0) (g .ensures .1) (l .any) (c .if1 .taken) ∙ l .inv .1 .1 .0,
-          pass-turn t (l .masks) (l .e) some (g .result) (g .last .1 .0) (g .ensures .0) (g .ensures .1) ∙ l .inv .1 .1 .1,
+          changed-grew ours t (l .masks) (l .e) some (g .result) (g .last .1 .0) (g .ensures .0) (g .ensures .1) (l .any) (c .if1 .taken) ∙ l .inv .1 .1 .0,
+          pass-turn ours t (l .masks) (l .e) some (g .result) (g .last .1 .0) (g .ensures .0) (g .ensures .1) ∙ l .inv .1 .1 .1,
         ),
       ),
     )
@@ -65,8 +66,8 @@ loop-again-2 c =
       (
         omega (arith, g .kept),
         (
-          changed-same t (l .masks) (l .e) some (g .result) (g .last .1 .0) (g .ensures .0) (g .ensures .1) (l .any) (c .if1 .left) ∙ l .inv .1 .1 .0,
-          pass-turn t (l .masks) (l .e) some (g .result) (g .last .1 .0) (g .ensures .0) (g .ensures .1) ∙ l .inv .1 .1 .1,
+          changed-same ours t (l .masks) (l .e) some (g .result) (g .last .1 .0) (g .ensures .0) (g .ensures .1) (l .any) (c .if1 .left) ∙ l .inv .1 .1 .0,
+          pass-turn ours t (l .masks) (l .e) some (g .result) (g .last .1 .0) (g .ensures .0) (g .ensures .1) ∙ l .inv .1 .1 .1,
         ),
       ),
     )
@@ -76,8 +77,8 @@ returns c =
     let t = c .before .before .before .before .args .table .now in
     let l = c .before .loop in
     let end = c .loop-test .left in (
-      sym (changed-end t (l .masks) (l .e) (l .any) end) ∙ l .inv .1 .1 .0,
-      sym (pass-end t (l .masks) (l .e) end) ∙ l .inv .1 .1 .1,
+      sym (changed-end ours t (l .masks) (l .e) (l .any) end) ∙ l .inv .1 .1 .0,
+      sym (pass-end ours t (l .masks) (l .e) end) ∙ l .inv .1 .1 .1,
     )
 
 pub pass-spec : {M : Type 1} → statement M

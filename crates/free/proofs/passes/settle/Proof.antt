@@ -5,16 +5,17 @@ use mathlib.Core.Bool.{false, true≢false}
 use native.Mathlib.Omega.{arith}
 use lib.ListN.{length}
 use borrow.Author.Needs.{needs}
+use Rattle.checks.specs.Kinds.{ours}
 use Rattle.free.specs.Passes.{Settled}
 use Rattle.free.proofs.Masks.{State, turns, turn-state, turn-less, turn-settled}
 use Rattle.free.proofs.passes.settle.Statement.{statement}
 use Rattle.free.proofs.passes.settle.Tie as tie
 
 abbrev Inv-loop : tie.InvT-loop
-Inv-loop table masks₀ more₀ masks more = (length masks ≡ length masks₀) × (State table masks × (more ≡ false → Settled table masks))
+Inv-loop table masks₀ more₀ masks more = (length masks ≡ length masks₀) × (State ours table masks × (more ≡ false → Settled ours table masks))
 
 abbrev μ-loop : tie.MeasureT-loop
-μ-loop table masks₀ more₀ masks more = turns more masks
+μ-loop table masks₀ more₀ masks more = turns ours more masks
 
 loop-holds : tie.Need-loop-holds Inv-loop μ-loop
 loop-holds c =
@@ -34,7 +35,7 @@ loop-less c =
     let l = at-loop .loop in
     let p = at-pass .pass in
     rw (at-loop-test .loop-test .taken)
-    (omega (arith, turn-less (start .args .table .now) (l .masks) (start .pre .0) (l .inv .1 .0) (p .result) (p .last .1 .0) (p .ensures .0) (p .ensures .1)))
+    (omega (arith, turn-less ours (omega arith) (start .args .table .now) (l .masks) (start .pre .0) (l .inv .1 .0) (p .result) (p .last .1 .0) (p .ensures .0) (p .ensures .1)))
 
 loop-again : tie.Need-loop-again Inv-loop μ-loop
 loop-again c =
@@ -44,8 +45,8 @@ loop-again c =
     let g = c .before .before .before .before .before .before .before .before .pre .0 in (
       omega (arith, p .kept, l .inv),
       (
-        turn-state t (l .masks) g (l .inv .1 .0) (p .result) (p .last .1 .0) (p .ensures .0) (p .ensures .1),
-        turn-settled t (l .masks) g (l .inv .1 .0) (p .result) (p .last .1 .0) (p .ensures .0) (p .ensures .1),
+        turn-state ours (omega arith) t (l .masks) g (l .inv .1 .0) (p .result) (p .last .1 .0) (p .ensures .0) (p .ensures .1),
+        turn-settled ours (omega arith) t (l .masks) g (l .inv .1 .0) (p .result) (p .last .1 .0) (p .ensures .0) (p .ensures .1),
       ),
     )
 
