@@ -14,7 +14,7 @@ use borrow.Author.Tests.{leb-true, ltb-true, eqb-true, le-leb, lt-ltb, eq-eqb, n
 use Rattle.words.specs.Tests.{if_then_else_, rejected}
 use Rattle.words.specs.Words.{rows}
 use Rattle.words.proofs.Tests.{below-or-from, and-true, every-true}
-use Rattle.checks.specs.Kinds.{variables}
+use Rattle.checks.specs.Kinds.{variablesBy}
 use Rattle.checks.specs.Good.{childCount, child, goodNode}
 use Rattle.checks.specs.Checked.{checked, found, storeLengthFits, storeChecked, boundBelow}
 use Rattle.checks.specs.declared.Checked.{Checked}
@@ -24,9 +24,9 @@ use Rattle.checks.specs.Promises.{AllGood, Lowest}
 use Rattle.checks.proofs.Promises.{storePasses, storeRejects}
 use Rattle.meaning.proofs.Checked.{Filled, store-filled}
 use Rattle.collect.specs.Reachable.{Reachable}
-use Rattle.collect.specs.Refused.{Lent, sizesFit, startFits, refused, Collectable}
-use Rattle.collect.specs.Collected.{refusing, keeps, collecting, collectedOf}
-use Rattle.collect.specs.Promises.{SizesFit, NodesGood, StartFits}
+use Rattle.collect.specs.Refused.{Lent, sizesFitBy, startFits, refusedBy, CollectableBy}
+use Rattle.collect.specs.Collected.{refusing, keeps, collecting, collectedOfBy}
+use Rattle.collect.specs.Promises.{SizesFitBy, NodesGood, StartFits}
 use Rattle.collect.proofs.Reaching.{reachable-below, kept-child, reachable-kept}
 
 -- ---- the tests in order
@@ -122,14 +122,14 @@ bound-below b mark = (
   λ f. every-true (λ v. leb (getD b v 0) mark) 0 (length b) .1 (λ v l m. le-leb _ _ (f v)),
 )
 
-module _ (i : Lent) where
+module _ (W : ℕ) (i : Lent) where
   -- The tests of the sizes and of the start are the plain facts.
-  sizes-plain : (sizesFit i ≡ true) ↔ SizesFit i
-  unfolding sizesFit
+  sizes-plain : (sizesFitBy W i ≡ true) ↔ SizesFitBy W i
+  unfolding sizesFitBy
   sizes-plain = (
     λ h.
         let x : (storeLengthFits (length (i .store)) ≡ true) × _ = and-true _ _ h in
-        let y : (eqb (length (i .bindings)) variables ≡ true) × _ = and-true _ _ (x .1) in
+        let y : (eqb (length (i .bindings)) (variablesBy W) ≡ true) × _ = and-true _ _ (x .1) in
         let z : (leb (i .mark) (rows (i .store)) ≡ true) × (leb (rows (i .store)) (length (i .work)) ≡ true) = and-true _ _ (y .1) in
         record {
           store = storeLengthFits-plain (length (i .store)) .0 (x .0);
@@ -140,7 +140,7 @@ module _ (i : Lent) where
     λ z.
         rw (
           storeLengthFits-plain (length (i .store)) .1 (z .store),
-          eq-eqb (length (i .bindings)) variables (z .bindings),
+          eq-eqb (length (i .bindings)) (variablesBy W) (z .bindings),
           le-leb (i .mark) (rows (i .store)) (z .mark),
           le-leb (rows (i .store)) (length (i .work)) (z .work),
         ),
@@ -159,47 +159,47 @@ module _ (i : Lent) where
   abbrev bad : Option ℕ
   bad = rejected (goodNode (i .store)) 0 (i .mark)
 
-  store-found : SizesFit i → storeChecked (i .store) (i .mark) ≡ found 4 bad
+  store-found : SizesFitBy W i → storeChecked (i .store) (i .mark) ≡ found 4 bad
   store-found z = check-found (i .store) (i .mark) (z .store) (z .mark)
 
-  refused-is : refused i ≡ verdict (sizesFit i) bad (startFits i)
-  unfolding refused verdict
-  refused-is = go (sizesFit i) refl
+  refused-is : refusedBy W i ≡ verdict (sizesFitBy W i) bad (startFits i)
+  unfolding refusedBy verdict
+  refused-is = go (sizesFitBy W i) refl
     where
-      go : (z : Bool) → sizesFit i ≡ z
+      go : (z : Bool) → sizesFitBy W i ≡ z
           → (if z then (if eqb (storeChecked (i .store) (i .mark) .answer) 0 then (if startFits i then checked 0 0 else checked 5 0) else storeChecked (i .store) (i .mark)) else checked 2 0)
           ≡ verdict z bad (startFits i)
       go true e = verdict-found bad (startFits i) (storeChecked (i .store) (i .mark)) (store-found (sizes-plain .0 e))
       go false e = refl
 
-  answer-is : refused i .answer ≡ verdict (sizesFit i) bad (startFits i) .answer
+  answer-is : refusedBy W i .answer ≡ verdict (sizesFitBy W i) bad (startFits i) .answer
   answer-is = ap (λ (c : Checked). c .answer) refused-is
 
-  place-is : refused i .place ≡ verdict (sizesFit i) bad (startFits i) .place
+  place-is : refusedBy W i .place ≡ verdict (sizesFitBy W i) bad (startFits i) .place
   place-is = ap (λ (c : Checked). c .place) refused-is
 
   -- The search finds nothing where every node below the mark is good, and otherwise the lowest that is not.
-  none-good : SizesFit i → (bad ≡ none) ↔ NodesGood i
+  none-good : SizesFitBy W i → (bad ≡ none) ↔ NodesGood i
   none-good z = (
     λ e. storePasses (i .store) (i .mark) .0 (ap (λ (c : Checked). c .answer) (store-found z ∙ ap (found 4) e)) .1,
     λ g. found-none bad (ap (λ (c : Checked). c .answer) (sym (store-found z)) ∙ storePasses (i .store) (i .mark) .1 ((z .store, z .mark), g)),
   )
 
-  some-lowest : SizesFit i → (p : ℕ) → (bad ≡ some p) ↔ Lowest (goodNode (i .store)) (i .mark) p
+  some-lowest : SizesFitBy W i → (p : ℕ) → (bad ≡ some p) ↔ Lowest (goodNode (i .store)) (i .mark) p
   some-lowest z p = (
     λ e. storeRejects (i .store) (i .mark) p .0 (store-found z ∙ ap (found 4) e) .1,
     λ l. found-some bad p (sym (store-found z) ∙ storeRejects (i .store) (i .mark) p .1 ((z .store, z .mark), l)),
   )
 
-  pub sizes-refused : (refused i .answer ≡ 2) ↔ (SizesFit i → ⊥)
+  pub sizes-refused : (refusedBy W i .answer ≡ 2) ↔ (SizesFitBy W i → ⊥)
   sizes-refused =
-      let v = verdict-2 (sizesFit i) bad (startFits i) in
-      let n = not-fact (sizesFit i) sizes-plain in
+      let v = verdict-2 (sizesFitBy W i) bad (startFits i) in
+      let n = not-fact (sizesFitBy W i) sizes-plain in
       (λ e. n .0 (v .0 (sym answer-is ∙ e)), λ h. answer-is ∙ v .1 (n .1 h))
 
-  pub node-refused : (p : ℕ) → ((refused i .answer ≡ 4) × (refused i .place ≡ p)) ↔ (SizesFit i × Lowest (goodNode (i .store)) (i .mark) p)
+  pub node-refused : (p : ℕ) → ((refusedBy W i .answer ≡ 4) × (refusedBy W i .place ≡ p)) ↔ (SizesFitBy W i × Lowest (goodNode (i .store)) (i .mark) p)
   node-refused p =
-      let v = verdict-4 (sizesFit i) bad (startFits i) p in (
+      let v = verdict-4 (sizesFitBy W i) bad (startFits i) p in (
         λ e.
             let w = v .0 (sym answer-is ∙ e .0, sym place-is ∙ e .1) in
             let z = sizes-plain .0 (w .0) in
@@ -207,9 +207,9 @@ module _ (i : Lent) where
         λ h. let w = v .1 (sizes-plain .1 (h .0), some-lowest (h .0) p .1 (h .1)) in (answer-is ∙ w .0, place-is ∙ w .1),
       )
 
-  pub start-refused : (refused i .answer ≡ 5) ↔ (SizesFit i × NodesGood i × (StartFits i → ⊥))
+  pub start-refused : (refusedBy W i .answer ≡ 5) ↔ (SizesFitBy W i × NodesGood i × (StartFits i → ⊥))
   start-refused =
-      let v = verdict-5 (sizesFit i) bad (startFits i) in
+      let v = verdict-5 (sizesFitBy W i) bad (startFits i) in
       let n = not-fact (startFits i) start-plain in (
         λ e.
             let w = v .0 (sym answer-is ∙ e) in
@@ -218,9 +218,9 @@ module _ (i : Lent) where
         λ h. answer-is ∙ v .1 (sizes-plain .1 (h .0), none-good (h .0) .1 (h .1), n .1 (h .2)),
       )
 
-  pub collects-plain : (refused i .answer ≡ 0) ↔ (SizesFit i × NodesGood i × StartFits i)
+  pub collects-plain : (refusedBy W i .answer ≡ 0) ↔ (SizesFitBy W i × NodesGood i × StartFits i)
   collects-plain =
-      let v = verdict-0 (sizesFit i) bad (startFits i) in (
+      let v = verdict-0 (sizesFitBy W i) bad (startFits i) in (
         λ e.
             let w = v .0 (sym answer-is ∙ e) in
             let z = sizes-plain .0 (w .0) in
@@ -228,14 +228,14 @@ module _ (i : Lent) where
         λ h. answer-is ∙ v .1 (sizes-plain .1 (h .0), none-good (h .0) .1 (h .1), start-plain .1 (h .2)),
       )
 
-  pub refused-listed : OneOf (refused i .answer)
-  refused-listed = subst OneOf (sym answer-is) (verdict-listed (sizesFit i) bad (startFits i))
+  pub refused-listed : OneOf (refusedBy W i .answer)
+  refused-listed = subst OneOf (sym answer-is) (verdict-listed (sizesFitBy W i) bad (startFits i))
 
-  pub refused-place : (refused i .answer ≡ 4 → ⊥) → refused i .place ≡ 0
-  refused-place n = place-is ∙ verdict-place (sizesFit i) bad (startFits i) (λ e. n (answer-is ∙ e))
+  pub refused-place : (refusedBy W i .answer ≡ 4 → ⊥) → refusedBy W i .place ≡ 0
+  refused-place n = place-is ∙ verdict-place (sizesFitBy W i) bad (startFits i) (λ e. n (answer-is ∙ e))
 
   -- What is collectable is just that.
-  pub plain : Collectable i ↔ (SizesFit i × NodesGood i × StartFits i)
+  pub plain : CollectableBy W i ↔ (SizesFitBy W i × NodesGood i × StartFits i)
   plain = (
     λ a.
         let x = storePasses (i .store) (i .mark) .0 (ap (λ (c : Checked). c .answer) (a .store)) in (
@@ -253,21 +253,21 @@ module _ (i : Lent) where
         },
   )
 
-  pub collectable : refused i .answer ≡ 0 → Collectable i
+  pub collectable : refusedBy W i .answer ≡ 0 → CollectableBy W i
   collectable e = plain .1 (collects-plain .0 e)
 
-  pub collectable-back : Collectable i → refused i .answer ≡ 0
+  pub collectable-back : CollectableBy W i → refusedBy W i .answer ≡ 0
   collectable-back a = collects-plain .1 (plain .0 a)
 
-pub collected-whole : (i : Lent) → Collectable i → collectedOf i ≡ collecting i
-unfolding collectedOf
-collected-whole i a = rw (eq-eqb (refused i .answer) 0 (collectable-back i a))
+pub collected-whole : {W : ℕ} (i : Lent) → CollectableBy W i → collectedOfBy W i ≡ collecting i
+unfolding collectedOfBy
+collected-whole {W} i a = rw (eq-eqb (refusedBy W i .answer) 0 (collectable-back W i a))
 
-pub collected-refused : (i : Lent) → (refused i .answer ≡ 0 → ⊥) → collectedOf i ≡ refusing i (refused i)
-unfolding collectedOf
-collected-refused i n = rw (ne-eqb (refused i .answer) 0 n)
+pub collected-refused : (W : ℕ) (i : Lent) → (refusedBy W i .answer ≡ 0 → ⊥) → collectedOfBy W i ≡ refusing i (refusedBy W i)
+unfolding collectedOfBy
+collected-refused W i n = rw (ne-eqb (refusedBy W i .answer) 0 n)
 
-module _ (i : Lent) (a : Collectable i) where
+module _ {W : ℕ} (i : Lent) (a : CollectableBy W i) where
   pub filled : Filled (i .store) (i .mark)
   filled = store-filled (i .store) (i .mark) (a .store)
 

@@ -16,15 +16,15 @@ use Rattle.checks.specs.Good.{child}
 use Rattle.checks.specs.declared.Checked.{Checked}
 use Rattle.checks.proofs.Promises.{storePasses}
 use Rattle.meaning.specs.Rules.{apply}
-use Rattle.meaning.specs.Store.{Input, Accepted, term, named, bindings, termOf, meant}
+use Rattle.meaning.specs.Store.{Input, AcceptedBy, term, named, bindings, termOf, meant}
 use Rattle.meaning.proofs.Checked.{good-of-node}
 use Rattle.meaning.proofs.Lower.{lower-mark}
 use Rattle.collect.specs.Reachable.{Reachable, at-subject, at-binding}
 use Rattle.collect.specs.Packed.{rank, rebound, storeAfter}
-use Rattle.collect.specs.Refused.{Lent, refused, Collectable}
-use Rattle.collect.specs.Collected.{Afterwards, lent, refusing, keeps, collecting, collectedOf}
+use Rattle.collect.specs.Refused.{Lent, refusedBy, CollectableBy}
+use Rattle.collect.specs.Collected.{Afterwards, lent, refusing, keeps, collecting, collectedOfBy}
 use Rattle.collect.specs.Promises as promises
-use Rattle.collect.specs.Promises.{Collects, number, Moves, lentBy, after}
+use Rattle.collect.specs.Promises.{CollectsBy, number, Moves, lentBy, after}
 use Rattle.collect.proofs.Reaching.{bound-word, kept-reachable}
 use Rattle.collect.proofs.Packing.{rank-le, rank-less, rank-onto, after-zero, after-long, after-filled, after-term, after-constructor, after-count, after-child}
 use Rattle.collect.proofs.Accepting.{OneOf, refused-listed, refused-place, sizes-refused, node-refused, start-refused, plain, collectable, collectable-back}
@@ -33,64 +33,64 @@ use Rattle.collect.proofs.Accepting.{store-passed, collected-whole, col
 -- ---- refused, or collected
 
 pub agreeing : promises.Agreeing
-agreeing i r r′ e f = e ∙ sym f
+agreeing W i r r′ e f = e ∙ sym f
 
 -- Answer and place are the refusal's.
-answer-refused : (i : Lent) → collectedOf i .answer ≡ refused i .answer
-unfolding collectedOf collecting
-answer-refused i = go (eqb (refused i .answer) 0) refl
+answer-refused : (W : ℕ) (i : Lent) → collectedOfBy W i .answer ≡ refusedBy W i .answer
+unfolding collectedOfBy collecting
+answer-refused W i = go (eqb (refusedBy W i .answer) 0) refl
   where
-    go : (t : Bool) → eqb (refused i .answer) 0 ≡ t → (if t then collecting i else refusing i (refused i)) .answer ≡ refused i .answer
-    go true e = sym (eqb-true (refused i .answer) 0 e)
+    go : (t : Bool) → eqb (refusedBy W i .answer) 0 ≡ t → (if t then collecting i else refusing i (refusedBy W i)) .answer ≡ refusedBy W i .answer
+    go true e = sym (eqb-true (refusedBy W i .answer) 0 e)
     go false e = refl
 
-place-refused : (i : Lent) → collectedOf i .place ≡ refused i .place
-unfolding collectedOf collecting
-place-refused i = go (eqb (refused i .answer) 0) refl
+place-refused : (W : ℕ) (i : Lent) → collectedOfBy W i .place ≡ refusedBy W i .place
+unfolding collectedOfBy collecting
+place-refused W i = go (eqb (refusedBy W i .answer) 0) refl
   where
-    go : (t : Bool) → eqb (refused i .answer) 0 ≡ t → (if t then collecting i else refusing i (refused i)) .place ≡ refused i .place
-    go true e = let z = eqb-true (refused i .answer) 0 e in sym (refused-place i (λ x. omega (arith, z, x)))
+    go : (t : Bool) → eqb (refusedBy W i .answer) 0 ≡ t → (if t then collecting i else refusing i (refusedBy W i)) .place ≡ refusedBy W i .place
+    go true e = let z = eqb-true (refusedBy W i .answer) 0 e in sym (refused-place W i (λ x. omega (arith, z, x)))
     go false e = refl
 
-module _ (i : Lent) (r : Afterwards) (e : Collects i r) where
-  answer-of : r .answer ≡ refused i .answer
-  answer-of = ap (λ (r : Afterwards). r .answer) e ∙ answer-refused i
+module _ (W : ℕ) (i : Lent) (r : Afterwards) (e : CollectsBy W i r) where
+  answer-of : r .answer ≡ refusedBy W i .answer
+  answer-of = ap (λ (r : Afterwards). r .answer) e ∙ answer-refused W i
 
-  place-of : r .place ≡ refused i .place
-  place-of = ap (λ (r : Afterwards). r .place) e ∙ place-refused i
+  place-of : r .place ≡ refusedBy W i .place
+  place-of = ap (λ (r : Afterwards). r .place) e ∙ place-refused W i
 
   -- What is said of the refusal's answer is said of the answer that came back.
-  said : {n : ℕ} {A : Type 0} → (refused i .answer ≡ n) ↔ A → (r .answer ≡ n) ↔ A
+  said : {n : ℕ} {A : Type 0} → (refusedBy W i .answer ≡ n) ↔ A → (r .answer ≡ n) ↔ A
   said f = (λ z. f .0 (sym answer-of ∙ z), λ x. answer-of ∙ f .1 x)
 
 pub listed : promises.Listed
-listed i r e = subst OneOf (sym (answer-of i r e)) (refused-listed i)
+listed W i r e = subst OneOf (sym (answer-of W i r e)) (refused-listed W i)
 
 pub refuses-sizes : promises.Refuses-sizes
-refuses-sizes i r e = said i r e (sizes-refused i)
+refuses-sizes W i r e = said W i r e (sizes-refused W i)
 
 pub refuses-node : promises.Refuses-node
-refuses-node i r p e =
-    let f = node-refused i p in (
-      λ z. f .0 (sym (answer-of i r e) ∙ z .0, sym (place-of i r e) ∙ z .1),
-      λ x. let w = f .1 x in (answer-of i r e ∙ w .0, place-of i r e ∙ w .1),
+refuses-node W i r p e =
+    let f = node-refused W i p in (
+      λ z. f .0 (sym (answer-of W i r e) ∙ z .0, sym (place-of W i r e) ∙ z .1),
+      λ x. let w = f .1 x in (answer-of W i r e ∙ w .0, place-of W i r e ∙ w .1),
     )
 
 pub refuses-start : promises.Refuses-start
-refuses-start i r e = said i r e (start-refused i)
+refuses-start W i r e = said W i r e (start-refused W i)
 
 pub no-place : promises.No-place
-no-place i r e n = place-of i r e ∙ refused-place i (λ z. n (answer-of i r e ∙ z))
+no-place W i r e n = place-of W i r e ∙ refused-place W i (λ z. n (answer-of W i r e ∙ z))
 
 pub collects-rest : promises.Collects-rest
-collects-rest i r e = said i r e (collectable i, collectable-back i)
+collects-rest W i r e = said W i r e (collectable W i, collectable-back W i)
 
 pub collectable-plain : promises.Collectable-plain
 collectable-plain = plain
 
 pub writes-nothing : promises.Writes-nothing
-writes-nothing i r e n =
-    let q : r ≡ refusing i (refused i) = e ∙ collected-refused i (λ z. n (collectable i z)) in
+writes-nothing W i r e n =
+    let q : r ≡ refusing i (refusedBy W i) = e ∙ collected-refused W i (λ z. n (collectable W i z)) in
     record {
       subject = ap (λ (r : Afterwards). r .subject) q;
       mark = ap (λ (r : Afterwards). r .mark) q;
@@ -102,12 +102,12 @@ writes-nothing i r e n =
 -- ---- what is kept
 
 pub keeps-reachable : promises.Keeps-reachable
-keeps-reachable i a k = (
+keeps-reachable W i a k = (
   kept-reachable (i .store) (i .bindings) (i .mark) (i .subject) k,
   keep i a,
 )
 
-module _ (i : Lent) (a : Collectable i) where
+module _ {W : ℕ} (i : Lent) (a : CollectableBy W i) where
   abbrev reaches : ℕ → Type 0
   reaches k = Reachable (i .store) (i .bindings) (i .subject) k
 
@@ -187,7 +187,7 @@ module _ (i : Lent) (a : Collectable i) where
     zero-at (length (i .work)),
   )
 
-  again : Collectable (lent (collecting i .store) (collecting i .bindings) (collecting i .work) (collecting i .mark) (collecting i .subject))
+  again : CollectableBy W (lent (collecting i .store) (collecting i .bindings) (collecting i .work) (collecting i .mark) (collecting i .subject))
   unfolding collecting
   again =
       let f = after-filled (keeps i) (i .store) (i .mark) (filled i a) (closed i a) in
@@ -205,54 +205,54 @@ module _ (i : Lent) (a : Collectable i) where
 
 -- ---- of what came back
 
-module _ (i : Lent) (r : Afterwards) (a : Collectable i) (e : Collects i r) where
+module _ {W : ℕ} (i : Lent) (r : Afterwards) (a : CollectableBy W i) (e : CollectsBy W i r) where
   is : r ≡ collecting i
   is = e ∙ collected-whole i a
 
 pub loses-none : promises.Loses-none
-loses-none i r a e k q = subst (λ (r : Afterwards). Moves i r k) (sym (is i r a e)) (moved i a k q)
+loses-none W i r a e k q = subst (λ (r : Afterwards). Moves i r k) (sym (is i r a e)) (moved i a k q)
 
 pub keeps-no-other : promises.Keeps-no-other
-keeps-no-other i r a e n l =
+keeps-no-other W i r a e n l =
     no-other i a n (subst (λ (r : Afterwards). n < r .mark) (is i r a e) l)
 
 pub keeps-order : promises.Keeps-order
-keeps-order i a j k q l = rank-less (keeps i) j k (keep i a q) l
+keeps-order W i a j k q l = rank-less (keeps i) j k (keep i a q) l
 
-mark-least : (i : Lent) → collectedOf i .mark ≤ i .mark
-unfolding collectedOf collecting
-mark-least i = go (eqb (refused i .answer) 0)
+mark-least : (W : ℕ) (i : Lent) → collectedOfBy W i .mark ≤ i .mark
+unfolding collectedOfBy collecting
+mark-least W i = go (eqb (refusedBy W i .answer) 0)
   where
-    go : (t : Bool) → (if t then collecting i else refusing i (refused i)) .mark ≤ i .mark
+    go : (t : Bool) → (if t then collecting i else refusing i (refusedBy W i)) .mark ≤ i .mark
     go true = rank-le (keeps i) (i .mark)
     go false = omega arith
 
 pub mark-falls : promises.Mark-falls
-mark-falls i r e = subst (λ (r : Afterwards). r .mark ≤ i .mark) (sym e) (mark-least i)
+mark-falls W i r e = subst (λ (r : Afterwards). r .mark ≤ i .mark) (sym e) (mark-least W i)
 
 pub clears : promises.Clears
-clears i r a e =
+clears W i r a e =
     subst (λ (r : Afterwards).
     (length (r .store) ≡ length (i .store)) × ((j : ℕ) → 8 * r .mark ≤ j → getD (r .store) j 0 ≡ 0)
     × (length (r .work) ≡ length (i .work)) × ((j : ℕ) → getD (r .work) j 0 ≡ 0))
     (sym (is i r a e)) (cleared i a)
 
 pub same-terms : promises.Same-terms
-same-terms i r a e =
+same-terms W i r a e =
     subst (λ (r : Afterwards).
     (term (r .store) (r .subject) ≡ term (i .store) (i .subject))
     × (meant (r .store) (bindings (r .bindings)) ≡ meant (i .store) (bindings (i .bindings))))
     (sym (is i r a e)) (terms i a)
 
 pub collectable-again : promises.Collectable-again
-collectable-again i r a e =
-    subst (λ (r : Afterwards). Collectable (lent (r .store) (r .bindings) (r .work) (r .mark) (r .subject))) (sym (is i r a e)) (again i a)
+collectable-again W i r a e =
+    subst (λ (r : Afterwards). CollectableBy W (lent (r .store) (r .bindings) (r .work) (r .mark) (r .subject))) (sym (is i r a e)) (again i a)
 
 -- ---- a run after the collection
 
-runnable : (i : Input) (w : List ℕ) (r : Afterwards) → Accepted i → Collectable (lentBy i w) → Collects (lentBy i w) r → Accepted (after i r)
-runnable i w r q a e =
-    let x = collectable-again (lentBy i w) r a e in
+runnable : (W : ℕ) (i : Input) (w : List ℕ) (r : Afterwards) → AcceptedBy W i → CollectableBy W (lentBy i w) → CollectsBy W (lentBy i w) r → AcceptedBy W (after i r)
+runnable W i w r q a e =
+    let x = collectable-again W (lentBy i w) r a e in
     record {
       table = q .table;
       store = x .store;
@@ -264,11 +264,11 @@ runnable i w r q a e =
     }
 
 pub runs-again : promises.Runs-again
-runs-again N Λ n i w r q l e =
-    let a : Collectable (lentBy i w) = record { store = q .store; bindings = q .bindings; work = l; subject = q .subject; bound = q .bound } in
-    let t = same-terms (lentBy i w) r a e in
-    let x = runnable i w r q a e in (
+runs-again W N Λ n i w r q l e =
+    let a : CollectableBy W (lentBy i w) = record { store = q .store; bindings = q .bindings; work = l; subject = q .subject; bound = q .bound } in
+    let t = same-terms W (lentBy i w) r a e in
+    let x = runnable W i w r q a e in (
       x,
-      lower-mark N Λ n i (after i r) q x refl refl (ap (λ (n : ℕ). n / 8) (clears (lentBy i w) r a e .0)) (mark-falls (lentBy i w) r e)
+      lower-mark W N Λ n i (after i r) q x refl refl (ap (λ (n : ℕ). n / 8) (clears W (lentBy i w) r a e .0)) (mark-falls W (lentBy i w) r e)
           (λ z. apply (i .start) (t .0 z) (t .1 z)),
     )

@@ -12,8 +12,8 @@ use Rattle.words.proofs.Rows.{length-clearedFrom}
 use Rattle.checks.specs.Good.{child}
 use Rattle.collect.specs.Reachable.{Reachable, at-subject, at-binding}
 use Rattle.collect.specs.Packed.{rank, rebound, storeAfter}
-use Rattle.collect.specs.Refused.{Lent, Collectable}
-use Rattle.collect.specs.Collected.{atEnd, keeps, collecting, collectedOf}
+use Rattle.collect.specs.Refused.{Lent, CollectableBy}
+use Rattle.collect.specs.Collected.{atEnd, keeps, collecting, collectedOfBy}
 use Rattle.collect.specs.Passes.{Flags, flagged, Movable, Moved}
 use Rattle.collect.proofs.Reaching.{bound-word, kept-reachable}
 use Rattle.collect.proofs.Flagging.{flagged-is}
@@ -26,7 +26,7 @@ cleared-whole : (w : List ℕ) → clearedFrom w 0 ≡ replicate (length w) 0
 unfolding clearedFrom
 cleared-whole w = ap (λ (n : ℕ). replicate n 0) (sub-zero (length w))
 
-module _ (i : Lent) (a : Collectable i) (w₁ : List ℕ) (f : Flags (length (i .work)) (keeps i) w₁) where
+module _ {W : ℕ} (i : Lent) (a : CollectableBy W i) (w₁ : List ℕ) (f : Flags (length (i .work)) (keeps i) w₁) where
   inside : (k : ℕ) → keeps i k ≡ true → k < length (i .work)
   inside k e = omega (arith, under i a (kept-reachable (i .store) (i .bindings) (i .mark) (i .subject) k e), mark-inside i a)
 
@@ -79,7 +79,7 @@ module _ (i : Lent) (a : Collectable i) (w₁ : List ℕ) (f : Flags (length (i 
     rebound-at v (suc k) e = ap suc (number-at (bound v k e))
 
     pub whole : (s₃ b₃ w₃ : List ℕ) → b₃ ≡ map (rebound (λ k. getD w₂ k 0)) (i .bindings) → s₃ ≡ clearedFrom s₂ (8 * n) → w₃ ≡ clearedFrom w₂ 0
-        → atEnd (record { answer = 0; place = 0; subject = getD w₂ (i .subject) 0; mark = n }) s₃ b₃ w₃ ≡ collectedOf i
+        → atEnd (record { answer = 0; place = 0; subject = getD w₂ (i .subject) 0; mark = n }) s₃ b₃ w₃ ≡ collectedOfBy W i
     unfolding collecting
     whole s₃ b₃ w₃ eb es ew =
         (λ z. record {

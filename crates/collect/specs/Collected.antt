@@ -8,7 +8,8 @@ use Rattle.words.specs.Tests.{if_then_else_}
 use Rattle.checks.specs.declared.Checked.{Checked}
 use Rattle.collect.specs.Reachable.{kept}
 use Rattle.collect.specs.Packed.{rank, rebound, storeAfter}
-use Rattle.collect.specs.Refused.{Lent, refused}
+use Rattle.checks.specs.Kinds.{ours}
+use Rattle.collect.specs.Refused.{Lent, refusedBy}
 use Rattle.collect.specs.declared.Collected.{Collected}
 
 -- what is handed over
@@ -57,6 +58,10 @@ collecting i = record {
 }
 
 -- refused, or collected
-unfoldable pub collectedOf : Lent → Afterwards
+unfoldable pub collectedOfBy : ℕ → Lent → Afterwards
 unfolding collecting
-collectedOf i = if eqb (refused i .answer) 0 then collecting i else refusing i (refused i)
+collectedOfBy W i = if eqb (refusedBy W i .answer) 0 then collecting i else refusing i (refusedBy W i)
+
+-- the same in the product
+abbrev pub collectedOf : Lent → Afterwards
+collectedOf = collectedOfBy ours

@@ -8,7 +8,7 @@ use lib.Dec.{leb, ltb, eqb}
 use lib.ListN.{length, getD}
 use Rattle.words.specs.Words.{rows}
 use Rattle.words.specs.Tests.{if_then_else_}
-use Rattle.checks.specs.Kinds.{variables}
+use Rattle.checks.specs.Kinds.{ours, variablesBy}
 use Rattle.checks.specs.Checked.{checked, storeLengthFits, storeChecked, boundBelow}
 use Rattle.checks.specs.declared.Checked.{Checked}
 
@@ -22,27 +22,31 @@ pub record Lent : Type 0 where
 
 -- the store and the bindings have lengths of theirs, the mark is at most the store's nodes, and the work list has a word for each
 -- node of the store
-unfoldable pub sizesFit : Lent → Bool
-sizesFit i =
+unfoldable pub sizesFitBy : ℕ → Lent → Bool
+sizesFitBy W i =
     storeLengthFits (length (i .store))
-    && (eqb (length (i .bindings)) variables && (leb (i .mark) (rows (i .store)) && leb (rows (i .store)) (length (i .work))))
+    && (eqb (length (i .bindings)) (variablesBy W) && (leb (i .mark) (rows (i .store)) && leb (rows (i .store)) (length (i .work))))
 
 -- the subject is below the mark, and no binding's word exceeds it
 unfoldable pub startFits : Lent → Bool
 startFits i = ltb (i .subject) (i .mark) && boundBelow (i .bindings) (i .mark)
 
 -- the refusal, or 0 with place 0
-unfoldable pub refused : Lent → Checked
-refused i =
-    if sizesFit i then
+unfoldable pub refusedBy : ℕ → Lent → Checked
+refusedBy W i =
+    if sizesFitBy W i then
     (if eqb (storeChecked (i .store) (i .mark) .answer) 0 then (if startFits i then checked 0 0 else checked 5 0)
     else storeChecked (i .store) (i .mark))
     else checked 2 0
 
 -- the same as plain facts: nothing of this is refused
-pub record Collectable (i : Lent) : Type 0 where
+pub record CollectableBy (W : ℕ) (i : Lent) : Type 0 where
   pub store : storeChecked (i .store) (i .mark) ≡ checked 0 0
-  pub bindings : length (i .bindings) ≡ variables
+  pub bindings : length (i .bindings) ≡ variablesBy W
   pub work : rows (i .store) ≤ length (i .work)
   pub subject : i .subject < i .mark
   pub bound : (v : ℕ) → getD (i .bindings) v 0 ≤ i .mark
+
+-- the same in the product
+abbrev pub Collectable : Lent → Type 0
+Collectable = CollectableBy ours

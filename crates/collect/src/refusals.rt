@@ -4,12 +4,13 @@ use checks::bindings::bindings_below;
 use checks::nodes::check_store;
 use checks::nodes::store_length_fits;
 ghost use mathlib.Core.Path.{_≡_};
-ghost use Rattle.collect.specs.Refused.{sizesFit, refused};
+ghost use Rattle.collect.specs.Refused.{sizesFitBy, refusedBy};
+ghost use Rattle.checks.specs.Kinds.{ours};
 ghost use Rattle.collect.specs.Collected.{lent};
 
 // The lengths, and the mark within the store.
 fn sizes_fit(store: &[u32], bindings: &[u32], work: &[u32], mark: u32, subject: u32) -> bool
-    ensures { λ r. ⌜ r ≡ sizesFit (lent (now (store .entry)) (now (bindings .entry)) (now (work .entry)) mark subject) ⌝ }
+    ensures { λ r. ⌜ r ≡ sizesFitBy ours (lent (now (store .entry)) (now (bindings .entry)) (now (work .entry)) mark subject) ⌝ }
 {
     if !store_length_fits(store.len()) {
         return false;
@@ -25,7 +26,7 @@ fn sizes_fit(store: &[u32], bindings: &[u32], work: &[u32], mark: u32, subject: 
 
 // The refusal, or 0 with place 0.
 pub fn refusal(store: &[u32], bindings: &[u32], work: &[u32], mark: u32, subject: u32) -> Checked
-    ensures { λ r. ⌜ r ≡ refused (lent (now (store .entry)) (now (bindings .entry)) (now (work .entry)) mark subject) ⌝ }
+    ensures { λ r. ⌜ r ≡ refusedBy ours (lent (now (store .entry)) (now (bindings .entry)) (now (work .entry)) mark subject) ⌝ }
 {
     if !sizes_fit(store, bindings, work, mark, subject) {
         return Checked {

@@ -7,7 +7,8 @@ use native.Mathlib.Omega.{arith}
 use lib.ListN.{List·getD-eq-default}
 use Rattle.words.specs.Words.{wordAt}
 use Rattle.words.specs.Tests.{if_then_else_}
-use Rattle.checks.specs.Good.{kindOf, operandCount, argumentOf, constructorOf}
+use Rattle.checks.specs.Kinds.{ours}
+use Rattle.checks.specs.Good.{kindOf, operandCount, argumentOf, number, maskBy, constructorOf}
 use Rattle.meaning.specs.Bindings.{Bindings, unbound, masked}
 use Rattle.meaning.specs.Table.{ID, FAIL, TEST, NOT, SEQ, CHOICE, LEFT, REC, CALL, PATH, CONG, ALL, ONE, SOME, MATCH, BUILD, SCOPE, WHERE, table, byKind, operands}
 use Rattle.meaning.specs.Plan.{keep, drop, ret, fail, look, make, ask}
@@ -44,7 +45,7 @@ module _ (t : List ℕ) (n e k : ℕ) (b : Bindings ℕ) (w : List ℕ) (m : Sta
 
   pub ruled-above : 17 < kindOf t e → ruled t n e k b w m u ≡ lost (leftOf w m) u
   unfolding byKind strategy plan runPlan
-  ruled-above h = rule-is t n e k b w m u FAIL (kind-is t e (kindOf t e) refl ∙ List·getD-eq-default (byKind (argumentOf t e) (wordAt t e 2) (wordAt t e 3) (operands t e)) FAIL {n = kindOf t e} (omega arith))
+  ruled-above h = rule-is t n e k b w m u FAIL (kind-is t e (kindOf t e) refl ∙ List·getD-eq-default (byKind (argumentOf t e) (wordAt t e 2) (wordAt t e 3) (operands t e) (maskBy ours t e) (wordAt t e (1 + ours))) FAIL {n = kindOf t e} (omega arith))
 
   module _ (x : ℕ) (xe : x ≡ wordAt t e 2) where
     pub ruled-test : kindOf t e ≡ 2 → asks (ask drop (apply x k b) (λ h c. ret k b) fail)
@@ -72,7 +73,7 @@ module _ (t : List ℕ) (n e k : ℕ) (b : Bindings ℕ) (w : List ℕ) (m : Sta
     ruled-build h = rule-is t n e k b w m u _ (kind-is t e 15 h) ∙ last t n w m u (build (wordAt t e 2) k b) ∙ rw xe
 
     pub ruled-scope : (s : ℕ) → s ≡ argumentOf t e → kindOf t e ≡ 16 → asks (ask keep (apply x k (masked s unbound b)) (λ h c. ret h (masked s b c)) fail)
-    unfolding byKind strategy
+    unfolding number byKind strategy
     ruled-scope s se h = rule-is t n e k b w m u _ (kind-is t e 16 h) ∙ rw (xe, se)
 
     pub ruled-where : kindOf t e ≡ 17 → asks (ask keep (apply x k b) (λ h c. ret k c) fail)

@@ -4,6 +4,7 @@ use mathlib.Core.Path.{ap, sym, _∙_}
 use Prim.Native.Nat.{ℕ}
 use native.Mathlib.Omega.{arith}
 use borrow.Author.Needs.{needs}
+use Rattle.checks.specs.Kinds.{ours}
 use Rattle.checks.specs.declared.Checked.{Checked}
 use lib.ListN.{getD}
 use Rattle.collect.specs.Packed.{rebound}
@@ -20,7 +21,7 @@ returns c =
     let a = at-refusal .before .before .before .before .before .before .before .args in
     let i : Lent = lent (a .store .now) (a .bindings .now) (a .work .now) (a .mark) (a .subject) in
     let e = at-refusal .refusal .ensures in
-    (λ z. refusing i (e z)) ∙ sym (collected-refused i (λ z. c .if1 .taken (ap (λ (c : Checked). c .answer) e ∙ z)))
+    (λ z. refusing i (e z)) ∙ sym (collected-refused ours i (λ z. c .if1 .taken (ap (λ (c : Checked). c .answer) e ∙ z)))
 
 mark-reached-requires : tie.Need-mark-reached-requires
 mark-reached-requires c κs =
@@ -28,7 +29,7 @@ mark-reached-requires c κs =
     let at-refusal = at-if1 .before .before in
     let a = at-refusal .before .before .before .before .before .before .before .args in
     let i : Lent = lent (a .store .now) (a .bindings .now) (a .work .now) (a .mark) (a .subject) in
-    collectable i (sym (ap (λ (c : Checked). c .answer) (at-refusal .refusal .ensures)) ∙ at-if1 .if1 .left)
+    collectable ours i (sym (ap (λ (c : Checked). c .answer) (at-refusal .refusal .ensures)) ∙ at-if1 .if1 .left)
 
 move-kept-requires : tie.Need-move-kept-requires
 move-kept-requires c κs =
@@ -37,7 +38,7 @@ move-kept-requires c κs =
     let at-refusal = at-if1 .before .before in
     let a = at-refusal .before .before .before .before .before .before .before .args in
     let i : Lent = lent (a .store .now) (a .bindings .now) (a .work .now) (a .mark) (a .subject) in
-    let h : Collectable i = collectable i (sym (ap (λ (c : Checked). c .answer) (at-refusal .refusal .ensures)) ∙ at-if1 .if1 .left) in
+    let h : Collectable i = collectable ours i (sym (ap (λ (c : Checked). c .answer) (at-refusal .refusal .ensures)) ∙ at-if1 .if1 .left) in
     movable i h _ (at-mark-reached .mark-reached .ensures)
 
 slice-read-renumbered : tie.Need-slice-read-renumbered
@@ -48,7 +49,7 @@ slice-read-renumbered c =
     let at-refusal = at-if1 .before .before in
     let a = at-refusal .before .before .before .before .before .before .before .args in
     let i : Lent = lent (a .store .now) (a .bindings .now) (a .work .now) (a .mark) (a .subject) in
-    let h : Collectable i = collectable i (sym (ap (λ (c : Checked). c .answer) (at-refusal .refusal .ensures)) ∙ at-if1 .if1 .left) in
+    let h : Collectable i = collectable ours i (sym (ap (λ (c : Checked). c .answer) (at-refusal .refusal .ensures)) ∙ at-if1 .if1 .left) in
     subject-inside i h _ (at-mark-reached .mark-reached .ensures) _ _ _ (at-move-kept .move-kept .ensures)
 
 move-bindings-requires : tie.Need-move-bindings-requires
@@ -59,7 +60,7 @@ move-bindings-requires c κs =
     let at-refusal = at-if1 .before .before in
     let a = at-refusal .before .before .before .before .before .before .before .args in
     let i : Lent = lent (a .store .now) (a .bindings .now) (a .work .now) (a .mark) (a .subject) in
-    let h : Collectable i = collectable i (sym (ap (λ (c : Checked). c .answer) (at-refusal .refusal .ensures)) ∙ at-if1 .if1 .left) in
+    let h : Collectable i = collectable ours i (sym (ap (λ (c : Checked). c .answer) (at-refusal .refusal .ensures)) ∙ at-if1 .if1 .left) in
     bindings-inside i h _ (at-mark-reached .mark-reached .ensures) _ _ _ (at-move-kept .move-kept .ensures)
 
 mul-clear-from : tie.Need-mul-clear-from
@@ -70,7 +71,7 @@ mul-clear-from c =
     let at-refusal = at-if1 .before .before in
     let a = at-refusal .before .before .before .before .before .before .before .args in
     let i : Lent = lent (a .store .now) (a .bindings .now) (a .work .now) (a .mark) (a .subject) in
-    let h : Collectable i = collectable i (sym (ap (λ (c : Checked). c .answer) (at-refusal .refusal .ensures)) ∙ at-if1 .if1 .left) in
+    let h : Collectable i = collectable ours i (sym (ap (λ (c : Checked). c .answer) (at-refusal .refusal .ensures)) ∙ at-if1 .if1 .left) in
     omega (arith, mark-small i h _ (at-mark-reached .mark-reached .ensures) _ _ _ (at-move-kept .move-kept .ensures))
 
 same-length-4 : tie.Need-same-length-4
@@ -84,7 +85,7 @@ same-length-4 c =
     let at-refusal = at-if1 .before .before in
     let a = at-refusal .before .before .before .before .before .before .before .args in
     let i : Lent = lent (a .store .now) (a .bindings .now) (a .work .now) (a .mark) (a .subject) in
-    let h : Collectable i = collectable i (sym (ap (λ (c : Checked). c .answer) (at-refusal .refusal .ensures)) ∙ at-if1 .if1 .left) in
+    let h : Collectable i = collectable ours i (sym (ap (λ (c : Checked). c .answer) (at-refusal .refusal .ensures)) ∙ at-if1 .if1 .left) in
     omega (arith, store-length i h _ (at-mark-reached .mark-reached .ensures) _ _ _ (at-move-kept .move-kept .ensures) _ (at-clear-from .clear-from .ensures))
 
 same-length-5 : tie.Need-same-length-5
@@ -106,7 +107,7 @@ same-length-6 c =
     let at-refusal = at-if1 .before .before in
     let a = at-refusal .before .before .before .before .before .before .before .args in
     let i : Lent = lent (a .store .now) (a .bindings .now) (a .work .now) (a .mark) (a .subject) in
-    let h : Collectable i = collectable i (sym (ap (λ (c : Checked). c .answer) (at-refusal .refusal .ensures)) ∙ at-if1 .if1 .left) in
+    let h : Collectable i = collectable ours i (sym (ap (λ (c : Checked). c .answer) (at-refusal .refusal .ensures)) ∙ at-if1 .if1 .left) in
     omega (arith, work-length i h _ (at-mark-reached .mark-reached .ensures) _ _ _ (at-move-kept .move-kept .ensures) _ (at-clear-from2 .clear-from2 .ensures))
 
 returns-2 : tie.Need-returns-2
@@ -120,7 +121,7 @@ returns-2 c =
     let at-refusal = at-if1 .before .before in
     let a = at-refusal .before .before .before .before .before .before .before .args in
     let i : Lent = lent (a .store .now) (a .bindings .now) (a .work .now) (a .mark) (a .subject) in
-    let h : Collectable i = collectable i (sym (ap (λ (c : Checked). c .answer) (at-refusal .refusal .ensures)) ∙ at-if1 .if1 .left) in
+    let h : Collectable i = collectable ours i (sym (ap (λ (c : Checked). c .answer) (at-refusal .refusal .ensures)) ∙ at-if1 .if1 .left) in
     whole i h _ (at-mark-reached .mark-reached .ensures) _ _ _ (at-move-kept .move-kept .ensures) _ _ _ (at-move-bindings .move-bindings .ensures)
     (at-clear-from .clear-from .ensures) (at-clear-from2 .clear-from2 .ensures)
 

@@ -1,16 +1,16 @@
 -- `collect::refusals::refusal` meets its contract, test by test in document 01's order. Assumes nothing.
 use borrow.Author.Needs.{needs}
 use borrow.Author.Tests.{eq-eqb, ne-eqb, lt-ltb, le-ltb, not-true, not-false}
-use Rattle.collect.specs.Refused.{startFits, refused}
+use Rattle.collect.specs.Refused.{startFits, refusedBy}
 use Rattle.collect.proofs.refusals.refusal.Statement.{statement}
 use Rattle.collect.proofs.refusals.refusal.Tie as tie
 
 returns : tie.Need-returns
-unfolding refused
+unfolding refusedBy
 returns c = rw (← c .before .sizes-fit .ensures, not-true (c .before .sizes-fit .result) (c .if1 .taken))
 
 returns-2 : tie.Need-returns-2
-unfolding refused
+unfolding refusedBy
 returns-2 c =
     let at-check-store = c .before .before in
     let at-if1 = at-check-store .before in
@@ -23,7 +23,7 @@ returns-2 c =
     )
 
 returns-3 : tie.Need-returns-3
-unfolding refused startFits
+unfolding refusedBy startFits
 returns-3 c =
     let at-if2 = c .before in
     let at-check-store = at-if2 .before .before in
@@ -39,7 +39,7 @@ returns-3 c =
     )
 
 returns-4 : tie.Need-returns-4
-unfolding refused startFits
+unfolding refusedBy startFits
 returns-4 c =
     let at-bindings-below = c .before in
     let at-if3 = at-bindings-below .before in
@@ -59,7 +59,7 @@ returns-4 c =
     )
 
 returns-5 : tie.Need-returns-5
-unfolding refused startFits
+unfolding refusedBy startFits
 returns-5 c =
     let at-bindings-below = c .before in
     let at-if3 = at-bindings-below .before in

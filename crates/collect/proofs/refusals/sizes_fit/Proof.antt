@@ -1,16 +1,16 @@
 -- `collect::refusals::sizes_fit` meets its contract, test by test. Assumes nothing.
 use borrow.Author.Needs.{needs}
 use borrow.Author.Tests.{eq-eqb, ne-eqb, le-leb, lt-leb, not-true, not-false}
-use Rattle.collect.specs.Refused.{sizesFit}
+use Rattle.collect.specs.Refused.{sizesFitBy}
 use Rattle.collect.proofs.refusals.sizes_fit.Statement.{statement}
 use Rattle.collect.proofs.refusals.sizes_fit.Tie as tie
 
 returns : tie.Need-returns
-unfolding sizesFit
+unfolding sizesFitBy
 returns c = rw (← c .before .store-length-fits .ensures, not-true (c .before .store-length-fits .result) (c .if1 .taken))
 
 returns-2 : tie.Need-returns-2
-unfolding sizesFit
+unfolding sizesFitBy
 returns-2 c =
     let at-store-length-fits = c .before .before in
     rw (
@@ -20,7 +20,7 @@ returns-2 c =
     )
 
 returns-3 : tie.Need-returns-3
-unfolding sizesFit
+unfolding sizesFitBy
 returns-3 c =
     let at-if1 = c .before .before in
     let at-store-length-fits = at-if1 .before in
@@ -32,7 +32,7 @@ returns-3 c =
     )
 
 returns-4 : tie.Need-returns-4
-unfolding sizesFit
+unfolding sizesFitBy
 returns-4 c =
     let at-if1 = c .before .before in
     let at-store-length-fits = at-if1 .before in
