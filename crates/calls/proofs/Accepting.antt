@@ -14,7 +14,7 @@ use borrow.Author.Tests.{leb-true, ltb-true, eqb-true, eqb-false, le-leb, lt-ltb
 use Rattle.words.specs.Tests.{if_then_else_, rejected}
 use Rattle.words.specs.Words.{rows}
 use Rattle.words.proofs.Tests.{below-or-from, and-true, every-true}
-use Rattle.checks.specs.Kinds.{sortOf, same, variables}
+use Rattle.checks.specs.Kinds.{ours, sortOf, same, variables}
 use Rattle.checks.specs.Good.{kindOf, fault, goodEntry, goodNode}
 use Rattle.checks.specs.Plain.{Faulty}
 use Rattle.checks.specs.Checked.{checked, found, tableLengthFits, storeLengthFits, tableChecked, storeChecked}
@@ -354,12 +354,12 @@ module _ (g : Option (List ℕ)) (i : Input) where
 
   table-test : Test (EntriesGood i) BadEntry
   table-test = record {
-    some = λ n p y. omega (arith, faulty-within (i .table) p n (y .1) .0);
+    some = λ n p y. omega (arith, faulty-within ours (i .table) p n (y .1) .0);
     not-both = λ n p y. lowest-not-all _ _ p (y .0);
     one = λ n p m q y z.
         let e : p ≡ q = lowest-one _ _ p q (y .0) (z .0) in
-        let f : fault (i .table) p ≡ n = faultPlain (i .table) p n (omega (arith, faulty-within (i .table) p n (y .1) .0)) .1 (y .1) in
-        let g : fault (i .table) q ≡ m = faultPlain (i .table) q m (omega (arith, faulty-within (i .table) q m (z .1) .0)) .1 (z .1) in
+        let f : fault (i .table) p ≡ n = faultPlain ours (i .table) p n (omega (arith, faulty-within ours (i .table) p n (y .1) .0)) .1 (y .1) in
+        let g : fault (i .table) q ≡ m = faultPlain ours (i .table) q m (omega (arith, faulty-within ours (i .table) q m (z .1) .0)) .1 (z .1) in
         let h : n ≡ m = sym f ∙ ap (fault (i .table)) e ∙ g in
         λ j. record { answer = h j; place = e j };
   }
@@ -374,12 +374,12 @@ module _ (g : Option (List ℕ)) (i : Input) where
   sizes-tested = fact-tested _ 2 AllFit all-plain
 
   table-tested : SizesFit i → Tested (EntriesGood i) BadEntry (tableChecked (i .table))
-  table-tested z = go (known (i .table)) refl
+  table-tested z = go (known ours (i .table)) refl
     where
       go : {c : Checked} → Known c → tableChecked (i .table) ≡ c → Tested (EntriesGood i) BadEntry c
-      go passes-all e = passed (tablePasses (i .table) .0 (answer-of e) .1)
-      go refuses-length e = absurd (tableRefuses (i .table) .0 e (z .table))
-      go (rejects-at n p l m) e = refusing n p (tableRejects (i .table) n p l .0 e .1)
+      go passes-all e = passed (tablePasses ours (i .table) .0 (answer-of e) .1)
+      go refuses-length e = absurd (tableRefuses ours (i .table) .0 e (z .table))
+      go (rejects-at n p l m) e = refusing n p (tableRejects ours (i .table) n p l .0 e .1)
 
   store-tested : SizesFit i → Tested (NodesGood i) BadNode (storeChecked (i .store) (i .mark))
   unfolding storeChecked
@@ -402,7 +402,7 @@ module _ (g : Option (List ℕ)) (i : Input) where
   past-table : (n p : ℕ) → n ≢ 2 → n ≤ 12 → (verdictWith ≡ checked n p) ↔ (AllFit × (EntriesGood i × (afterTable ≡ checked n p)))
   past-table n p k l =
       under (past-sizes n p k)
-      (λ z. goes-on table-test afterTable n p (λ y. omega (arith, faulty-within (i .table) p n (y .1) .0)) (table-tested (z .0)))
+      (λ z. goes-on table-test afterTable n p (λ y. omega (arith, faulty-within ours (i .table) p n (y .1) .0)) (table-tested (z .0)))
 
   -- and so is the store
   past-store : (n p : ℕ) → n ≢ 2 → n ≤ 12 → n ≢ 4 → (verdictWith ≡ checked n p) ↔ (AllFit × (EntriesGood i × (NodesGood i × (afterStore ≡ checked n p))))
@@ -444,7 +444,7 @@ module _ (g : Option (List ℕ)) (i : Input) where
   pub refused-sizes : (p : ℕ) → (verdictWith ≡ checked 2 p) ↔ ((p ≡ 0) × (AllFit → ⊥))
   refused-sizes p =
       let f = decides sizes-test afterSizes 2 p sizes-tested
-      (λ z. gives-not table-test afterTable 2 (λ q y. omega (arith, faulty-within (i .table) q 2 (y .1) .0)) (table-tested (z .0))
+      (λ z. gives-not table-test afterTable 2 (λ q y. omega (arith, faulty-within ours (i .table) q 2 (y .1) .0)) (table-tested (z .0))
       (λ x. store-not (z .0) 2 (λ e. omega (arith, e)) (λ e. omega (arith, e)) (λ e. omega (arith, e)) (λ e. omega (arith, e)) (λ e. omega (arith, e)))) in
       (λ e. let y = f .0 (sym in-order ∙ e) in (y .1, y .2), λ y. in-order ∙ f .1 (refl, y .0, y .1))
 
@@ -496,7 +496,7 @@ module _ (g : Option (List ℕ)) (i : Input) where
   placed-with =
       subst PlacedAnswer (sym in-order)
       (placed-on sizes-test afterSizes sizes-tested (λ n p y k l m o. y .1)
-      (λ z. placed-on table-test afterTable (table-tested (z .0)) (λ n p y k l m o. absurd (omega (arith, o, faulty-within (i .table) p n (y .1) .0)))
+      (λ z. placed-on table-test afterTable (table-tested (z .0)) (λ n p y k l m o. absurd (omega (arith, o, faulty-within ours (i .table) p n (y .1) .0)))
       (λ x. placed-on store-test afterStore (store-tested (z .0)) (λ n p y k l m o. absurd (k (y .0)))
       (λ x. placed-on (entries-test g i) afterEntries (entries-tested g i) (λ n p y k l m o. absurd (l (entry-ten g i n p y)))
       (λ x. placed-on (nodes-test g i) startTest (nodes-tested g i) (λ n p y k l m o. absurd (m (node-eleven g i n p y)))
@@ -525,7 +525,7 @@ module _ (g : Option (List ℕ)) (i : Input) where
       table : {c : Checked} → SizesFit i → Tested (EntriesGood i) BadEntry c → eqb (orElse c afterTable .answer) 0 ≡ false → SignedRefusal (orElse c afterTable .answer)
       table z (passed x) h = store (store-tested z) h
       table z (refusing n p y) h =
-          let w = faulty-within (i .table) p n (y .1) in
+          let w = faulty-within ours (i .table) p n (y .1) in
           subst SignedRefusal (sym (answer-of (stays table-test n p afterTable y))) (as-without (of-entry n (w .0) (w .1)))
 
       sizes : {c : Checked} → Tested AllFit (Without 2 AllFit) c → eqb (orElse c afterSizes .answer) 0 ≡ false → SignedRefusal (orElse c afterSizes .answer)
@@ -559,7 +559,7 @@ words-passed g i e = go (sizesFit (i .table) (i .store) (i .bindings) (i .mark) 
         let y = zero-else (storeChecked (i .store) (i .mark)) _ (x .1) in
         let z = zero-else (entriesTest g i) (nodesTest g i) (sym (answer-of (obeyed-in-turn g i)) ∙ y .1) in (
           all-plain g i .0 q,
-          (tablePasses (i .table) .0 (x .0) .1, (storePasses (i .store) (i .mark) .0 (y .0) .1, (zero-passes (entries-test g i) (entries-tested g i) (z .0), zero-passes (nodes-test g i) (nodes-tested g i) (z .1)))),
+          (tablePasses ours (i .table) .0 (x .0) .1, (storePasses (i .store) (i .mark) .0 (y .0) .1, (zero-passes (entries-test g i) (entries-tested g i) (z .0), zero-passes (nodes-test g i) (nodes-tested g i) (z .1)))),
         )
     go false q e = absurd (omega arith)
 
@@ -573,7 +573,7 @@ module _ (i : Input) where
   pub accepted-plain : Accepted i ↔ (SizesFit i × EntriesGood i × NodesGood i × StartFits i)
   accepted-plain = (
     λ a.
-        let x = tablePasses (i .table) .0 (answer-of (a .table)) in
+        let x = tablePasses ours (i .table) .0 (answer-of (a .table)) in
         let y = storePasses (i .store) (i .mark) .0 (answer-of (a .store)) in (
           record { table = x .0; store = y .0 .0; bindings = a .bindings; mark = y .0 .1 },
           x .1,

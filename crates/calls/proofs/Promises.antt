@@ -9,7 +9,7 @@ use native.Mathlib.Omega.{arith}
 use lib.Dec.{eqb, leb}
 use lib.ListN.{length, getD, take, List·getD-eq-default}
 use borrow.Author.Tests.{eq-eqb, ne-eqb, eqb-true, eqb-false}
-use Rattle.checks.specs.Kinds.{variables}
+use Rattle.checks.specs.Kinds.{ours, variables}
 use Rattle.words.specs.Words.{rows, clearedFrom}
 use Rattle.words.specs.Tests.{if_then_else_, rejected}
 use Rattle.words.proofs.Tests.{below-or-from}
@@ -28,8 +28,8 @@ use Rattle.meaning.specs.Rules.{Visit, apply, does}
 use Rattle.meaning.specs.Derivation.{Out, failed, fails, quiet, places, nowhere, shut, noted, misses, lastOf}
 use Rattle.meaning.specs.System.{Env, _∶_is_, _⊢_⇒_, trace}
 use Rattle.meaning.specs.Limits.{Limit, units, room, nesting, unbound as without-binding, ended, lost, cut, at as counted-at}
-use Rattle.meaning.specs.Store.{Input, Accepted, Kept, Sound, Leaves, named, bindings, term, termOf, meant, value, ran, Ran, State, on, stored, deepest}
-use Rattle.meaning.specs.Answer.{Returned, number, placeOf, bindingWord, bindingWords, returned}
+use Rattle.meaning.specs.Store.{Input, Accepted, Kept, Sound, Leaves, named, bindings, term, termOf, meant, value, ran, ranBy, Ran, State, on, stored, deepest}
+use Rattle.meaning.specs.Answer.{Returned, number, placeOf, bindingWord, bindingWords, returned, returnedBy}
 use Rattle.meaning.specs.Demands.{Says, limits, startVisit, unnoted, Agreed, started}
 use Rattle.meaning.proofs.Tests.{impossible}
 use Rattle.meaning.proofs.Checked.{Filled, node-of-good}
@@ -42,7 +42,7 @@ use Rattle.collect.proofs.Promises as collect-promises
 use Rattle.meaning.specs.Orderings.{Site, Every, every-none, every-more, separate-none, separate-more, Stands, none-left as none-to-order, first-stays, first-two, order-last, order-more}
 use Rattle.free.specs.declared.FreeVariables.{FreeVariables}
 use Rattle.free.specs.Answered.{Answered}
-use Rattle.free.proofs.Smallest.{below-32}
+use Rattle.free.proofs.Smallest.{free-below}
 use Rattle.free.proofs.Promises.{neverThree as freeNeverThree}
 use Rattle.calls.specs.Refused.{sizesFit, startFits, refused}
 use Rattle.calls.specs.Run.{input, atReturn, refusing, runWith, runOf}
@@ -56,7 +56,7 @@ use Rattle.meaning.proofs.Falling.{unitsLeft, units-fall}
 
 -- the units that a run has left are not more than it was given
 pub units-left : (i : Input) → unitsLeft (ran places nowhere i) ≤ i .units
-unfolding ran
+unfolding ranBy
 units-left i = units-fall (stored places) (does (table (i .table))) deepest (apply (i .start) (i .subject) (bindings (i .bindings))) (on (i .store) (i .mark) nowhere) (i .units)
 
 -- ---- two outcomes
@@ -94,7 +94,7 @@ abbrev OfRun : ℕ → Type 0
 OfRun n = (n ≤ 1) ⊎ (((6 ≤ n) × (n ≤ 8)) ⊎ (n ≡ 12))
 
 of-run : (i : Input) (r : Ran ℕ) → OfRun (returned i r .answer)
-unfolding returned number
+unfolding returnedBy number
 of-run i (ended k b s u) = inl (omega arith)
 of-run i (lost w u) = inl (omega arith)
 of-run i (cut units w u) = inr (inl (omega arith, omega arith))
@@ -110,7 +110,7 @@ not-of-run n l m =
 
 -- they are in the list, and none is a refusal's
 listed-ran : (i : Input) (r : Ran ℕ) → InList (returned i r .answer)
-unfolding returned number
+unfolding returnedBy number
 listed-ran i (ended k b s u) = when-done
 listed-ran i (lost w u) = when-failed
 listed-ran i (cut units w u) = when-cut-off 6 (omega arith) (omega arith)
@@ -162,7 +162,7 @@ module _ (i : Input) (o : Outcome) (s b : List ℕ) (p : Runs i o s b) where
 
 -- a run's own answers below 12 but 1 have place 0
 ran-place : (i : Input) (r : Ran ℕ) → returned i r .answer ≢ 1 → returned i r .answer < 12 → returned i r .place ≡ 0
-unfolding returned number placeOf
+unfolding returnedBy number placeOf
 ran-place i (ended k b s u) n l = refl
 ran-place i (lost w u) n l = absurd (n refl)
 ran-place i (cut units w u) n l = refl
@@ -239,9 +239,9 @@ accepted-plain = accepting.accepted-plain
 pub never-three : promises.Never-three
 never-three = record {
   run = not-three;
-  free = freeNeverThree;
-  table = λ t c e. subst (λ (c : Checked). c .answer ≢ 3) (sym e) (neverThree t t 0 .0);
-  store = λ s mark c e. subst (λ (c : Checked). c .answer ≢ 3) (sym e) (neverThree s s mark .1);
+  free = freeNeverThree ours;
+  table = λ t c e. subst (λ (c : Checked). c .answer ≢ 3) (sym e) (neverThree ours t t 0 .0);
+  store = λ s mark c e. subst (λ (c : Checked). c .answer ≢ 3) (sym e) (neverThree ours s s mark .1);
 }
 
 pub listed-answer : promises.Listed
@@ -262,7 +262,7 @@ module _ (i : Input) (o : Outcome) (s b : List ℕ) where
 
   -- what a run that is not done gives back
   as-given-ran : (r : Ran ℕ) → atReturn o s b ≡ returned i r → (o .answer ≡ 0 → ⊥) → AsGiven i o b
-  unfolding returned
+  unfolding returnedBy
   as-given-ran (ended k c t u) e n = absurd (n (ap (λ (r : Returned). r .answer) e))
   as-given-ran (lost w u) e n = as-given e
   as-given-ran (cut l w u) e n = as-given e
@@ -283,13 +283,13 @@ pub cleared-kept : (w : List ℕ) (m n : ℕ) → m ≤ n → Kept w m (clearedF
 cleared-kept w m n l = record { long = length-clearedFrom w (8 * n); same = take-clearedFrom w (8 * m) (8 * n) (omega arith) }
 
 returned-kept : (i : Input) (r : Ran ℕ) → Leaves (i .store) (i .mark) r → Kept (i .store) (i .mark) (returned i r .store)
-unfolding returned
+unfolding returnedBy
 returned-kept i (ended k b s u) l = kept-trans (omega arith) (l .1) (cleared-kept (s .words) (i .mark) (s .mark) (l .0))
 returned-kept i (lost w u) l = kept-trans (omega arith) l (cleared-kept (w .words) (i .mark) (i .mark) (omega arith))
 returned-kept i (cut c w u) l = kept-trans (omega arith) l (cleared-kept (w .words) (i .mark) (i .mark) (omega arith))
 
 pub ran-kept : (i : Input) → Accepted i → Kept (i .store) (i .mark) (returned i (ran places nowhere i) .store)
-ran-kept i a = returned-kept i (ran places nowhere i) (meant-demands.over-the-words ℕ places nowhere i a .1)
+ran-kept i a = returned-kept i (ran places nowhere i) (meant-demands.over-the-words ours ℕ places nowhere i a .1)
 
 pub keeps : promises.Keeps
 keeps i o s b p =
@@ -298,7 +298,7 @@ keeps i o s b p =
     (judged i)
 
 returned-cleared : (i : Input) (r : Ran ℕ) (k : ℕ) → 8 * returned i r .mark ≤ k → getD (returned i r .store) k 0 ≡ 0
-unfolding returned
+unfolding returnedBy
 returned-cleared i (ended h b s u) k l = getD-clearedFrom-from (s .words) (8 * s .mark) k l
 returned-cleared i (lost w u) k l = getD-clearedFrom-from (w .words) (8 * i .mark) k l
 returned-cleared i (cut c w u) k l = getD-clearedFrom-from (w .words) (8 * i .mark) k l
@@ -336,8 +336,8 @@ module _ (i : Input) (a : Accepted i) where
   none-left : (k : ℕ) (b : Bindings ℕ) (s : State ℕ) (u : ℕ) → ran places nowhere i ≡ ended k b s u → (v : ℕ) → variables ≤ v → b v ≡ none
   unfolding value meant
   none-left k b s u e v l =
-      let d = meant-demands.demand-2 ℕ places nowhere i a (value (ended k b s u)) .0 (ap value e) in
-      let n = meant-demands.outside-free (table (i .table)) (i .start) _ _ _ _ (d .0) v (λ f. omega (arith, below-32 (i .table) (tablePasses (i .table) .0 (ap (λ (c : Checked). c .answer) (a .table))) (i .start) v (a .inside, a .strategy) f)) in
+      let d = meant-demands.demand-2 ours ℕ places nowhere i a (value (ended k b s u)) .0 (ap value e) in
+      let n = meant-demands.outside-free (table (i .table)) (i .start) _ _ _ _ (d .0) v (λ f. omega (arith, free-below ours (omega arith) (i .table) (tablePasses ours (i .table) .0 (ap (λ (c : Checked). c .answer) (a .table))) (i .start) v (a .inside, a .strategy) f)) in
       unbound (s .words) (b v) (n ∙ none-given v l)
 
   -- the terms of a done run are not among the words that are set to zero
@@ -363,9 +363,9 @@ module _ (i : Input) (a : Accepted i) where
 
   -- what comes back of a run that ends so says just that
   told-ran : (r : Ran ℕ) → ran places nowhere i ≡ r → Told i (returned i r) (unnoted (value r))
-  unfolding returned value unnoted unitsLeft cleared
+  unfolding returnedBy value unnoted unitsLeft cleared
   told-ran (ended k b s u) e =
-      let l : Leaves (i .store) (i .mark) (ended k b s u) = subst (Leaves (i .store) (i .mark)) e (meant-demands.over-the-words ℕ places nowhere i a .1) in
+      let l : Leaves (i .store) (i .mark) (ended k b s u) = subst (Leaves (i .store) (i .mark)) e (meant-demands.over-the-words ours ℕ places nowhere i a .1) in
       let n : u ≤ i .units = subst (λ (r : Ran ℕ). unitsLeft r ≤ i .units) e (units-left i) in (
         refl,
         term-stays k b s (l .2) k (l .2 .subject),
@@ -378,7 +378,7 @@ module _ (i : Input) (a : Accepted i) where
 
   came-told : (o : Outcome) (s b : List ℕ) → Runs i o s b → Told i (atReturn o s b) (value (ran quiet tt i))
   came-told o s b p =
-      subst (Told i (atReturn o s b)) (meant-demands.notes-apart ℕ places nowhere i a)
+      subst (Told i (atReturn o s b)) (meant-demands.notes-apart ours ℕ places nowhere i a)
       (subst (λ (r : Returned). Told i r (unnoted (value (ran places nowhere i)))) (sym (came i o s b p a)) (told-ran (ran places nowhere i) refl))
 
 -- a cut-off's number is above those of done and failed
@@ -429,7 +429,7 @@ module _ (i : Input) (a : Accepted i) (o : Outcome) (s b : List ℕ) (p : Runs i
 pub demand-2 : promises.Demand-2
 demand-2 i o s b a p r =
     let f = told-is i a o s b p r in
-    let g = meant-demands.demand-2 (Unit {0}) quiet tt i a r in
+    let g = meant-demands.demand-2 ours (Unit {0}) quiet tt i a r in
     (λ h. g .0 (f .0 h), λ k. f .1 (g .1 k))
 
 -- what answers 12 says that a variable without its binding was met
@@ -446,7 +446,7 @@ unbound-said T g q i x (cut (without-binding v) l u) h e s = (v, s .0)
 -- what answers 1 has the place that was noted of its derivation
 placed-by : (i : Input) (o : Outcome) (s b : List ℕ) (r : Ran ℕ) → atReturn o s b ≡ returned i r → o .answer ≡ 1 → (T : Table) (g : Given) (q : Visit Term) → Says places nowhere T g q (value r)
     → (d : T ⊢ q ⇒ failed) × (o .place ≡ noted places (trace d) nowhere)
-unfolding returned value number noted shut
+unfolding returnedBy value number noted shut
 placed-by i o s b (ended k c w u) e z T g q h = absurd (omega (arith, ap (λ (r : Returned). r .answer) e, z))
 placed-by i o s b (lost l u) e z T g q h = (h .0, ap (λ (r : Returned). r .place) e ∙ h .2)
 placed-by i o s b (cut units l u) e z T g q h = absurd (omega (arith, ap (λ (r : Returned). r .answer) e, z))
@@ -456,7 +456,7 @@ placed-by i o s b (cut (without-binding v) l u) e z T g q h = absurd (omega (ari
 
 pub last-miss : promises.Last-miss
 last-miss i o s b a p z d =
-    let h = meant-demands.demand-2 ℕ places nowhere i a (value (ran places nowhere i)) .0 refl in
+    let h = meant-demands.demand-2 ours ℕ places nowhere i a (value (ran places nowhere i)) .0 refl in
     let f = placed-by i o s b (ran places nowhere i) (came i o s b p a) z (table (i .table)) (limits i) (startVisit i) h in
     f .1
     ∙ ap (λ t. noted places t nowhere) (meant-demands.deterministic (table (i .table)) (startVisit i) failed failed (f .0) d .1)
@@ -499,11 +499,11 @@ demand-3-all i xs ys zs start given o o′ s s′ b b′ ms apart re re′ first
     let c : Env = meant (i .store) (bindings (i .bindings)) in
     let v : value (ran quiet tt i) ≡ u = told-is i a o s b p u .0 w in
     let v′ : value (ran quiet tt j) ≡ u′ = told-is j a′ o′ s′ b′ p′ u′ .0 w′ in
-    either-way T (limits i) (limits j) (i .start) start t c u u′ (meant-demands.demand-2 (Unit {0}) quiet tt i a u .0 v) (meant-demands.demand-2 (Unit {0}) quiet tt j a′ u′ .0 v′)
+    either-way T (limits i) (limits j) (i .start) start t c u u′ (meant-demands.demand-2 ours (Unit {0}) quiet tt i a u .0 v) (meant-demands.demand-2 ours (Unit {0}) quiet tt j a′ u′ .0 v′)
     (λ d d′ r r′.
     subst (λ (x : Ended). Agreed x u′) v
     (subst (λ (x : Ended). Agreed (value (ran quiet tt i)) x) v′
-    (meant-demands.demand-3-runs (Unit {0}) quiet tt i start given a a′
+    (meant-demands.demand-3-runs ours (Unit {0}) quiet tt i start given a a′
     (meant-demands.orders-agree T xs ys zs t c (i .start) start d d′ (stand (i .table) ms) apart re re′ first second r r′))))
 
 -- Two places are the case of a list of two.
@@ -536,6 +536,6 @@ again i j x y (cut c w u) r′ e h k g l = absurd (omega (arith, h .0, number-ab
 
 pub runs-again : promises.Runs-again
 runs-again i w r o o′ s s′ b b′ a l e p p′ h =
-    let x = collect-promises.runs-again (Unit {0}) quiet tt i w r a l e in
+    let x = collect-promises.runs-again ours (Unit {0}) quiet tt i w r a l e in
     again i (after i r) (atReturn o s b) (atReturn o′ s′ b′) (value (ran quiet tt i)) (value (ran quiet tt (after i r))) refl
     (came-told i a o s b p) (came-told (after i r) (x .0) o′ s′ b′ p′) (x .1) h

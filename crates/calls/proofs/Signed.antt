@@ -10,6 +10,7 @@ use lib.Dec.{eqb}
 use borrow.Author.Tests.{ne-eqb}
 use Rattle.words.specs.Words.{clearedFrom}
 use Rattle.words.specs.Tests.{if_then_else_}
+use Rattle.checks.specs.Kinds.{ours}
 use Rattle.checks.specs.declared.Checked.{Checked}
 use Rattle.checks.specs.Good.{constructorOf, childCount}
 use Rattle.checks.specs.Checked.{checked}
@@ -19,7 +20,7 @@ use Rattle.checks.proofs.Good.{faulty-within}
 use Rattle.meaning.specs.Limits.{ended, lost, cut}
 use Rattle.meaning.specs.Derivation.{places, nowhere}
 use Rattle.meaning.specs.Store.{Input, Accepted, Kept, ran, Ran}
-use Rattle.meaning.specs.Answer.{Returned, returned}
+use Rattle.meaning.specs.Answer.{Returned, returned, returnedBy}
 use Rattle.meaning.proofs.Words.{kept-word}
 use Rattle.meaning.proofs.Above as above
 use Rattle.calls.specs.Refused.{refusedWith}
@@ -168,7 +169,7 @@ refuses-entry g i o s b n k l p = (
       let f = accepting.refused-entry (some g) i n k l .0 (by-verdict g i o s b p n k r .0 e) in
       (f .0 .0, f .0 .1, f .1 .0, f .1 .1),
   λ f.
-      let w = faulty-within (i .table) k n (f .3) in
+      let w = faulty-within ours (i .table) k n (f .3) in
       by-verdict g i o s b p n k (as-without (of-entry n (w .0) (w .1))) .1 (accepting.refused-entry (some g) i n k l .1 ((f .0, f .1), (f .2, f .3))),
 )
 
@@ -216,10 +217,10 @@ kept-obeys g w w′ m k f j l = rw (kept-word k j 0 l (omega arith), kept-word k
 
 -- the nodes below the mark of what comes back obey
 returned-obeys : (g : List ℕ) (i : Input) → Obeying g i → Accepted i → (r : Ran ℕ) → ran places nowhere i ≡ r → AllGood (nodeObeys g (returned i r .store)) (returned i r .mark)
-unfolding returned
+unfolding returnedBy
 returned-obeys g i ob a (ended k b s u) e =
     kept-obeys g (s .words) _ (s .mark) (plain.cleared-kept (s .words) (s .mark) (s .mark) (omega arith))
-    (above.obeyed ℕ places nowhere i g a (ob .entries) (ob .nodes) k u b s e)
+    (above.obeyed ours ℕ places nowhere i g a (ob .entries) (ob .nodes) k u b s e)
 returned-obeys g i ob a (lost w u) e = kept-obeys g (i .store) _ (i .mark) (subst (λ (r : Ran ℕ). Kept (i .store) (i .mark) (returned i r .store)) e (plain.ran-kept i a)) (ob .nodes)
 returned-obeys g i ob a (cut c w u) e = kept-obeys g (i .store) _ (i .mark) (subst (λ (r : Ran ℕ). Kept (i .store) (i .mark) (returned i r .store)) e (plain.ran-kept i a)) (ob .nodes)
 

@@ -16,7 +16,7 @@ use Rattle.words.specs.Words.{rows, clearedFrom}
 use Rattle.words.specs.Tests.{if_then_else_, rejected}
 use Rattle.checks.specs.declared.Checked.{Checked}
 use Rattle.checks.specs.declared.kinds.Sort.the-variants.{Strategy}
-use Rattle.checks.specs.Kinds.{variables, sortOf}
+use Rattle.checks.specs.Kinds.{ours, variables, sortOf}
 use Rattle.checks.specs.Good.{kindOf, goodNode}
 use Rattle.checks.specs.Checked.{checked, found, tableChecked, storeChecked}
 use Rattle.checks.specs.Signature.{entryObeys, nodeObeys}
@@ -27,7 +27,7 @@ use Rattle.meaning.specs.Bindings.{Bindings}
 use Rattle.meaning.specs.Limits.{ended, lost, cut}
 use Rattle.meaning.specs.Derivation.{places, nowhere}
 use Rattle.meaning.specs.Store.{Input, Accepted, Kept, Sound, Leaves, on, rest, ran, Ran}
-use Rattle.meaning.specs.Answer.{Returned, number, returned}
+use Rattle.meaning.specs.Answer.{Returned, number, returned, returnedBy}
 use Rattle.meaning.specs.Above.{inStore, SameBelow, same-ended, same-lost, same-cut}
 use Rattle.meaning.proofs.Checked.{node-of-good, good-of-node}
 use Rattle.meaning.proofs.Words.{kept-refl, kept-trans, kept-filled}
@@ -96,7 +96,7 @@ pub record Stands (g : Option (List ℕ)) (c : Module) (w : List ℕ) (m : ℕ) 
 
 -- a run's numbers are those of what comes back
 ran-numbers : (i : Input) (r : Ran ℕ) → words (numbers (i .subject) (i .mark) (i .units) r) ≡ five (returned i r)
-unfolding numbers returned
+unfolding numbers returnedBy
 ran-numbers i (ended k b s u) = refl
 ran-numbers i (lost l u) = refl
 ran-numbers i (cut c l u) = refl
@@ -158,7 +158,7 @@ module _ {g : Option (List ℕ)} {c : Module} (γ : Given g c) where
     left-words : (r r′ : Ran ℕ) → ran places nowhere (single c w m k) ≡ r → SameBelow r r′ → Leaves w m r → Leaves s m r′
         → Stands g c (wordsOf r) (numbers k m (c .units) r .mark)
         × (returned (single c s m k) r′ .store ≡ clearedFrom (wordsOf r) (8 * numbers k m (c .units) r .mark))
-    unfolding wordsOf numbers returned
+    unfolding wordsOf numbers returnedBy
     left-words (ended x b t u) r′ e (same-ended {w = w₁} {w′ = w₂} p) v v′ = (
       record {
         more = omega (arith, here .more, v .0);
@@ -171,7 +171,7 @@ module _ {g : Option (List ℕ)} {c : Module} (γ : Given g c) where
         done-obeyed : (g : Option (List ℕ)) → EntriesObey g (single c w m k) → NodesObey g (single c w m k) → (x u : ℕ) (b : Bindings ℕ) (t : _) → ran places nowhere (single c w m k) ≡ ended x b t u
             → NodesObey g (single c (t .words) (t .mark) 0)
         done-obeyed none y z x u b t e = tt
-        done-obeyed (some g) y z x u b t e = above.obeyed ℕ places nowhere (single c w m k) g (accepted-single here k l) y z x u b t e
+        done-obeyed (some g) y z x u b t e = above.obeyed ours ℕ places nowhere (single c w m k) g (accepted-single here k l) y z x u b t e
     left-words (lost a u) r′ e (same-lost {w = w₁} {w′ = w₂}) v v′ = (stands-kept v here, cleared-same (kept-trans (omega arith) (kept-back v) (kept-trans (omega arith) same v′)))
     left-words (cut x a u) r′ e (same-cut {w = w₁} {w′ = w₂}) v v′ = (stands-kept v here, cleared-same (kept-trans (omega arith) (kept-back v) (kept-trans (omega arith) same v′)))
 
@@ -182,11 +182,11 @@ module _ {g : Option (List ℕ)} {c : Module} (γ : Given g c) where
     turn r w′ e w-is =
         let a = accepted-single here k l in
         let b = accepted-single (stands-kept same here) k l in
-        let q : SameBelow (ran places nowhere (single c w m k)) (ran places nowhere (single c s m k)) = above.above-mark ℕ places nowhere (single c w m k) s a same in
+        let q : SameBelow (ran places nowhere (single c w m k)) (ran places nowhere (single c s m k)) = above.above-mark ours ℕ places nowhere (single c w m k) s a same in
         let x : runWith g (single c s m k) ≡ returned (single c s m k) (ran places nowhere (single c s m k)) = single-runs (stands-kept same here) k l in
         let n : r ≡ numbers k m (c .units) (ran places nowhere (single c s m k)) = e ∙ same-numbers k m (c .units) q in
         let f : words r ≡ five (runWith g (single c s m k)) = ap words n ∙ ran-numbers (single c s m k) (ran places nowhere (single c s m k)) ∙ ap five (sym x) in
-        let h = left-words (ran places nowhere (single c w m k)) (ran places nowhere (single c s m k)) refl q (over-the-words ℕ places nowhere (single c w m k) a .1) (over-the-words ℕ places nowhere (single c s m k) b .1) in (
+        let h = left-words (ran places nowhere (single c w m k)) (ran places nowhere (single c s m k)) refl q (over-the-words ours ℕ places nowhere (single c w m k) a .1) (over-the-words ours ℕ places nowhere (single c s m k) b .1) in (
           f,
           ap (λ (l : List ℕ). getD l 3 0) f,
           subst (λ (v : List ℕ). Stands g c v (r .mark)) (sym (w-is)) (subst (λ (o : Outcome). Stands g c (wordsOf (ran places nowhere (single c w m k))) (o .mark)) (sym (e)) (h .0)),
@@ -290,7 +290,7 @@ module _ {g : Option (List ℕ)} {c : Module} (γ : Given g c) where
       record {
         few = omega arith;
         long = length-paste rs (5 * j) (words r) 5 room (omega arith) ∙ G .long;
-        wide = ap length w-is ∙ ran-long w m (ran places nowhere (single c w m k)) (over-the-words ℕ places nowhere (single c w m k) (accepted-single γ (G .stands) k (γ .subjects j l)) .1) ∙ G .wide;
+        wide = ap length w-is ∙ ran-long w m (ran places nowhere (single c w m k)) (over-the-words ours ℕ places nowhere (single c w m k) (accepted-single γ (G .stands) k (γ .subjects j l)) .1) ∙ G .wide;
         stands = t .2;
         kept = clearedFrom w′ (8 * r .mark);
         same = cleared-kept w′ (r .mark) (r .mark) (omega arith);
@@ -343,7 +343,7 @@ module _ (g : Option (List ℕ)) (c : Module) (r : Checked) (is : r ≡ manyRefu
 
 -- lengths that the copies and the clearing need
 pub table-short : {g : Option (List ℕ)} {c : Module} → Given g c → length (c .table) ≤ 32768
-table-short {c = c} γ = tablePasses (c .table) .0 (ap (λ (k : Checked). k .answer) (γ .table)) .0 .most
+table-short {c = c} γ = tablePasses ours (c .table) .0 (ap (λ (k : Checked). k .answer) (γ .table)) .0 .most
 
 pub mark-short : {g : Option (List ℕ)} {c : Module} → Given g c → {w : List ℕ} {m : ℕ} → Stands g c w m → m ≤ 131072
 mark-short γ {w} {m} s = let p = store-passes w m (s .store) in omega (arith, p .0 .0 .most, p .0 .1)
@@ -360,8 +360,8 @@ module _ {g : Option (List ℕ)} {c : Module} (γ : Given g c) where
       let i : Input = single c w m k in
       let o : Ran ℕ = ran places nowhere (single c w m k) in
       let a = accepted-single γ s k l in
-      let v = over-the-words ℕ places nowhere (single c w m k) a .1 in
-      let h = left-words γ w w m k s (kept-refl w m) l (ran places nowhere (single c w m k)) (ran places nowhere (single c w m k)) refl (above.above-mark ℕ places nowhere (single c w m k) w a (kept-refl w m)) v v in
+      let v = over-the-words ours ℕ places nowhere (single c w m k) a .1 in
+      let h = left-words γ w w m k s (kept-refl w m) l (ran places nowhere (single c w m k)) (ran places nowhere (single c w m k)) refl (above.above-mark ours ℕ places nowhere (single c w m k) w a (kept-refl w m)) v v in
       let n : ℕ = numbers k m (c .units) (ran places nowhere (single c w m k)) .mark in
       let x : runWith g (single c w m k) ≡ returned (single c w m k) (ran places nowhere (single c w m k)) = single-runs γ s k l in
       let y : n ≡ runWith g (single c w m k) .mark = ap (λ (l : List ℕ). getD l 3 0) (ran-numbers (single c w m k) (ran places nowhere (single c w m k))) ∙ ap (λ (r : Returned). r .mark) (sym x) in

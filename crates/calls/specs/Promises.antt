@@ -7,7 +7,7 @@ use Prim.Native.Nat.{ℕ, _+_, _*_, _≤_, _<_}
 use lib.ListN.{length, getD}
 use Rattle.words.specs.Words.{rows}
 use Rattle.checks.specs.declared.kinds.Sort.the-variants.{Strategy}
-use Rattle.checks.specs.Kinds.{variables, sortOf}
+use Rattle.checks.specs.Kinds.{ours, variables, sortOf}
 use Rattle.checks.specs.Good.{kindOf, goodEntry, goodNode}
 use Rattle.checks.specs.Plain.{TableLength, StoreLength, Faulty}
 use Rattle.checks.specs.declared.Checked.{Checked}
@@ -220,4 +220,4 @@ Demand-3-all =
 
 -- The small runs: each gives, of what `run` is handed, what its line says, every number and every word.
 abbrev pub Small-runs-of-run : Type 0
-Small-runs-of-run = map (λ (c : Case). runOf (c .given)) cases ≡ map (λ (c : Case). c .gives) cases
+Small-runs-of-run = map (λ (c : Case). runOf (c .given)) (cases ours) ≡ map (λ (c : Case). c .gives) (cases ours)

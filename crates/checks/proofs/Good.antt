@@ -13,7 +13,7 @@ use Rattle.words.specs.Tests.{if_then_else_, every}
 use Rattle.words.specs.Words.{wordAt, rows}
 use Rattle.words.proofs.Tests.{and-true, every-true}
 use Rattle.checks.specs.Kinds.{lines, lineOf, kind, lowest, highestBy, operandsFromBy, sortOf, takes, same}
-use Rattle.checks.specs.Good.{kindOf, operandCount, zerosFrom, argumentBy, operandBy, countFits, argumentFitsBy, operandPlacedBy, operandSortedBy, operandsFaultBy, unusedZeroBy, faultBy, goodEntryBy, constructorOf, childCount, child, goodNode}
+use Rattle.checks.specs.Good.{kindOf, operandCount, zerosFrom, number, argumentBy, operandBy, countFits, argumentFitsBy, operandPlacedBy, operandSortedBy, operandsFaultBy, unusedZeroBy, faultBy, goodEntryBy, constructorOf, childCount, child, goodNode}
 use Rattle.checks.specs.Checked.{tableLengthFits, storeLengthFits}
 use Rattle.checks.specs.Plain.{TableLength, StoreLength, Counted, ArguedBy, PlacedBy, SortedBy, UnusedBy, EntryBy, FaultyBy, of-count, of-argument, of-place, of-sort, of-unused, Node}
 use Rattle.checks.proofs.Tables.{at-each, same-true, same-itself}
@@ -148,6 +148,23 @@ module _ (W : ℕ) (t : List ℕ) (e : ℕ) where
   unused =
       let z = zeros-plain (wordAt t e) (operandsFromBy W (kindOf t e) + operandCount t e) 8 in
       (λ h. record { zero = z .0 h }, λ q. z .1 (q .zero))
+
+  -- ---- where the words stand
+
+  -- An argument that is no mask is word 1, and its operands begin at word 2.
+  pub argument-word : kindOf t e ≢ 16 → argumentBy W t e ≡ wordAt t e 1
+  unfolding number
+  argument-word n = rw (ne-eqb (kindOf t e) 16 n)
+
+  pub operands-word : kindOf t e ≢ 16 → operandsFromBy W (kindOf t e) ≡ 2
+  operands-word n = rw (ne-eqb (kindOf t e) 16 n)
+
+  pub operand-word : kindOf t e ≢ 16 → (i : ℕ) → operandBy W t e i ≡ wordAt t e (2 + i)
+  operand-word n i = rw (operands-word n)
+
+  -- A SCOPE's operand stands after its mask.
+  pub operand-scope : kindOf t e ≡ 16 → operandBy W t e 0 ≡ wordAt t e (1 + W)
+  operand-scope k = let z : 1 + W + 0 ≡ 1 + W = omega arith in rw (eq-eqb (kindOf t e) 16 k, z)
 
   -- ---- the fault
 

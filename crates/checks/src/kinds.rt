@@ -45,6 +45,9 @@ pub const PVAR: u32 = 18;
 
 pub const PCON: u32 = 19;
 
+// The number of variables.
+pub const VARIABLES: usize = 32;
+
 // What an entry may be used as. A kind above 19 has no sort.
 pub enum Sort {
     Strategy,

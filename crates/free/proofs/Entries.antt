@@ -10,16 +10,16 @@ use lib.Dec.{leb, eqb}
 use lib.ListN.{length, getD, take, length-take}
 use lib.Pow.{pow-pos}
 use lib.Seq.{getD-take}
-use borrow.Author.Tests.{leb-true, eqb-true, eqb-false, eq-eqb, ne-eqb, leb-false}
+use borrow.Author.Tests.{leb-true, eqb-true, eqb-false, ne-eqb, leb-false}
 use Rattle.words.specs.Tests.{if_then_else_, every}
 use Rattle.words.specs.Words.{wordAt, rows}
 use Rattle.words.proofs.Tests.{and-true}
 use Rattle.checks.specs.declared.kinds.Sort.the-variants.{Strategy as AStrategy, Pattern as APattern}
 use Rattle.checks.specs.Kinds.{lines, lineOf, kind, variablesBy, argumentWordsBy, highestBy, sortOf, takes}
-use Rattle.checks.specs.Good.{kindOf, operandCount, argumentOf, number, maskBy, operandBy}
+use Rattle.checks.specs.Good.{kindOf, operandCount, argumentOf, number, maskBy}
 use Rattle.checks.specs.Plain.{EntryBy}
 use Rattle.checks.proofs.Tables.{at-each}
-use Rattle.checks.proofs.Good.{operandCount-six}
+use Rattle.checks.proofs.Good.{operandCount-six, operand-word, operand-scope}
 use Rattle.checks.proofs.Promises.{entryPlain}
 use Rattle.meaning.specs.Table.{Strategy, ID, FAIL, TEST, NOT, SEQ, CHOICE, LEFT, REC, CALL, PATH, CONG, ALL, ONE, SOME, MATCH, BUILD, SCOPE, WHERE, PVAR, PCON, tableBy, byKind, operands, six}
 use Rattle.meaning.specs.Free.{In, here, there, operandsOf}
@@ -64,14 +64,6 @@ module _ (t : List ℕ) (e : ℕ) where
       let (i, b, q) = in-at h in
       let m : i < operandCount t e = omega (arith, length-operands l) in
       (i, m, sym (operand-at i m l) ∙ q)
-
--- where the operands stand: from word 2 on, but a SCOPE's after its mask
-module _ (W : ℕ) (t : List ℕ) (e : ℕ) where
-  operand-word : kindOf t e ≢ 16 → (i : ℕ) → operandBy W t e i ≡ wordAt t e (2 + i)
-  operand-word n i = rw (ne-eqb (kindOf t e) 16 n)
-
-  pub operand-scope : kindOf t e ≡ 16 → operandBy W t e 0 ≡ wordAt t e (1 + W)
-  operand-scope k = let z : 1 + W + 0 ≡ 1 + W = omega arith in rw (eq-eqb (kindOf t e) 16 k, z)
 
 -- ---- kinds
 

@@ -2,6 +2,7 @@
 // variables that are bound, and the pattern at which a match gave up last. The word of an unbound variable means nothing.
 use crate::answers::Answer;
 use crate::answers::answer_of;
+use checks::kinds::VARIABLES;
 ghost use mathlib.Core.Path.{_≡_};
 ghost use Prim.Native.Nat.{_<_};
 ghost use Rattle.checks.specs.Kinds.{variables};
@@ -15,10 +16,8 @@ pub const MASK: usize = 1;
 
 pub const MISS: usize = 2;
 
-// Where the words of the variables begin, how many variables there are, and the record's words in all.
+// Where the words of the variables begin, and the record's words in all.
 pub const FIRST: usize = 3;
-
-pub const VARIABLES: usize = 32;
 
 pub const RECORD: usize = FIRST + VARIABLES;
 

@@ -5,14 +5,14 @@ use mathlib.Core.Logic.{_⊎_, ⊎-elim, inl, inr}
 use mathlib.Core.List.{List, [], _∷_}
 use Prim.Native.Nat.{ℕ, _+_, _-_, _/_, _≤_, _<_}
 use native.Mathlib.Omega.{arith}
-use lib.Dec.{leb}
+use lib.Dec.{leb, eqb}
 use lib.ListN.{length, getD, List·getD-eq-default}
 use borrow.Author.Tests.{le-leb, lt-leb}
 use Rattle.words.specs.Words.{wordAt, rows}
 use Rattle.words.specs.Tests.{if_then_else_}
 use Rattle.words.proofs.Tests.{below-or-from}
-use Rattle.checks.specs.Kinds.{variables, lines, lineOf, kind, highest, sortOf, takes}
-use Rattle.checks.specs.Good.{kindOf, operandCount, argumentOf, operand, goodEntry}
+use Rattle.checks.specs.Kinds.{ours, variables, lines, lineOf, kind, highestBy, argumentWordsBy, operandsFromBy, sortOf, takes}
+use Rattle.checks.specs.Good.{kindOf, operandCount, argumentOf, number, operandBy, goodEntry}
 use Rattle.checks.specs.Plain.{TableLength, Entry}
 use Rattle.checks.specs.declared.Checked.{Checked}
 use Rattle.checks.specs.declared.kinds.Sort.{Sort}
@@ -21,7 +21,8 @@ use Rattle.checks.specs.Checked.{checked, tableChecked}
 use Rattle.checks.specs.Promises.{AllGood}
 use Rattle.checks.proofs.Good.{operandCount-six}
 use Rattle.checks.proofs.Promises.{tablePasses, entryPlain}
-use Rattle.meaning.specs.Table.{table, byKind, operands, PVAR, PCON}
+use Rattle.meaning.specs.Table.{table, tableBy, byKind, operands, PVAR, PCON}
+use Rattle.meaning.proofs.Tests.{decided}
 use Rattle.leaves.specs.Visits.{Entries}
 use Rattle.leaves.specs.Visits as visits
 use Rattle.leaves.proofs.Kind.{kind-is}
@@ -38,7 +39,7 @@ by-word P f p q j =
 
 -- what a strategy would be as a pattern does not depend on its operands
 pattern-below : (t : List ℕ) (e k : ℕ) → kindOf t e ≡ k → k < 18 → table t .patterns e ≡ PVAR (argumentOf t e)
-unfolding table
+unfolding tableBy
 pattern-below t e k h l =
     let z : kindOf t e - 18 ≡ 0 = omega arith in
     ap (λ (k : ℕ). getD (PVAR (argumentOf t e) ∷ PCON (argumentOf t e) (operands t e) ∷ []) k (PVAR 0)) z
@@ -51,11 +52,11 @@ module _ (t c : List ℕ) (e : ℕ) (f : (j : ℕ) → j < 8 → wordAt c e j �
       (rw (f 4 (omega arith), f 5 (omega arith), f 6 (omega arith), f 7 (omega arith)))
 
   alike-strategy : table c .strategies e ≡ table t .strategies e
-  unfolding table
+  unfolding tableBy
   alike-strategy = rw (operands-alike, f 0 (omega arith), f 1 (omega arith), f 2 (omega arith), f 3 (omega arith))
 
   alike-pattern : table c .patterns e ≡ table t .patterns e
-  unfolding table
+  unfolding tableBy
   alike-pattern = rw (operands-alike, f 0 (omega arith), f 1 (omega arith))
 
 module _ {t c : List ℕ} (l : Loaded t c) where
@@ -105,7 +106,7 @@ module _ {t c : List ℕ} (l : Loaded t c) where
       go (all (inr k) b) = below 13 k (omega arith)
 
   pub table-loaded : table c ≡ table t
-  unfolding table
+  unfolding tableBy
   table-loaded i = record { strategies = λ e. strategy-same e i; patterns = λ e. pattern-same e i }
 
 -- what a pattern's sort says of its kind
@@ -124,10 +125,10 @@ pattern-kind k e = ⊎-elim (λ l. absurd (low l)) (λ l. ⊎-elim (λ m. high l
 
 module _ (t : List ℕ) (c : tableChecked t ≡ checked 0 0) where
   passes : TableLength (length t) × AllGood (goodEntry t) (rows t)
-  passes = tablePasses t .0 (ap (λ (c : Checked). c .answer) c)
+  passes = tablePasses ours t .0 (ap (λ (c : Checked). c .answer) c)
 
   plain : (e : ℕ) → e < rows t → Entry t e
-  plain e l = entryPlain t e .0 (passes .1 e l)
+  plain e l = entryPlain ours t e .0 (passes .1 e l)
 
   -- past the last entry every word is zero
   past : (e j : ℕ) → rows t ≤ e → wordAt t e j ≡ 0
@@ -140,28 +141,39 @@ module _ (t : List ℕ) (c : tableChecked t ≡ checked 0 0) where
   inside : (e k : ℕ) → kindOf t e ≡ k → 0 < k → e < rows t
   inside e k q l = ⊎-elim (λ z. z) (λ z. absurd (omega (arith, past e 0 z))) (below-or-from e (rows t))
 
+  -- the operands begin at word 2
+  from-two : (k : ℕ) → operandsFromBy ours k ≡ 2
+  from-two k = decided (eqb k 16) (λ h. rw h) (λ h. rw h)
+
+  operand-two : (e i : ℕ) → operandBy ours t e i ≡ wordAt t e (2 + i)
+  operand-two e i = rw (from-two (kindOf t e))
+
   facts-operand : (e i : ℕ) → i < 6 → wordAt t e (2 + i) < 4096
   facts-operand e i l = ⊎-elim here (λ z. omega (arith, past e (2 + i) z)) (below-or-from e (rows t))
     where
       here : e < rows t → wordAt t e (2 + i) < 4096
-      here z = ⊎-elim (λ m. omega (arith, plain e z .placed .inside i m, short)) (λ m. omega (arith, plain e z .unused .zero i m l)) (below-or-from i (operandCount t e))
+      here z =
+          ⊎-elim (λ m. omega (arith, operand-two e i, plain e z .placed .inside i m, short))
+          (λ m. omega (arith, plain e z .unused .zero (2 + i) (omega (arith, from-two (kindOf t e))) (omega arith))) (below-or-from i (operandCount t e))
 
   facts-few : (e : ℕ) → operandCount t e ≤ 6
-  facts-few e = ⊎-elim (λ z. operandCount-six t e (plain e z)) (λ z. omega (arith, past e 0 z)) (below-or-from e (rows t))
+  facts-few e = ⊎-elim (λ z. operandCount-six ours t e (plain e z)) (λ z. omega (arith, past e 0 z)) (below-or-from e (rows t))
 
   facts-variable : (e : ℕ) → kindOf t e ≡ 18 → argumentOf t e < variables
-  unfolding kind lineOf lines
+  unfolding number kind lineOf lines
   facts-variable e q =
-      let h : argumentOf t e ≤ 31 = subst (λ k. argumentOf t e ≤ highest (kind k .argument)) q (plain e (inside e 18 q (omega arith)) .argued .high) in
+      let h : argumentOf t e ≤ 31 = subst (λ k. number t e (argumentWordsBy ours k) 1 ≤ highestBy ours (kind k .argument)) q (plain e (inside e 18 q (omega arith)) .argued .high) in
       omega arith
 
   facts-constructor : (e : ℕ) → kindOf t e ≡ 19 → argumentOf t e ≤ 65535
-  unfolding kind lineOf lines
-  facts-constructor e q = subst (λ k. argumentOf t e ≤ highest (kind k .argument)) q (plain e (inside e 19 q (omega arith)) .argued .high)
+  unfolding number kind lineOf lines
+  facts-constructor e q = subst (λ k. number t e (argumentWordsBy ours k) 1 ≤ highestBy ours (kind k .argument)) q (plain e (inside e 19 q (omega arith)) .argued .high)
 
   -- an operand of an entry that takes patterns
-  taken : (e k i : ℕ) → kindOf t e ≡ k → 8 < k → takes k ≡ Pattern → i < operandCount t e → visits.Pattern t (operand t e i)
-  taken e k i q l s m = pattern-kind (kindOf t (operand t e i)) (plain e (inside e k q (omega arith)) .sorted .sorted (λ z. omega arith) i m ∙ ap takes q ∙ s)
+  taken : (e k i : ℕ) → kindOf t e ≡ k → 8 < k → takes k ≡ Pattern → i < operandCount t e → visits.Pattern t (wordAt t e (2 + i))
+  taken e k i q l s m =
+      subst (λ o. visits.Pattern t o) (operand-two e i)
+      (pattern-kind (kindOf t (operandBy ours t e i)) (plain e (inside e k q (omega arith)) .sorted .sorted (λ z. omega arith) i m ∙ ap takes q ∙ s))
 
   first : (e k : ℕ) → kindOf t e ≡ k → 0 < k → 1 ≤ kind k .least → 0 < operandCount t e
   first e k q l m = let h : kind k .least ≤ operandCount t e = subst (λ k. kind k .least ≤ operandCount t e) q (plain e (inside e k q l) .counted .least) in omega arith
@@ -174,7 +186,7 @@ module _ (t : List ℕ) (c : tableChecked t ≡ checked 0 0) where
   pub five-unused : (e k : ℕ) → kindOf t e ≡ k → 0 < k → kind k .most ≤ 2 → wordAt t e 5 ≡ 0
   five-unused e k q l m =
       let g : operandCount t e ≤ kind k .most = subst (λ k. operandCount t e ≤ kind k .most) q (plain e (inside e k q l) .counted .most) in
-      plain e (inside e k q l) .unused .zero 3 (omega arith) (omega arith)
+      plain e (inside e k q l) .unused .zero 5 (omega (arith, from-two (kindOf t e))) (omega arith)
 
   -- what may be noted is small
   head-small : {p q n : ℕ} → HasHead t p q n → p < 4096

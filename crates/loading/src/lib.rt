@@ -1,10 +1,10 @@
 // What a run copies once: the table into words of fixed length, the bindings into the run's one record, and back.
 use crate::hints::hint_for;
+use checks::kinds::VARIABLES;
 use leaves::record::Bindings;
 use leaves::record::MARK;
 use leaves::record::MASK;
 use leaves::record::RECORD;
-use leaves::record::VARIABLES;
 use leaves::record::bind;
 use leaves::record::bit;
 use leaves::record::word_of;

@@ -8,7 +8,7 @@ use native.Mathlib.Omega.{arith}
 use lib.Dec.{eqb}
 use lib.ListN.{length, getD}
 use borrow.Author.Tests.{eq-eqb, ne-eqb, lt-ltb, le-ltb}
-use Rattle.checks.specs.Kinds.{variables}
+use Rattle.checks.specs.Kinds.{ours, variables}
 use Rattle.words.specs.Words.{rows, clearedFrom}
 use Rattle.words.specs.Tests.{if_then_else_}
 use Rattle.checks.specs.declared.Checked.{Checked}
@@ -22,8 +22,8 @@ use Rattle.meaning.specs.Table.{Table, table}
 use Rattle.meaning.specs.Rules.{apply, does}
 use Rattle.meaning.specs.Limits.{Limit, units, room, nesting, unbound, ended, lost, cut, at, run}
 use Rattle.meaning.specs.Derivation.{places, nowhere}
-use Rattle.meaning.specs.Store.{Input, Accepted, named, bindings, ran, deepest}
-use Rattle.meaning.specs.Answer.{number, placeOf, bindingWords, returned}
+use Rattle.meaning.specs.Store.{Input, Accepted, named, bindings, ran, ranBy, deepest}
+use Rattle.meaning.specs.Answer.{number, placeOf, bindingWords, returned, returnedBy}
 use Rattle.meaning.specs.Demands.{Leaves}
 use Rattle.meaning.proofs.Tests.{impossible}
 use Rattle.meaning.proofs.Falling.{unitsLeft, units-fall}
@@ -51,7 +51,7 @@ below (suc k) j m h e = let z : k ≡ j = cc in omega arith
 
 -- a table that passed the check has at most 4,096 entries
 table-short : (t : List ℕ) → tableChecked t ≡ checked 0 0 → rows t ≤ 4096
-table-short t e = omega (arith, tablePasses t .0 (ap (λ (c : Checked). c .answer) e) .0 .most)
+table-short t e = omega (arith, tablePasses ours t .0 (ap (λ (c : Checked). c .answer) e) .0 .most)
 
 -- the table is held in c, the bindings and the mark in st, the subject and the units in g
 module _ (i : Input) (a : Accepted i) (c st : List ℕ) (g : ℕ) (same : table c ≡ table (i .table)) (entries : Entries c) (hints : Hinted c) (o : Opened (i .bindings) (i .mark) st)
@@ -88,7 +88,7 @@ module _ (i : Input) (a : Accepted i) (c st : List ℕ) (g : ℕ) (same : table 
 
   -- the run that the engine makes is the run over the words
   pub is-ran : visit c 4096 (apply (i .start) (i .subject) (held st)) (i .store) (at (markOf st) nowhere) (i .units) ≡ ran places nowhere i
-  unfolding visit ran
+  unfolding visit ranBy
   is-ran = λ z. run stored (does (same z)) 4096 (apply (i .start) (i .subject) (o .holds z)) (on (i .store) (at (o .mark z) nowhere)) (i .units)
 
   -- so its end is that of the run over the words
@@ -187,7 +187,7 @@ module _ (i : Input) (a : Accepted i) (r : Outcome) (st w : List ℕ) (ends : En
   -- the mark is at most that of a full store
   pub mark-left : r .mark ≤ 131072
   unfolding numbers
-  mark-left = subst (λ (r : Outcome). r .mark ≤ 131072) (sym (ends .numbers)) (go (ran places nowhere i) (over-the-words ℕ places nowhere i a .1))
+  mark-left = subst (λ (r : Outcome). r .mark ≤ 131072) (sym (ends .numbers)) (go (ran places nowhere i) (over-the-words ours ℕ places nowhere i a .1))
     where
       go : (o : Ran) → Leaves (i .store) (i .mark) o → numbers (i .subject) (i .mark) (i .units) o .mark ≤ 131072
       go (ended x b s v) l = omega (arith, l .2 .fits, l .1 .long, passes .0 .0 .most)
@@ -201,13 +201,13 @@ module _ (i : Input) (a : Accepted i) (r : Outcome) (st w : List ℕ) (ends : En
   pub bound-left : r .answer ≡ 0 → (v j : ℕ) → held st v ≡ some j → j < 131072
   bound-left z v j f =
       let (x, u, b, s, e) = done-end z in
-      let l = subst (Leaves (i .store) (i .mark)) e (over-the-words ℕ places nowhere i a .1) in
+      let l = subst (Leaves (i .store) (i .mark)) e (over-the-words ours ℕ places nowhere i a .1) in
       omega (arith, l .2 .bound v j (ap (λ (g : Bindings ℕ). g v) (sym (ends .bound x u b s e)) ∙ f), l .2 .fits, l .1 .long, passes .0 .0 .most)
 
   -- what comes back: the store is cleared from the mark on; the bindings are the record's where it is done, else as given
   come : (o : Ran) → ran places nowhere i ≡ o → (b′ : List ℕ) → (r .answer ≡ 0 → b′ ≡ bindingWords variables (held st)) → ((r .answer ≡ 0 → ⊥) → b′ ≡ i .bindings)
       → atReturn r (clearedFrom w (8 * r .mark)) b′ ≡ returned i o
-  unfolding numbers wordsOf returned number placeOf
+  unfolding numbers wordsOf returnedBy number placeOf
   come (ended x b s v) e b′ y n =
       let p : r ≡ numbers (i .subject) (i .mark) (i .units) (ended x b s v) = ends .numbers ∙ ap (numbers (i .subject) (i .mark) (i .units)) e in
       let q : w ≡ s .words = ends .words ∙ ap wordsOf e in
@@ -239,7 +239,7 @@ module _ (g : Option (List ℕ)) (i : Input) (r : Checked) (is : r ≡ refusedWi
 
 -- the lengths that a run's copies need
 pub table-fits : (i : Input) → Accepted i → length (i .table) ≤ 32768
-table-fits i a = tablePasses (i .table) .0 (ap (λ (c : Checked). c .answer) (a .table)) .0 .most
+table-fits i a = tablePasses ours (i .table) .0 (ap (λ (c : Checked). c .answer) (a .table)) .0 .most
 
 -- the answer of a cut-off's word and its place, by its upper half
 module _ (c : ℕ) where

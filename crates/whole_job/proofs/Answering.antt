@@ -9,11 +9,12 @@ use lib.ListN.{length, drop, length-append}
 use lib.Seq.{length-take-le}
 use Rattle.words.specs.Tests.{if_then_else_}
 use Rattle.words.specs.Words.{rows}
+use Rattle.checks.specs.Kinds.{ours}
 use Rattle.checks.specs.declared.Checked.{Checked}
 use Rattle.meaning.specs.Limits.{ended, lost, cut}
 use Rattle.meaning.specs.Derivation.{places, nowhere}
 use Rattle.meaning.specs.Store.{Input, Leaves, ran}
-use Rattle.meaning.specs.Answer.{Returned, returned}
+use Rattle.meaning.specs.Answer.{Returned, returned, returnedBy}
 use Rattle.meaning.proofs.Demands.{over-the-words}
 use Rattle.leaves.specs.Noted.{Ran}
 use Rattle.calls.specs.Refused.{refused}
@@ -36,7 +37,7 @@ use Rattle.whole_job.proofs.Sizes.{Sized, sized}
 module _ (i : Input) (n : ℕ) (given : i .mark ≤ n) (holds : rows (i .store) ≤ n) where
   -- A run that is done has its mark within the store; any other gives the mark back.
   pub returned-mark : (r : Ran) → Leaves (i .store) (i .mark) r → returned i r .mark ≤ n
-  unfolding returned
+  unfolding returnedBy
   returned-mark (ended k b s u) l =
       let e : rows (s .words) ≡ rows (i .store) = ap (λ (m : ℕ). m / 8) (l .1 .long) in
       omega (arith, l .2 .fits)
@@ -53,7 +54,7 @@ module _ (i : Input) (n : ℕ) (given : i .mark ≤ n) (holds : rows (i .store) 
       go : (b : Bool) → eqb (verdict .answer) 0 ≡ b → (if b then returned i (ran places nowhere i) else refusing i verdict) .mark ≤ n
       go true e =
           returned-mark (ran places nowhere i)
-          (over-the-words ℕ places nowhere i (accepted-answer (i .table) (i .store) (i .bindings) (i .mark) (i .start) (i .subject) (i .units) e) .1)
+          (over-the-words ours ℕ places nowhere i (accepted-answer (i .table) (i .store) (i .bindings) (i .mark) (i .start) (i .subject) (i .units) e) .1)
       go false e = given
 
 -- So has what `run` returns.

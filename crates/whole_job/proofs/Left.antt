@@ -13,6 +13,7 @@ use borrow.Author.Tests.{le-leb, lt-leb, ne-eqb}
 use Rattle.words.specs.Words.{wordAt, rows, clearedFrom}
 use Rattle.words.proofs.Tests.{below-or-from}
 use Rattle.words.proofs.Rows.{length-clearedFrom, take-clearedFrom, getD-clearedFrom-from}
+use Rattle.checks.specs.Kinds.{ours}
 use Rattle.checks.specs.declared.Checked.{Checked}
 use Rattle.checks.specs.Good.{childCount}
 use Rattle.checks.specs.Checked.{checked}
@@ -20,7 +21,7 @@ use Rattle.meaning.specs.Bindings.{Bindings}
 use Rattle.meaning.specs.Limits.{ended, lost, cut}
 use Rattle.meaning.specs.Derivation.{places, nowhere}
 use Rattle.meaning.specs.Store.{Input, Accepted, Kept, Leaves, ran}
-use Rattle.meaning.specs.Answer.{bindingWord, bindingWords, returned}
+use Rattle.meaning.specs.Answer.{bindingWord, bindingWords, returned, returnedBy}
 use Rattle.meaning.proofs.Checked.{Node, Filled, node-of-good, store-filled}
 use Rattle.meaning.proofs.Words.{kept-filled}
 use Rattle.meaning.proofs.Demands.{over-the-words}
@@ -88,7 +89,7 @@ cleared-kept w m = record { long = length-clearedFrom w (8 * m); same = take-cle
 
 filled-returned : (i : Input) (r : Ran) → Filled (i .store) (i .mark) → Leaves (i .store) (i .mark) r
     → Filled (returned i r .store) (returned i r .mark)
-unfolding returned
+unfolding returnedBy
 filled-returned i (ended k b s u) f l =
     kept-filled (cleared-kept (s .words) (s .mark))
     (record { fits = l .2 .fits; node = λ j h. node-of-good (s .words) j (l .2 .good j h) })
@@ -96,7 +97,7 @@ filled-returned i (lost w u) f l = kept-filled (cleared-kept (w .words) (i .mark
 filled-returned i (cut c w u) f l = kept-filled (cleared-kept (w .words) (i .mark)) (kept-filled l f)
 
 zeros-returned : (i : Input) (r : Ran) (n : ℕ) → 8 * returned i r .mark ≤ n → getD (returned i r .store) n 0 ≡ 0
-unfolding returned
+unfolding returnedBy
 zeros-returned i (ended k b s u) n l = getD-clearedFrom-from (s .words) (8 * s .mark) n l
 zeros-returned i (lost w u) n l = getD-clearedFrom-from (w .words) (8 * i .mark) n l
 zeros-returned i (cut c w u) n l = getD-clearedFrom-from (w .words) (8 * i .mark) n l
@@ -145,13 +146,13 @@ words-below b m h v =
 
 module _ (i : Input) (a : Accepted i) where
   bound-returned : (r : Ran) → Leaves (i .store) (i .mark) r → (v : ℕ) → getD (returned i r .bindings) v 0 ≤ returned i r .mark
-  unfolding returned
+  unfolding returnedBy
   bound-returned (ended k b s u) l v = words-below b (s .mark) (l .2 .bound) v
   bound-returned (lost w u) l v = a .bound v
   bound-returned (cut c w u) l v = a .bound v
 
   variables-returned : (r : Ran) → length (returned i r .bindings) ≡ 32
-  unfolding returned
+  unfolding returnedBy
   variables-returned (ended k b s u) = length-words 32 b
   variables-returned (lost w u) = a .bindings
   variables-returned (cut c w u) = a .bindings
@@ -159,7 +160,7 @@ module _ (i : Input) (a : Accepted i) where
   -- What a run leaves, where the mark and the room are at most 1,024.
   pub left : i .mark ≤ 1024 → rows (i .store) ≤ 1024 → Left (runOf i .store) (runOf i .bindings) (runOf i .mark)
   left p q =
-      let l : Leaves (i .store) (i .mark) (ran places nowhere i) = over-the-words ℕ places nowhere i a .1 in
+      let l : Leaves (i .store) (i .mark) (ran places nowhere i) = over-the-words ours ℕ places nowhere i a .1 in
       let f : Filled _ _ = filled-returned i (ran places nowhere i) (store-filled (i .store) (i .mark) (a .store)) l in
       let m : returned i (ran places nowhere i) .mark ≤ 1024 = returned-mark i 1024 p q (ran places nowhere i) l in
       rw (run-shown i a)

@@ -5,14 +5,14 @@ use Prim.Native.Nat.{ℕ}
 use Rattle.words.specs.Tests.{every, rejected}
 use Rattle.words.specs.Words.{putRow, clearedFrom}
 use Rattle.checks.specs.Kinds.{lines, lineOf as kindLine, kind, sortOf, takes}
-use Rattle.checks.specs.Good.{countFits, argumentFits, operandPlaced, operandSorted, operandsFault, unusedZero, fault, goodEntry, goodNode}
-use Rattle.checks.specs.Checked.{tableLengthFits, storeLengthFits, tableChecked, storeChecked}
+use Rattle.checks.specs.Good.{number as word-number, countFits, argumentFitsBy, operandPlacedBy, operandSortedBy, operandsFaultBy, unusedZeroBy, faultBy, goodEntryBy, goodNode}
+use Rattle.checks.specs.Checked.{tableLengthFits, storeLengthFits, tableCheckedBy, storeChecked}
 use Rattle.meaning.specs.Bindings.{bind, has, masked}
-use Rattle.meaning.specs.Table.{byKind, table}
+use Rattle.meaning.specs.Table.{byKind, tableBy}
 use Rattle.meaning.specs.Rules.{nth, put, zip, agree, when, again, walk, strategy, variable, whenAt, matching, needed, building, does}
 use Rattle.meaning.specs.Limits.{roomFor, settled, after, runPlan, closed, run}
-use Rattle.meaning.specs.Store.{row, named, bindings, ran}
-use Rattle.meaning.specs.Answer.{number, bindingWord, bindingWords, returned}
+use Rattle.meaning.specs.Store.{row, named, bindings, ranBy}
+use Rattle.meaning.specs.Answer.{number, bindingWord, bindingWords, returnedBy}
 use Rattle.calls.specs.Refused.{sizesFit, boundBelow, isStart, startFits, wordsRefused, refusedWith}
 use Rattle.calls.specs.Run.{runWith}
 use Rattle.text.specs.Text.{parts, valued, numberOf, numbersOf, digits}
@@ -34,5 +34,5 @@ answerText =
     ∷ 110 ∷ 9 ∷ 53 ∷ 9 ∷ 49 ∷ 9 ∷ 48 ∷ 10 ∷ []
 
 job-answered : answerTo jobText ≡ answerText
-unfolding every rejected putRow clearedFrom lines kindLine kind sortOf takes countFits argumentFits operandPlaced operandSorted operandsFault unusedZero fault goodEntry goodNode tableLengthFits storeLengthFits tableChecked storeChecked bind has masked byKind table nth put zip agree when again walk strategy variable whenAt matching needed building does roomFor settled after runPlan closed run row named bindings ran number bindingWord bindingWords returned sizesFit boundBelow isStart startFits wordsRefused refusedWith runWith parts valued numberOf numbersOf digits letterOf nameOf jobFits entryFits nodeFits bindingFits fits lineOf entryRow nodeRow zeros admitted headed tableWith storeWith bindingsWith with readLines meant nameText numbersText lineText written nodeShown nodeNumbers nodeLines bindingLine bindingLines shown answerLine answered runText meantText answerTo
+unfolding every rejected putRow clearedFrom lines kindLine kind sortOf takes word-number countFits argumentFitsBy operandPlacedBy operandSortedBy operandsFaultBy unusedZeroBy faultBy goodEntryBy goodNode tableLengthFits storeLengthFits tableCheckedBy storeChecked bind has masked byKind tableBy nth put zip agree when again walk strategy variable whenAt matching needed building does roomFor settled after runPlan closed run row named bindings ranBy number bindingWord bindingWords returnedBy sizesFit boundBelow isStart startFits wordsRefused refusedWith runWith parts valued numberOf numbersOf digits letterOf nameOf jobFits entryFits nodeFits bindingFits fits lineOf entryRow nodeRow zeros admitted headed tableWith storeWith bindingsWith with readLines meant nameText numbersText lineText written nodeShown nodeNumbers nodeLines bindingLine bindingLines shown answerLine answered runText meantText answerTo
 job-answered = refl

@@ -2,6 +2,7 @@
 use mathlib.Core.Path.{_≡_, ap, sym, _∙_}
 use borrow.Author.Needs.{needs}
 use borrow.Author.Tests.{eq-eqb, ne-eqb, not-true, not-false}
+use Rattle.checks.specs.Kinds.{ours}
 use Rattle.checks.specs.declared.Checked.{Checked}
 use Rattle.checks.proofs.Promises.{tablePasses}
 use Rattle.calls.specs.Refused.{wordsRefused}
@@ -61,7 +62,7 @@ obeyed-requires : tie.Need-obeyed-requires
 obeyed-requires c κs =
     let at-if3 = c .before .before .before in
     let at-check-table = at-if3 .before .before in
-    tablePasses _ .0 (ap (λ (r : Checked). r .answer) (sym (at-check-table .check-table .ensures)) ∙ at-if3 .if3 .left) .0 .most
+    tablePasses ours _ .0 (ap (λ (r : Checked). r .answer) (sym (at-check-table .check-table .ensures)) ∙ at-if3 .if3 .left) .0 .most
 
 returns-5 : tie.Need-returns-5
 unfolding wordsRefused

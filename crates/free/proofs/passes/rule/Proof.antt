@@ -7,10 +7,10 @@ use borrow.Author.Needs.{needs}
 use borrow.Author.Tests.{eq-eqb, ne-eqb}
 use Rattle.checks.specs.Kinds.{ours, variables, operandsFromBy}
 use Rattle.checks.specs.Good.{kindOf, number}
-use Rattle.checks.proofs.Good.{operandCount-six}
+use Rattle.checks.proofs.Good.{operandCount-six, operand-scope}
 use Rattle.free.specs.Passes.{ruled}
 use Rattle.meaning.proofs.Bits.{bit-shift}
-use Rattle.free.proofs.Entries.{operand-scope, variable-below}
+use Rattle.free.proofs.Entries.{variable-below}
 use Rattle.free.proofs.passes.rule.Statement.{statement}
 use Rattle.free.proofs.passes.rule.Tie as tie
 
