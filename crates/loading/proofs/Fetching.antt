@@ -52,7 +52,7 @@ module _ (t c : List ℕ) (e : ℕ) (f : (j : ℕ) → j < 8 → wordAt c e j �
       (rw (f 4 (omega arith), f 5 (omega arith), f 6 (omega arith), f 7 (omega arith)))
 
   alike-strategy : table c .strategies e ≡ table t .strategies e
-  unfolding tableBy
+  unfolding tableBy number
   alike-strategy = rw (operands-alike, f 0 (omega arith), f 1 (omega arith), f 2 (omega arith), f 3 (omega arith))
 
   alike-pattern : table c .patterns e ≡ table t .patterns e
