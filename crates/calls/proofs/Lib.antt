@@ -6,3 +6,4 @@ pub mod Signed
 pub mod Turns
 pub mod Subjects
 pub mod Small
+pub mod Uses

@@ -6,3 +6,4 @@ pub mod Many
 pub mod Promises
 pub mod Signed
 pub mod Subjects
+pub mod Uses

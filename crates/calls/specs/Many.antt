@@ -6,13 +6,14 @@ use mathlib.Core.List.{List, [], _∷_, _++_}
 use Prim.Native.Nat.{ℕ, _*_}
 use lib.Dec.{eqb}
 use lib.ListN.{length}
+use Rattle.checks.specs.Kinds.{ours}
 use Rattle.words.specs.Tests.{if_then_else_}
 use Rattle.checks.specs.Checked.{checked}
 use Rattle.checks.specs.declared.Checked.{Checked}
 use Rattle.meaning.specs.Store.{Input}
 use Rattle.meaning.specs.Answer.{Returned}
-use Rattle.calls.specs.Refused.{orElse, startFits, wordsRefused, startsFit}
-use Rattle.calls.specs.Run.{input, runWith}
+use Rattle.calls.specs.Refused.{orElse, startFits, wordsRefusedBy, startsFit}
+use Rattle.calls.specs.Run.{input, runWithBy}
 
 -- what is handed to a call over many subjects; `results` is the lent list
 pub record Module : Type 0 where
@@ -30,10 +31,10 @@ handed t s b mark start ks units results = record { table = t; store = s; bindin
 
 -- the refusal, or 0 with place 0, with the signature g where one is lent: the list has five words per subject; then all that a run
 -- refuses before it looks at its start; then the start, and every subject below the first mark
-unfoldable pub manyRefused : Option (List ℕ) → Module → Checked
-manyRefused g c =
+unfoldable pub manyRefusedBy : ℕ → Option (List ℕ) → Module → Checked
+manyRefusedBy W g c =
     if eqb (length (c .results)) (5 * length (c .subjects))
-    then orElse (wordsRefused g (c .table) (c .store) (c .bindings) (c .mark))
+    then orElse (wordsRefusedBy W g (c .table) (c .store) (c .bindings) (c .mark))
     (if startsFit (c .table) (c .bindings) (c .mark) (c .start) (c .subjects) then checked 0 0 else checked 5 0)
     else checked 2 0
 
@@ -56,11 +57,11 @@ before ns r = record { results = ns ++ r .results; store = r .store }
 
 -- single calls in turn over the subjects ks, from the store's words s and the mark m on: a call that fails, is cut off or is done hands
 -- its store and its mark to the next
-unfoldable pub inTurn : Option (List ℕ) → Module → List ℕ → ℕ → List ℕ → Turns
-inTurn g c s m [] = record { results = []; store = s }
-inTurn g c s m (k ∷ ks) =
-    let r = runWith g (single c s m k) in
-    before (five r) (inTurn g c (r .store) (r .mark) ks)
+unfoldable pub inTurnBy : ℕ → Option (List ℕ) → Module → List ℕ → ℕ → List ℕ → Turns
+inTurnBy W g c s m [] = record { results = []; store = s }
+inTurnBy W g c s m (k ∷ ks) =
+    let r = runWithBy W g (single c s m k) in
+    before (five r) (inTurnBy W g c (r .store) (r .mark) ks)
 
 -- what comes back: answer and place, with every word of the results and of the store at return
 pub record ManyReturned : Type 0 where
@@ -81,5 +82,12 @@ abbrev pub manyRefusing : Module → Checked → ManyReturned
 manyRefusing c r = record { answer = r .answer; place = r .place; results = c .results; store = c .store }
 
 -- refused, or run in turn
-unfoldable pub manyOf : Option (List ℕ) → Module → ManyReturned
-manyOf g c = if eqb (manyRefused g c .answer) 0 then afterTurns (inTurn g c (c .store) (c .mark) (c .subjects)) else manyRefusing c (manyRefused g c)
+unfoldable pub manyOfBy : ℕ → Option (List ℕ) → Module → ManyReturned
+manyOfBy W g c = if eqb (manyRefusedBy W g c .answer) 0 then afterTurns (inTurnBy W g c (c .store) (c .mark) (c .subjects)) else manyRefusing c (manyRefusedBy W g c)
+
+-- the same in the product
+abbrev pub manyRefused : Option (List ℕ) → Module → Checked
+manyRefused = manyRefusedBy ours
+
+abbrev pub manyOf : Option (List ℕ) → Module → ManyReturned
+manyOf = manyOfBy ours

@@ -9,17 +9,17 @@ use lib.Dec.{leb, ltb, eqb}
 use lib.ListN.{length, getD}
 use Rattle.words.specs.Words.{rows}
 use Rattle.words.specs.Tests.{if_then_else_, every}
-use Rattle.checks.specs.Kinds.{sortOf, same, variables}
+use Rattle.checks.specs.Kinds.{ours, sortOf, same, variablesBy}
 use Rattle.checks.specs.Good.{kindOf}
-use Rattle.checks.specs.Checked.{checked, tableLengthFits, storeLengthFits, tableChecked, storeChecked, boundBelow}
+use Rattle.checks.specs.Checked.{checked, tableLengthFits, storeLengthFits, tableCheckedBy, storeChecked, boundBelow}
 unfoldable pub use Rattle.checks.specs.Checked.{boundBelow}
 use Rattle.checks.specs.Signature.{signatureFits, entriesChecked, nodesChecked}
 use Rattle.checks.specs.declared.Checked.{Checked}
 use Rattle.checks.specs.declared.kinds.Sort.the-variants.{Strategy}
 
 -- the table, the store and the bindings have lengths of theirs, and the mark is at most the store's nodes
-unfoldable pub sizesFit : List ℕ → List ℕ → List ℕ → ℕ → Bool
-sizesFit t s b mark = tableLengthFits (length t) && (storeLengthFits (length s) && (eqb (length b) variables && leb mark (rows s)))
+unfoldable pub sizesFitBy : ℕ → List ℕ → List ℕ → List ℕ → ℕ → Bool
+sizesFitBy W t s b mark = tableLengthFits (length t) && (storeLengthFits (length s) && (eqb (length b) (variablesBy W) && leb mark (rows s)))
 
 -- the start is in the table and a strategy
 unfoldable pub isStart : List ℕ → ℕ → Bool
@@ -52,21 +52,34 @@ lentFits none = true
 lentFits (some g) = signatureFits g
 
 -- every entry obeys a lent signature, and every node below the mark
-abbrev pub obeyedBy : Option (List ℕ) → List ℕ → List ℕ → ℕ → Checked
-obeyedBy none t s mark = checked 0 0
-obeyedBy (some g) t s mark = orElse (entriesChecked g t) (nodesChecked g s mark)
+abbrev pub signatureObeyed : Option (List ℕ) → List ℕ → List ℕ → ℕ → Checked
+signatureObeyed none t s mark = checked 0 0
+signatureObeyed (some g) t s mark = orElse (entriesChecked g t) (nodesChecked g s mark)
 
 -- what is refused before the start is looked at, with the signature g where one is lent; every call that runs begins with it
-unfoldable pub wordsRefused : (g : Option (List ℕ)) (t s b : List ℕ) (mark : ℕ) → Checked
-wordsRefused g t s b mark =
-    if sizesFit t s b mark && lentFits g then orElse (tableChecked t) (orElse (storeChecked s mark) (obeyedBy g t s mark))
+unfoldable pub wordsRefusedBy : ℕ → (g : Option (List ℕ)) (t s b : List ℕ) (mark : ℕ) → Checked
+wordsRefusedBy W g t s b mark =
+    if sizesFitBy W t s b mark && lentFits g then orElse (tableCheckedBy W t) (orElse (storeChecked s mark) (signatureObeyed g t s mark))
     else checked 2 0
 
 -- the refusal, or 0 with place 0, with the signature g where one is lent
-unfoldable pub refusedWith : (g : Option (List ℕ)) (t s b : List ℕ) (mark start subject : ℕ) → Checked
-refusedWith g t s b mark start subject =
-    orElse (wordsRefused g t s b mark) (if startFits t b mark start subject then checked 0 0 else checked 5 0)
+unfoldable pub refusedWithBy : ℕ → (g : Option (List ℕ)) (t s b : List ℕ) (mark start subject : ℕ) → Checked
+refusedWithBy W g t s b mark start subject =
+    orElse (wordsRefusedBy W g t s b mark) (if startFits t b mark start subject then checked 0 0 else checked 5 0)
 
 -- the refusal where no signature is lent
+abbrev pub refusedBy : ℕ → (t s b : List ℕ) (mark start subject : ℕ) → Checked
+refusedBy W t s b mark start subject = refusedWithBy W none t s b mark start subject
+
+-- the same in the product
+abbrev pub sizesFit : List ℕ → List ℕ → List ℕ → ℕ → Bool
+sizesFit = sizesFitBy ours
+
+abbrev pub wordsRefused : (g : Option (List ℕ)) (t s b : List ℕ) (mark : ℕ) → Checked
+wordsRefused = wordsRefusedBy ours
+
+abbrev pub refusedWith : (g : Option (List ℕ)) (t s b : List ℕ) (mark start subject : ℕ) → Checked
+refusedWith = refusedWithBy ours
+
 abbrev pub refused : (t s b : List ℕ) (mark start subject : ℕ) → Checked
-refused t s b mark start subject = refusedWith none t s b mark start subject
+refused = refusedBy ours

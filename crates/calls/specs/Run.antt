@@ -4,13 +4,14 @@ use mathlib.Core.Option.{Option, none}
 use mathlib.Core.List.{List}
 use Prim.Native.Nat.{ℕ, _-_}
 use lib.Dec.{eqb}
+use Rattle.checks.specs.Kinds.{ours}
 use Rattle.words.specs.Tests.{if_then_else_}
 use Rattle.checks.specs.declared.Checked.{Checked}
 use Rattle.meaning.specs.Limits.{ended, lost, cut}
 use Rattle.meaning.specs.Derivation.{places, nowhere}
-use Rattle.meaning.specs.Store.{Input, Ran, ran}
-use Rattle.meaning.specs.Answer.{Returned, number, placeOf, returned}
-use Rattle.calls.specs.Refused.{refusedWith}
+use Rattle.meaning.specs.Store.{Input, Ran, ranBy}
+use Rattle.meaning.specs.Answer.{Returned, number, placeOf, returnedBy}
+use Rattle.calls.specs.Refused.{refusedWithBy}
 use Rattle.calls.specs.declared.Outcome.{Outcome}
 
 -- what is handed over
@@ -26,14 +27,14 @@ abbrev pub refusing : Input → Checked → Returned
 refusing i c = record { answer = c .answer; place = c .place; subject = i .subject; mark = i .mark; units = 0; store = i .store; bindings = i .bindings }
 
 -- refused, or run, with the signature g where one is lent
-unfoldable pub runWith : Option (List ℕ) → Input → Returned
-runWith g i =
-    if eqb (refusedWith g (i .table) (i .store) (i .bindings) (i .mark) (i .start) (i .subject) .answer) 0 then returned i (ran places nowhere i)
-    else refusing i (refusedWith g (i .table) (i .store) (i .bindings) (i .mark) (i .start) (i .subject))
+unfoldable pub runWithBy : ℕ → Option (List ℕ) → Input → Returned
+runWithBy W g i =
+    if eqb (refusedWithBy W g (i .table) (i .store) (i .bindings) (i .mark) (i .start) (i .subject) .answer) 0 then returnedBy W i (ranBy W places nowhere i)
+    else refusing i (refusedWithBy W g (i .table) (i .store) (i .bindings) (i .mark) (i .start) (i .subject))
 
 -- the run where no signature is lent
-abbrev pub runOf : Input → Returned
-runOf i = runWith none i
+abbrev pub runOfBy : ℕ → Input → Returned
+runOfBy W i = runWithBy W none i
 
 -- the five numbers of a run's end, k being the subject, m the mark and u the units that it was given
 unfoldable pub numbers : (k m u : ℕ) → Ran ℕ → Outcome
@@ -46,3 +47,10 @@ unfoldable pub wordsOf : Ran ℕ → List ℕ
 wordsOf (ended x b s v) = s .words
 wordsOf (lost l v) = l .words
 wordsOf (cut c l v) = l .words
+
+-- the same in the product
+abbrev pub runWith : Option (List ℕ) → Input → Returned
+runWith = runWithBy ours
+
+abbrev pub runOf : Input → Returned
+runOf = runOfBy ours

@@ -17,7 +17,7 @@ ghost use mathlib.Core.List.{List};
 ghost use Prim.Native.Nat.{ℕ, _≤_};
 ghost use lib.ListN.{length};
 ghost use Rattle.calls.specs.Many.{handed, manyRefused};
-ghost use Rattle.calls.specs.Refused.{sizesFit, isStart, startFits, subjectsBelow, startsFit, lentIf, lentFits, obeyedBy, wordsRefused, refusedWith};
+ghost use Rattle.calls.specs.Refused.{sizesFit, isStart, startFits, subjectsBelow, startsFit, lentIf, lentFits, signatureObeyed, wordsRefused, refusedWith};
 
 // The lengths, and the mark within the store.
 fn sizes_fit(table: &[u32], store: &[u32], bindings: &[u32], mark: u32) -> bool
@@ -102,7 +102,7 @@ fn lent_fits(signed: bool, signature: &[u32]) -> bool
 // The entries and the nodes below the mark obey a lent signature: 10 or 11 with the lowest that does not.
 fn obeyed(table: &[u32], store: &[u32], mark: u32, signed: bool, signature: &[u32]) -> Checked
     requires { ⌜ length (now table) ≤ 32768 ⌝ }
-    ensures { λ r. ⌜ r ≡ obeyedBy (lentIf signed (now (signature .entry))) (now (table .entry)) (now (store .entry)) mark ⌝ }
+    ensures { λ r. ⌜ r ≡ signatureObeyed (lentIf signed (now (signature .entry))) (now (table .entry)) (now (store .entry)) mark ⌝ }
 {
     if !signed {
         return Checked {

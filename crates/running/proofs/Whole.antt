@@ -39,7 +39,7 @@ use Rattle.leaves.proofs.Holding.{mark-missing, miss-missing, held-missing, fra
 use Rattle.leaves.proofs.AnswerWords.{node-packed, units-packed, out-answer}
 use Rattle.loading.specs.Loaded.{Loaded, Opened}
 use Rattle.calls.specs.Refused.{refusedWith}
-use Rattle.calls.specs.Run.{atReturn, refusing, runWith, numbers, wordsOf}
+use Rattle.calls.specs.Run.{atReturn, refusing, runWith, runWithBy, numbers, wordsOf}
 use Rattle.running.specs.Ends.{cutNumber, cutPlace, Ends}
 use Rattle.calls.specs.declared.Outcome.{Outcome}
 
@@ -230,11 +230,11 @@ module _ (i : Input) (a : Accepted i) (r : Outcome) (st w : List ℕ) (ends : En
 -- a refusal, and none
 module _ (g : Option (List ℕ)) (i : Input) (r : Checked) (is : r ≡ refusedWith g (i .table) (i .store) (i .bindings) (i .mark) (i .start) (i .subject)) where
   pub run-refused : (r .answer ≡ 0 → ⊥) → refusing i r ≡ runWith g i
-  unfolding runWith
+  unfolding runWithBy
   run-refused n = rw is (sym (rw (ne-eqb (refusedWith g (i .table) (i .store) (i .bindings) (i .mark) (i .start) (i .subject) .answer) 0 (λ z. n (ap (λ (c : Checked). c .answer) is ∙ z)))))
 
   pub run-ran : r .answer ≡ 0 → returned i (ran places nowhere i) ≡ runWith g i
-  unfolding runWith
+  unfolding runWithBy
   run-ran z = sym (rw (eq-eqb (refusedWith g (i .table) (i .store) (i .bindings) (i .mark) (i .start) (i .subject) .answer) 0 (sym (ap (λ (c : Checked). c .answer) is) ∙ z)))
 
 -- the lengths that a run's copies need

@@ -18,7 +18,7 @@ use Rattle.meaning.specs.Answer.{Returned, returned, returnedBy}
 use Rattle.meaning.proofs.Demands.{over-the-words}
 use Rattle.leaves.specs.Noted.{Ran}
 use Rattle.calls.specs.Refused.{refused}
-use Rattle.calls.specs.Run.{atReturn, refusing, runWith, runOf}
+use Rattle.calls.specs.Run.{atReturn, refusing, runWithBy, runOf}
 use Rattle.calls.specs.declared.Outcome.{Outcome as Five}
 use Rattle.calls.proofs.Accepting.{accepted-answer}
 use Rattle.job.specs.declared.Heading.{Heading}
@@ -45,7 +45,7 @@ module _ (i : Input) (n : ℕ) (given : i .mark ≤ n) (holds : rows (i .store) 
   returned-mark (cut c w u) l = given
 
   pub mark-most : runOf i .mark ≤ n
-  unfolding runWith
+  unfolding runWithBy
   mark-most = go (eqb (verdict .answer) 0) refl
     where
       verdict : Checked
@@ -54,7 +54,7 @@ module _ (i : Input) (n : ℕ) (given : i .mark ≤ n) (holds : rows (i .store) 
       go : (b : Bool) → eqb (verdict .answer) 0 ≡ b → (if b then returned i (ran places nowhere i) else refusing i verdict) .mark ≤ n
       go true e =
           returned-mark (ran places nowhere i)
-          (over-the-words ours ℕ places nowhere i (accepted-answer (i .table) (i .store) (i .bindings) (i .mark) (i .start) (i .subject) (i .units) e) .1)
+          (over-the-words ours ℕ places nowhere i (accepted-answer ours (i .table) (i .store) (i .bindings) (i .mark) (i .start) (i .subject) (i .units) e) .1)
       go false e = given
 
 -- So has what `run` returns.

@@ -27,7 +27,7 @@ use Rattle.meaning.proofs.Words.{kept-filled}
 use Rattle.meaning.proofs.Demands.{over-the-words}
 use Rattle.leaves.specs.Noted.{Ran}
 use Rattle.calls.specs.Refused.{refused}
-use Rattle.calls.specs.Run.{runWith, runOf}
+use Rattle.calls.specs.Run.{runWithBy, runOf}
 use Rattle.calls.specs.declared.Outcome.{Outcome as Five}
 use Rattle.calls.proofs.Accepting.{accepted-answer, accepted-back}
 use Rattle.calls.proofs.Words.{length-words, word-of}
@@ -62,23 +62,23 @@ module _ (i : Input) where
   }
 
   not-refused : Accepted i → verdict ≡ checked 0 0
-  not-refused = accepted-back (i .table) (i .store) (i .bindings) (i .mark) (i .start) (i .subject) (i .units)
+  not-refused = accepted-back ours (i .table) (i .store) (i .bindings) (i .mark) (i .start) (i .subject) (i .units)
 
   pub accepted-shown : shown (runOf i .answer) ≡ true → Accepted i
   accepted-shown h = go (eqb (verdict .answer) 0) refl
     where
       go : (b : Bool) → eqb (verdict .answer) 0 ≡ b → Accepted i
-      go true e = accepted-answer (i .table) (i .store) (i .bindings) (i .mark) (i .start) (i .subject) (i .units) e
+      go true e = accepted-answer ours (i .table) (i .store) (i .bindings) (i .mark) (i .start) (i .subject) (i .units) e
       go false e =
           let n : Accepted i → ⊥ = λ a. true≢false (sym (ap (λ (c : Checked). eqb (c .answer) 0) (not-refused a)) ∙ e) in
-          let p = refuses i five (runOf i .store) (runOf i .bindings) refl .1 n in
+          let p = refuses ours i five (runOf i .store) (runOf i .bindings) refl .1 n in
           absurd (true≢false (sym h ∙ refusal-alone (runOf i .answer) p))
 
   pub run-not-three : runOf i .answer ≢ 3
-  run-not-three = never-three .run i five (runOf i .store) (runOf i .bindings) refl
+  run-not-three = never-three ours .run i five (runOf i .store) (runOf i .bindings) refl
 
   pub run-shown : Accepted i → runOf i ≡ returned i (ran places nowhere i)
-  unfolding runWith
+  unfolding runWithBy
   run-shown a = rw (not-refused a)
 
 -- ---- the nodes

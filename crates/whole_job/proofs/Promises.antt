@@ -13,10 +13,10 @@ use Rattle.words.specs.Tests.{if_then_else_}
 use Rattle.words.specs.Words.{rows}
 use Rattle.checks.specs.declared.Checked.{Checked}
 use Rattle.checks.specs.Checked.{checked, tableLengthFits, storeLengthFits}
-use Rattle.calls.specs.Refused.{sizesFit, orElse, wordsRefused, refusedWith, refused}
+use Rattle.calls.specs.Refused.{sizesFitBy, orElse, wordsRefusedBy, refusedWithBy, refused}
 use Rattle.meaning.specs.Store.{Input}
 use Rattle.meaning.specs.Answer.{Returned}
-use Rattle.calls.specs.Run.{runWith}
+use Rattle.calls.specs.Run.{runWithBy}
 use Rattle.job.specs.declared.Heading.{Heading}
 use Rattle.job.specs.Lines.{Line}
 use Rattle.job.specs.Job.{Reading, headed, with, Meant, bad, good, meant}
@@ -81,7 +81,7 @@ tooLong s l = rw (lt-ltb 60000 (length s) l)
 
 -- Sizes that do not fit are refused before all else.
 refused-sizes : (t s b : List ℕ) (mark start subject : ℕ) → rows s < mark → refused t s b mark start subject ≡ checked 2 0
-unfolding refusedWith wordsRefused sizesFit
+unfolding refusedWithBy wordsRefusedBy sizesFitBy
 refused-sizes t s b mark start subject l =
     rw (lt-leb mark (rows s) l) (go (tableLengthFits (length t)) (storeLengthFits (length s)) (eqb (length b) 32) _ _)
   where
@@ -92,7 +92,7 @@ refused-sizes t s b mark start subject l =
     go false y z c d = refl
 
 pub noRoom : promises.NoRoom
-unfolding runWith shown
+unfolding runWithBy shown
 noRoom s g e l =
     let i : Input = handed g in
     let c = refused-sizes (i .table) (i .store) (i .bindings) (i .mark) (i .start) (i .subject) (omega (arith, nodes-handed s g e)) in

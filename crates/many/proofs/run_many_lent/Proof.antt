@@ -5,6 +5,7 @@ use Prim.Native.Nat.{ℕ, _-_, _*_}
 use native.Mathlib.Omega.{arith}
 use lib.ListN.{length}
 use borrow.Author.Needs.{needs}
+use Rattle.checks.specs.Kinds.{ours}
 use Rattle.words.proofs.Rows.{length-clearedFrom}
 use Rattle.checks.specs.Checked.{checked}
 use Rattle.calls.specs.Refused.{lentIf}
@@ -18,7 +19,7 @@ use Rattle.many.proofs.run_many_lent.Tie as tie
 
 abbrev Inv-loop : tie.InvT-loop
 Inv-loop table store₀ bindings mark start subjects units results₀ signed signature code left₀ j₀ store results left j =
-    Going (lentIf signed signature) (handed table store₀ bindings mark start subjects units results₀) store results left j
+    Going ours (lentIf signed signature) (handed table store₀ bindings mark start subjects units results₀) store results left j
 
 abbrev μ-loop : tie.MeasureT-loop
 μ-loop table store₀ bindings mark start subjects units results₀ signed signature code left₀ j₀ store results left j = length subjects - j
@@ -31,7 +32,7 @@ returns c =
     let g = lentIf (a .signed) (a .signature .now) in
     let k = handed (a .table .now) (a .store .now) (a .bindings .now) (a .mark) (a .start) (a .subjects .now) (a .units) (a .results .now) in
     let is = at-refusal .many-refusal .ensures (a .results .now) (a .units) refl in
-    many-refused g k _ is (c .if1 .taken)
+    many-refused ours g k _ is (c .if1 .taken)
 
 returns-2 : tie.Need-returns-2 Inv-loop μ-loop
 returns-2 c =
@@ -42,7 +43,7 @@ returns-2 c =
     let g = lentIf (a .signed) (a .signature .now) in
     let k = handed (a .table .now) (a .store .now) (a .bindings .now) (a .mark) (a .start) (a .subjects .now) (a .units) (a .results .now) in
     let is = at-refusal .many-refusal .ensures (a .results .now) (a .units) refl in
-    many-none g k _ is (at-if1 .if1 .left) (c .if2 .taken)
+    many-none ours g k _ is (at-if1 .if1 .left) (c .if2 .taken)
 
 load-requires : tie.Need-load-requires Inv-loop μ-loop
 load-requires c κs =
@@ -53,8 +54,8 @@ load-requires c κs =
     let g = lentIf (a .signed) (a .signature .now) in
     let k = handed (a .table .now) (a .store .now) (a .bindings .now) (a .mark) (a .start) (a .subjects .now) (a .units) (a .results .now) in
     let is = at-refusal .many-refusal .ensures (a .results .now) (a .units) refl in
-    let γ = many-given g k _ is (at-if1 .if1 .left) .0 in
-    (table-short γ, refl)
+    let γ = many-given ours g k _ is (at-if1 .if1 .left) .0 in
+    (table-short ours γ, refl)
 
 loop-holds : tie.Need-loop-holds Inv-loop μ-loop
 loop-holds c =
@@ -65,7 +66,7 @@ loop-holds c =
     let g = lentIf (a .signed) (a .signature .now) in
     let k = handed (a .table .now) (a .store .now) (a .bindings .now) (a .mark) (a .start) (a .subjects .now) (a .units) (a .results .now) in
     let is = at-refusal .many-refusal .ensures (a .results .now) (a .units) refl in
-    going-first g k (many-given g k _ is (at-if1 .if1 .left) .1)
+    going-first ours g k (many-given ours g k _ is (at-if1 .if1 .left) .1)
 
 opened-requires : tie.Need-opened-requires Inv-loop μ-loop
 opened-requires c κs =
@@ -78,7 +79,7 @@ opened-requires c κs =
     let g = lentIf (a .signed) (a .signature .now) in
     let k = handed (a .table .now) (a .store .now) (a .bindings .now) (a .mark) (a .start) (a .subjects .now) (a .units) (a .results .now) in
     let is = at-refusal .many-refusal .ensures (a .results .now) (a .units) refl in
-    let γ = many-given g k _ is (at-if1 .if1 .left) .0 in
+    let γ = many-given ours g k _ is (at-if1 .if1 .left) .0 in
     let G = at-loop .loop .inv in
     γ .bindings
 
@@ -93,7 +94,7 @@ mul-run-accepted c =
     let g = lentIf (a .signed) (a .signature .now) in
     let k = handed (a .table .now) (a .store .now) (a .bindings .now) (a .mark) (a .start) (a .subjects .now) (a .units) (a .results .now) in
     let is = at-refusal .many-refusal .ensures (a .results .now) (a .units) refl in
-    let γ = many-given g k _ is (at-if1 .if1 .left) .0 in
+    let γ = many-given ours g k _ is (at-if1 .if1 .left) .0 in
     let G = at-loop .loop .inv in
     omega (arith, c .before .before .before .before .loop-test .taken, at-start .good .1 .1 .1 .1 .1 .0 .1)
 
@@ -108,7 +109,7 @@ shared-slice-read-run-accepted c =
     let g = lentIf (a .signed) (a .signature .now) in
     let k = handed (a .table .now) (a .store .now) (a .bindings .now) (a .mark) (a .start) (a .subjects .now) (a .units) (a .results .now) in
     let is = at-refusal .many-refusal .ensures (a .results .now) (a .units) refl in
-    let γ = many-given g k _ is (at-if1 .if1 .left) .0 in
+    let γ = many-given ours g k _ is (at-if1 .if1 .left) .0 in
     let G = at-loop .loop .inv in
     omega (arith, c .before .before .before .before .before .loop-test .taken)
 
@@ -123,9 +124,9 @@ run-accepted-requires c κs =
     let g = lentIf (a .signed) (a .signature .now) in
     let k = handed (a .table .now) (a .store .now) (a .bindings .now) (a .mark) (a .start) (a .subjects .now) (a .units) (a .results .now) in
     let is = at-refusal .many-refusal .ensures (a .results .now) (a .units) refl in
-    let γ = many-given g k _ is (at-if1 .if1 .left) .0 in
+    let γ = many-given ours g k _ is (at-if1 .if1 .left) .0 in
     let G = at-loop .loop .inv in
-    let h = accepted-single γ (G .stands) _ (γ .subjects _ (c .before .before .before .before .before .loop-test .taken)) in
+    let h = accepted-single ours γ (G .stands) _ (γ .subjects _ (c .before .before .before .before .before .loop-test .taken)) in
     let l = at-load .load .ensures in
     ready _ h _ _ _ (table-loaded l) (entries-loaded (h .table) l) (hints-loaded (h .table) l) (c .before .before .before .before .opened .ensures) (at-start .fits .units .fits) refl
 
@@ -140,7 +141,7 @@ mul-put-five c =
     let g = lentIf (a .signed) (a .signature .now) in
     let k = handed (a .table .now) (a .store .now) (a .bindings .now) (a .mark) (a .start) (a .subjects .now) (a .units) (a .results .now) in
     let is = at-refusal .many-refusal .ensures (a .results .now) (a .units) refl in
-    let γ = many-given g k _ is (at-if1 .if1 .left) .0 in
+    let γ = many-given ours g k _ is (at-if1 .if1 .left) .0 in
     let G = at-loop .loop .inv in
     omega (arith, c .before .before .before .before .before .before .before .before .before .loop-test .taken, G .long, γ .results, at-start .good .1 .1 .1 .1 .1 .1 .1 .0 .0)
 
@@ -155,7 +156,7 @@ put-five-requires c κs =
     let g = lentIf (a .signed) (a .signature .now) in
     let k = handed (a .table .now) (a .store .now) (a .bindings .now) (a .mark) (a .start) (a .subjects .now) (a .units) (a .results .now) in
     let is = at-refusal .many-refusal .ensures (a .results .now) (a .units) refl in
-    let γ = many-given g k _ is (at-if1 .if1 .left) .0 in
+    let γ = many-given ours g k _ is (at-if1 .if1 .left) .0 in
     let G = at-loop .loop .inv in
     omega (arith, c .before .before .before .before .before .before .before .before .before .loop-test .taken, G .long, γ .results, at-start .good .1 .1 .1 .1 .1 .1 .1 .0 .0)
 
@@ -170,7 +171,7 @@ add-j c =
     let g = lentIf (a .signed) (a .signature .now) in
     let k = handed (a .table .now) (a .store .now) (a .bindings .now) (a .mark) (a .start) (a .subjects .now) (a .units) (a .results .now) in
     let is = at-refusal .many-refusal .ensures (a .results .now) (a .units) refl in
-    let γ = many-given g k _ is (at-if1 .if1 .left) .0 in
+    let γ = many-given ours g k _ is (at-if1 .if1 .left) .0 in
     let G = at-loop .loop .inv in
     omega (arith, c .before .before .before .before .before .before .before .before .before .before .before .before .loop-test .taken, at-start .good .1 .1 .1 .1 .1 .0 .0)
 
@@ -185,7 +186,7 @@ loop-less c =
     let g = lentIf (a .signed) (a .signature .now) in
     let k = handed (a .table .now) (a .store .now) (a .bindings .now) (a .mark) (a .start) (a .subjects .now) (a .units) (a .results .now) in
     let is = at-refusal .many-refusal .ensures (a .results .now) (a .units) refl in
-    let γ = many-given g k _ is (at-if1 .if1 .left) .0 in
+    let γ = many-given ours g k _ is (at-if1 .if1 .left) .0 in
     let G = at-loop .loop .inv in
     omega (arith, c .before .before .before .before .before .before .before .before .before .before .before .before .loop-test .taken)
 
@@ -200,14 +201,14 @@ loop-again c =
     let g = lentIf (a .signed) (a .signature .now) in
     let k = handed (a .table .now) (a .store .now) (a .bindings .now) (a .mark) (a .start) (a .subjects .now) (a .units) (a .results .now) in
     let is = at-refusal .many-refusal .ensures (a .results .now) (a .units) refl in
-    let γ = many-given g k _ is (at-if1 .if1 .left) .0 in
+    let γ = many-given ours g k _ is (at-if1 .if1 .left) .0 in
     let G = at-loop .loop .inv in
     let below = c .before .before .before .before .before .before .before .before .before .before .before .before .loop-test .taken in
-    let h = accepted-single γ (G .stands) _ (γ .subjects _ below) in
+    let h = accepted-single ours γ (G .stands) _ (γ .subjects _ below) in
     let l = at-load .load .ensures in
     let at-run = c .before .before .before .before .before .before in
     let e = ended-as _ h _ _ _ (table-loaded l) (entries-loaded (h .table) l) (hints-loaded (h .table) l) (at-run .before .before .before .before .before .opened .ensures) (at-start .fits .units .fits) refl _ _ _ (at-run .run-accepted .ensures) in
-    rw (c .before .before .put-five .ensures) (going-next γ _ _ _ _ G below _ _ (e .numbers) (e .words))
+    rw (c .before .before .put-five .ensures) (going-next ours γ _ _ _ _ G below _ _ (e .numbers) (e .words))
 
 cast-clear-from : tie.Need-cast-clear-from Inv-loop μ-loop
 cast-clear-from c =
@@ -220,9 +221,9 @@ cast-clear-from c =
     let g = lentIf (a .signed) (a .signature .now) in
     let k = handed (a .table .now) (a .store .now) (a .bindings .now) (a .mark) (a .start) (a .subjects .now) (a .units) (a .results .now) in
     let is = at-refusal .many-refusal .ensures (a .results .now) (a .units) refl in
-    let γ = many-given g k _ is (at-if1 .if1 .left) .0 in
+    let γ = many-given ours g k _ is (at-if1 .if1 .left) .0 in
     let G = at-loop .loop .inv in
-    omega (arith, mark-short γ (G .stands))
+    omega (arith, mark-short ours γ (G .stands))
 
 mul-clear-from : tie.Need-mul-clear-from Inv-loop μ-loop
 mul-clear-from c =
@@ -235,9 +236,9 @@ mul-clear-from c =
     let g = lentIf (a .signed) (a .signature .now) in
     let k = handed (a .table .now) (a .store .now) (a .bindings .now) (a .mark) (a .start) (a .subjects .now) (a .units) (a .results .now) in
     let is = at-refusal .many-refusal .ensures (a .results .now) (a .units) refl in
-    let γ = many-given g k _ is (at-if1 .if1 .left) .0 in
+    let γ = many-given ours g k _ is (at-if1 .if1 .left) .0 in
     let G = at-loop .loop .inv in
-    omega (arith, mark-short γ (G .stands))
+    omega (arith, mark-short ours γ (G .stands))
 
 same-length-3 : tie.Need-same-length-3 Inv-loop μ-loop
 same-length-3 c =
@@ -255,7 +256,7 @@ same-length-4 c =
     let g = lentIf (a .signed) (a .signature .now) in
     let k = handed (a .table .now) (a .store .now) (a .bindings .now) (a .mark) (a .start) (a .subjects .now) (a .units) (a .results .now) in
     let is = at-refusal .many-refusal .ensures (a .results .now) (a .units) refl in
-    let γ = many-given g k _ is (at-if1 .if1 .left) .0 in
+    let γ = many-given ours g k _ is (at-if1 .if1 .left) .0 in
     let G = at-loop .loop .inv in
     G .long
 
@@ -270,10 +271,10 @@ returns-3 c =
     let g = lentIf (a .signed) (a .signature .now) in
     let k = handed (a .table .now) (a .store .now) (a .bindings .now) (a .mark) (a .start) (a .subjects .now) (a .units) (a .results .now) in
     let is = at-refusal .many-refusal .ensures (a .results .now) (a .units) refl in
-    let γ = many-given g k _ is (at-if1 .if1 .left) .0 in
+    let γ = many-given ours g k _ is (at-if1 .if1 .left) .0 in
     let G = at-loop .loop .inv in
-    let last = going-last γ _ _ _ _ G (omega (arith, G .few, c .before .before .before .before .loop-test .left)) (omega (arith, at-load .before .before .if2 .left, G .few, c .before .before .before .before .loop-test .left)) in
-    (λ z. manyAtReturn (checked 0 0) (at-loop .loop .results) (c .before .before .clear-from .ensures z)) ∙ sym last ∙ many-ran g k _ is (at-if1 .if1 .left)
+    let last = going-last ours γ _ _ _ _ G (omega (arith, G .few, c .before .before .before .before .loop-test .left)) (omega (arith, at-load .before .before .if2 .left, G .few, c .before .before .before .before .loop-test .left)) in
+    (λ z. manyAtReturn (checked 0 0) (at-loop .loop .results) (c .before .before .clear-from .ensures z)) ∙ sym last ∙ many-ran ours g k _ is (at-if1 .if1 .left)
 
 pub run-many-lent-spec : {M : Type 1} → statement M
 run-many-lent-spec =

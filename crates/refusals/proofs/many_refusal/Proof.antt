@@ -5,20 +5,20 @@ use native.Mathlib.Omega.{arith}
 use lib.ListN.{length}
 use borrow.Author.Needs.{needs}
 use borrow.Author.Tests.{eq-eqb, ne-eqb, not-true, not-false}
-use Rattle.calls.specs.Many.{manyRefused}
+use Rattle.calls.specs.Many.{manyRefusedBy}
 use Rattle.refusals.proofs.many_refusal.Statement.{statement}
 use Rattle.refusals.proofs.many_refusal.Tie as tie
 
 returns : tie.Need-returns
-unfolding manyRefused
+unfolding manyRefusedBy
 returns c results units e = rw (ne-eqb (length results) (5 * length (c .before .before .before .before .before .before .args .subjects .now)) (λ z. c .if1 .taken (omega (arith, e, z))))
 
 returns-2 : tie.Need-returns-2
-unfolding manyRefused
+unfolding manyRefusedBy
 returns-2 c results units e = rw (ne-eqb (length results) (5 * length (c .before .before .before .before .before .before .before .args .subjects .now)) (λ z. c .if2 .taken (omega (arith, e, z))))
 
 returns-3 : tie.Need-returns-3
-unfolding manyRefused
+unfolding manyRefusedBy
 returns-3 c results units e =
     let at-words = c .before .before in
     let at-if2 = at-words .before in
@@ -30,7 +30,7 @@ returns-3 c results units e =
     )
 
 returns-4 : tie.Need-returns-4
-unfolding manyRefused
+unfolding manyRefusedBy
 returns-4 c results units e =
     let at-if3 = c .before .before in
     let at-words = at-if3 .before .before in
@@ -45,7 +45,7 @@ returns-4 c results units e =
     )
 
 returns-5 : tie.Need-returns-5
-unfolding manyRefused
+unfolding manyRefusedBy
 returns-5 c results units e =
     let at-if3 = c .before .before in
     let at-words = at-if3 .before .before in

@@ -1,16 +1,16 @@
 -- `marshtrundle::refusals::refusal` meets its contract: the words, then the start. Assumes nothing.
 use borrow.Author.Needs.{needs}
 use borrow.Author.Tests.{eq-eqb, ne-eqb, not-true, not-false}
-use Rattle.calls.specs.Refused.{refusedWith}
+use Rattle.calls.specs.Refused.{refusedWithBy}
 use Rattle.refusals.proofs.refusal.Statement.{statement}
 use Rattle.refusals.proofs.refusal.Tie as tie
 
 returns : tie.Need-returns
-unfolding refusedWith
+unfolding refusedWithBy
 returns c = rw (← c .before .before .words-refusal .ensures, ne-eqb _ 0 (c .if1 .taken))
 
 returns-2 : tie.Need-returns-2
-unfolding refusedWith
+unfolding refusedWithBy
 returns-2 c =
     let at-if1 = c .before .before in
     rw (
@@ -21,7 +21,7 @@ returns-2 c =
     )
 
 returns-3 : tie.Need-returns-3
-unfolding refusedWith
+unfolding refusedWithBy
 returns-3 c =
     let at-if1 = c .before .before in
     rw (

@@ -1,17 +1,17 @@
 -- `marshtrundle::refusals::sizes_fit` meets its contract, test by test. Assumes nothing.
 use borrow.Author.Needs.{needs}
 use borrow.Author.Tests.{eq-eqb, ne-eqb, not-true, not-false}
-use Rattle.calls.specs.Refused.{sizesFit}
+use Rattle.calls.specs.Refused.{sizesFitBy}
 use Rattle.refusals.proofs.sizes_fit.Statement.{statement}
 use Rattle.refusals.proofs.sizes_fit.Tie as tie
 
 returns : tie.Need-returns
-unfolding sizesFit
+unfolding sizesFitBy
 returns c =
     rw (← c .before .table-length-fits .ensures, not-true (c .before .table-length-fits .result) (c .if1 .taken))
 
 returns-2 : tie.Need-returns-2
-unfolding sizesFit
+unfolding sizesFitBy
 returns-2 c =
     rw (
       ← c .before .before .before .table-length-fits .ensures,
@@ -21,7 +21,7 @@ returns-2 c =
     )
 
 returns-3 : tie.Need-returns-3
-unfolding sizesFit
+unfolding sizesFitBy
 returns-3 c =
     let at-if2 = c .before in
     let at-store-length-fits = at-if2 .before in
@@ -36,7 +36,7 @@ returns-3 c =
     )
 
 returns-4 : tie.Need-returns-4
-unfolding sizesFit
+unfolding sizesFitBy
 returns-4 c =
     let at-if2 = c .before in
     let at-store-length-fits = at-if2 .before in

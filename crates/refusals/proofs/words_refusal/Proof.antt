@@ -5,16 +5,16 @@ use borrow.Author.Tests.{eq-eqb, ne-eqb, not-true, not-false}
 use Rattle.checks.specs.Kinds.{ours}
 use Rattle.checks.specs.declared.Checked.{Checked}
 use Rattle.checks.proofs.Promises.{tablePasses}
-use Rattle.calls.specs.Refused.{wordsRefused}
+use Rattle.calls.specs.Refused.{wordsRefusedBy}
 use Rattle.refusals.proofs.words_refusal.Statement.{statement}
 use Rattle.refusals.proofs.words_refusal.Tie as tie
 
 returns : tie.Need-returns
-unfolding wordsRefused
+unfolding wordsRefusedBy
 returns c = rw (← c .before .sizes-fit .ensures, not-true (c .before .sizes-fit .result) (c .if1 .taken))
 
 returns-2 : tie.Need-returns-2
-unfolding wordsRefused
+unfolding wordsRefusedBy
 returns-2 c =
     let at-if1 = c .before .before in
     rw (
@@ -25,7 +25,7 @@ returns-2 c =
     )
 
 returns-3 : tie.Need-returns-3
-unfolding wordsRefused
+unfolding wordsRefusedBy
 returns-3 c =
     let at-check-table = c .before .before in
     let at-if2 = at-check-table .before in
@@ -40,7 +40,7 @@ returns-3 c =
     )
 
 returns-4 : tie.Need-returns-4
-unfolding wordsRefused
+unfolding wordsRefusedBy
 returns-4 c =
     let at-check-store = c .before .before in
     let at-if3 = at-check-store .before in
@@ -65,7 +65,7 @@ obeyed-requires c κs =
     tablePasses ours _ .0 (ap (λ (r : Checked). r .answer) (sym (at-check-table .check-table .ensures)) ∙ at-if3 .if3 .left) .0 .most
 
 returns-5 : tie.Need-returns-5
-unfolding wordsRefused
+unfolding wordsRefusedBy
 returns-5 c =
     let at-if4 = c .before in
     let at-check-store = at-if4 .before .before in

@@ -5,6 +5,7 @@ use mathlib.Core.Path.{_≡_, refl, ap, sym, _∙_}
 use Prim.Native.Nat.{ℕ}
 use mathlib.Core.Option.{Option}
 use mathlib.Core.List.{List}
+use Rattle.checks.specs.Kinds.{ours}
 use Rattle.checks.specs.declared.Checked.{Checked}
 use Rattle.meaning.specs.Store.{Input, Accepted}
 use Rattle.calls.specs.Refused.{lentIf, refusedWith}
@@ -20,7 +21,7 @@ use Rattle.running.proofs.run_lent.Lts as lts
 
 -- what is not refused is accepted
 passed : (g : Option (List ℕ)) (i : Input) (r : Checked) → r ≡ refusedWith g (i .table) (i .store) (i .bindings) (i .mark) (i .start) (i .subject) → r .answer ≡ 0 → Accepted i
-passed g i r e z = accepted-with g i (eq-eqb _ 0 (ap (λ (c : Checked). c .answer) (sym e) ∙ z)) .1
+passed g i r e z = accepted-with ours g i (eq-eqb _ 0 (ap (λ (c : Checked). c .answer) (sym e) ∙ z)) .1
 
 returns : tie.Need-returns
 returns c =
