@@ -144,7 +144,7 @@ static void faults(void)
     mt_call(&b, mt_begin_rec(&b));
     hold(mt_finish(&b) == 0 && b.fault == MT_BUILD_CALL, "a recursion that was not ended");
     b = mt_begin(words, 8 * 64);
-    hold(mt_var(&b, 32) == MT_NO_ITEM && b.fault == MT_BUILD_ARGUMENT, "variable 32");
+    hold(mt_var(&b, 64) == MT_NO_ITEM && b.fault == MT_BUILD_ARGUMENT, "variable 64");
     b = mt_begin(words, 8 * 64);
     hold(mt_path(&b, 0, mt_id(&b)) == MT_NO_ITEM && b.fault == MT_BUILD_ARGUMENT, "position 0");
     b = mt_begin(NULL, 80);

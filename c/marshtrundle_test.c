@@ -38,7 +38,7 @@ static int is(const uint32_t *numbers, uint32_t a, uint32_t b, uint32_t c, uint3
 
 /* Swaps a pair: the first job of document 01. */
 static const uint32_t table[64] = {
-    MT_ENTRY(MT_SCOPE, 1), 3, 1, 0, 0, 0, 0, 0, /* 0 */
+    MT_ENTRY(MT_SCOPE, 1), 3, 0, 1, 0, 0, 0, 0, /* 0 */
     MT_ENTRY(MT_SEQ, 2),   0, 2, 3, 0, 0, 0, 0, /* 1 */
     MT_ENTRY(MT_MATCH, 1), 0, 4, 0, 0, 0, 0, 0, /* 2 */
     MT_ENTRY(MT_BUILD, 1), 0, 5, 0, 0, 0, 0, 0, /* 3 */
@@ -57,12 +57,13 @@ static const uint32_t after[32] = {1, 0, 0, 0, 0, 0, 0, 0, 2, 0, 0, 0, 0, 0, 0, 
 static uint32_t store[32];
 static uint32_t bindings[MT_VARIABLES];
 static uint32_t numbers[5];
+static uint64_t asked[3];
 
 static void fresh(void)
 {
     size_t i;
-    for (i = 0; i < 32; i++) {
-        store[i] = given[i];
+    for (i = 0; i < 64; i++) {
+        store[i % 32] = given[i % 32];
         bindings[i] = 0;
         numbers[i % 5] = 77;
     }
@@ -70,33 +71,33 @@ static void fresh(void)
 
 static void the_job(void)
 {
-    static const uint32_t zeros[32];
+    static const uint32_t zeros[64];
     static const uint32_t fails[8] = {16 * MT_FAIL};
     fresh();
-    mt_run(table, 64, store, 32, bindings, 32, 3, 0, 2, 10, numbers);
+    mt_run(table, 64, store, 32, bindings, 64, 3, 0, 2, 10, numbers);
     hold(is(numbers, MT_DONE, 0, 3, 4, 10), "S1: the numbers");
     hold(same(store, after, 32), "S1: the store");
-    hold(same(bindings, zeros, 32), "S1: the bindings");
+    hold(same(bindings, zeros, 64), "S1: the bindings");
     fresh();
-    mt_run(table, 64, store, 32, bindings, 32, 3, 0, 2, 9, numbers);
+    mt_run(table, 64, store, 32, bindings, 64, 3, 0, 2, 9, numbers);
     hold(is(numbers, MT_OUT_OF_UNITS, 0, 2, 3, 9), "S2: the numbers");
     hold(same(store, given, 24) && same(store + 24, zeros, 8), "S2: the store");
     fresh();
-    mt_run(table, 64, store, 24, bindings, 32, 3, 0, 2, 10, numbers);
+    mt_run(table, 64, store, 24, bindings, 64, 3, 0, 2, 10, numbers);
     hold(is(numbers, MT_OUT_OF_ROOM, 0, 2, 3, 10), "S3: the numbers");
     hold(same(store, given, 32), "S3: the store");
     /* S12, but of variable 1: the BUILD alone, which no MATCH went before. Its first variable, from the left, is the place. */
     fresh();
     bindings[0] = 1;
-    mt_run(table, 64, store, 32, bindings, 32, 3, 3, 2, 10, numbers);
+    mt_run(table, 64, store, 32, bindings, 64, 3, 3, 2, 10, numbers);
     hold(is(numbers, MT_UNBOUND, 1, 2, 3, 3), "12: the numbers");
     hold(same(store, given, 24) && same(store + 24, zeros, 8), "12: the store");
-    hold(bindings[0] == 1 && same(bindings + 1, zeros, 31), "12: the bindings");
+    hold(bindings[0] == 1 && same(bindings + 1, zeros, 63), "12: the bindings");
     /* The constant 1 is no pair: the match gives up at its pattern, entry 4. FAIL alone has no match. */
     fresh();
-    mt_run(table, 64, store, 32, bindings, 32, 3, 0, 0, 10, numbers);
+    mt_run(table, 64, store, 32, bindings, 64, 3, 0, 0, 10, numbers);
     hold(is(numbers, MT_FAILED, 4, 0, 3, 4), "1: the place is the pattern that differs");
-    mt_run(fails, 8, store, 32, bindings, 32, 3, 0, 0, 10, numbers);
+    mt_run(fails, 8, store, 32, bindings, 64, 3, 0, 0, 10, numbers);
     hold(is(numbers, MT_FAILED, 4096, 0, 3, 1), "1: 4096 where no match failed");
     mt_check_table(table, 64, numbers);
     hold(numbers[0] == MT_DONE && numbers[1] == 0, "the table check");
@@ -104,19 +105,49 @@ static void the_job(void)
     hold(numbers[0] == MT_DONE && numbers[1] == 0, "the store check");
     mt_check_store(given, 32, 4, numbers);
     hold(numbers[0] == MT_BAD_NODE && numbers[1] == 3, "the store check of the room");
-    mt_free_variables(table, 64, 0, numbers);
-    hold(numbers[0] == MT_DONE && numbers[1] == 0 && numbers[MT_MASK] == 0, "free variables of the scope");
-    mt_free_variables(table, 64, 1, numbers);
-    hold(numbers[0] == MT_DONE && numbers[1] == 0 && numbers[MT_MASK] == 3, "free variables of the sequence");
-    mt_free_variables(table, 64, 4, numbers);
-    hold(numbers[0] == MT_BAD_START && numbers[MT_MASK] == 0, "free variables of a pattern");
+    mt_free_variables(table, 64, 0, asked);
+    hold(asked[0] == MT_DONE && asked[1] == 0 && asked[MT_MASK] == 0, "free variables of the scope");
+    mt_free_variables(table, 64, 1, asked);
+    hold(asked[0] == MT_DONE && asked[1] == 0 && asked[MT_MASK] == 3, "free variables of the sequence");
+    mt_free_variables(table, 64, 4, asked);
+    hold(asked[0] == MT_BAD_START && asked[1] == 0 && asked[MT_MASK] == 0, "free variables of a pattern");
+}
+
+/* Variables and masks of both halves: a scope of variable 32 hides it and puts it back; one of variable 0 leaves it. */
+static void both_halves(void)
+{
+    static const uint32_t scope_32[24] = {MT_ENTRY(MT_SCOPE, 1), 0,  1, 1, 0, 0, 0, 0,
+                                          MT_ENTRY(MT_MATCH, 1), 0,  2, 0, 0, 0, 0, 0,
+                                          MT_ENTRY(MT_PVAR, 0),  32, 0, 0, 0, 0, 0, 0};
+    static const uint32_t scope_0[24] = {MT_ENTRY(MT_SCOPE, 1), 1,  0, 1, 0, 0, 0, 0,
+                                         MT_ENTRY(MT_MATCH, 1), 0,  2, 0, 0, 0, 0, 0,
+                                         MT_ENTRY(MT_PVAR, 0),  32, 0, 0, 0, 0, 0, 0};
+    static const uint32_t last[16] = {MT_ENTRY(MT_MATCH, 1), 0, 1, 0, 0, 0, 0, 0, MT_ENTRY(MT_PVAR, 0), 63, 0, 0, 0, 0, 0, 0};
+    fresh();
+    bindings[32] = 1;
+    mt_run(scope_32, 24, store, 32, bindings, 64, 3, 0, 2, 10, numbers);
+    hold(is(numbers, MT_DONE, 0, 2, 3, 3) && bindings[32] == 1 && bindings[0] == 0, "a scope of variable 32");
+    mt_run(scope_0, 24, store, 32, bindings, 64, 3, 0, 2, 10, numbers);
+    hold(numbers[0] == MT_FAILED && numbers[MT_PLACE] == 2 && bindings[32] == 1, "a scope of variable 0");
+    mt_run(scope_0 + 8, 16, store, 32, bindings, 64, 3, 0, 2, 10, numbers);
+    hold(numbers[0] == MT_BAD_OPERAND, "an operand outside");
+    fresh();
+    mt_run(last, 16, store, 32, bindings, 64, 3, 0, 2, 10, numbers);
+    hold(is(numbers, MT_DONE, 0, 2, 3, 2) && bindings[63] == 3 && bindings[31] == 0, "variable 63");
+    mt_free_variables(scope_32, 24, 1, asked);
+    hold(asked[0] == MT_DONE && asked[MT_MASK] == (uint64_t)1 << 32, "variable 32 is free");
+    mt_free_variables(scope_32, 24, 0, asked);
+    hold(asked[0] == MT_DONE && asked[MT_MASK] == 0, "and not in its scope");
+    mt_free_variables(last, 16, 0, asked);
+    hold(asked[0] == MT_DONE && asked[MT_MASK] == (uint64_t)1 << 63, "variable 63 is free");
+    fresh();
 }
 
 static void refused(uint32_t answer, uint32_t place, uint32_t subject, uint32_t mark, const char *text)
 {
-    static const uint32_t zeros[32];
+    static const uint32_t zeros[64];
     hold(is(numbers, answer, place, subject, mark, 0), text);
-    hold(same(store, given, 32) && same(bindings, zeros, 32), "a refusal wrote something");
+    hold(same(store, given, 32) && same(bindings, zeros, 64), "a refusal wrote something");
     fresh();
 }
 
@@ -143,24 +174,26 @@ static void refusals(void)
         for (j = 0; j < 8; j++)
             words[8 + j] = bad[k].entry[j];
         words[16] = MT_ENTRY(MT_PVAR, 0);
-        mt_run(words, 32, store, 32, bindings, 32, 3, 0, 2, 10, numbers);
+        mt_run(words, 32, store, 32, bindings, 64, 3, 0, 2, 10, numbers);
         refused(bad[k].answer, 1, 2, 3, bad[k].text);
     }
-    mt_run(table, 63, store, 32, bindings, 32, 3, 0, 2, 10, numbers);
+    mt_run(table, 63, store, 32, bindings, 64, 3, 0, 2, 10, numbers);
     refused(MT_BAD_SIZES, 0, 2, 3, "a table of 63 words");
-    mt_run(table, 64, store, 31, bindings, 32, 3, 0, 2, 10, numbers);
+    mt_run(table, 64, store, 31, bindings, 64, 3, 0, 2, 10, numbers);
     refused(MT_BAD_SIZES, 0, 2, 3, "a store of 31 words");
-    mt_run(table, 64, store, 32, bindings, 31, 3, 0, 2, 10, numbers);
-    refused(MT_BAD_SIZES, 0, 2, 3, "bindings of 31 words");
-    mt_run(table, 64, store, 32, bindings, 32, 5, 0, 2, 10, numbers);
+    mt_run(table, 64, store, 32, bindings, 63, 3, 0, 2, 10, numbers);
+    refused(MT_BAD_SIZES, 0, 2, 3, "bindings of 63 words");
+    mt_run(table, 64, store, 32, bindings, 32, 3, 0, 2, 10, numbers);
+    refused(MT_BAD_SIZES, 0, 2, 3, "bindings of 32 words");
+    mt_run(table, 64, store, 32, bindings, 64, 5, 0, 2, 10, numbers);
     refused(MT_BAD_SIZES, 0, 2, 5, "a mark above the store's nodes");
-    mt_run(table, 64, store, 32, bindings, 32, 4, 0, 2, 10, numbers);
+    mt_run(table, 64, store, 32, bindings, 64, 4, 0, 2, 10, numbers);
     refused(MT_BAD_NODE, 3, 2, 4, "a bad node");
-    mt_run(table, 64, store, 32, bindings, 32, 3, 8, 2, 10, numbers);
+    mt_run(table, 64, store, 32, bindings, 64, 3, 8, 2, 10, numbers);
     refused(MT_BAD_START, 0, 2, 3, "a start outside the table");
-    mt_run(table, 64, store, 32, bindings, 32, 3, 6, 2, 10, numbers);
+    mt_run(table, 64, store, 32, bindings, 64, 3, 6, 2, 10, numbers);
     refused(MT_BAD_START, 0, 2, 3, "a start that is a pattern");
-    mt_run(table, 64, store, 32, bindings, 32, 3, 0, 3, 10, numbers);
+    mt_run(table, 64, store, 32, bindings, 64, 3, 0, 3, 10, numbers);
     refused(MT_BAD_START, 0, 3, 3, "a subject at the mark");
 }
 
@@ -169,41 +202,41 @@ static const uint32_t signature[6] = {MT_UNDECLARED, 0, 0, MT_UNDECLARED, MT_UND
 
 static void signed_runs(void)
 {
-    static const uint32_t zeros[32];
+    static const uint32_t zeros[64];
     static const uint32_t longer[MT_CONSTRUCTORS + 1];
     uint32_t other[6];
     size_t i;
     fresh();
-    mt_run_signed(table, 64, store, 32, bindings, 32, 3, 0, 2, 10, signature, 6, numbers);
+    mt_run_signed(table, 64, store, 32, bindings, 64, 3, 0, 2, 10, signature, 6, numbers);
     hold(is(numbers, MT_DONE, 0, 3, 4, 10), "signed: the numbers");
-    hold(same(store, after, 32) && same(bindings, zeros, 32), "signed: the store and the bindings");
+    hold(same(store, after, 32) && same(bindings, zeros, 64), "signed: the store and the bindings");
     fresh();
-    mt_run_signed(table, 64, store, 32, bindings, 32, 3, 0, 2, 9, signature, 6, numbers);
+    mt_run_signed(table, 64, store, 32, bindings, 64, 3, 0, 2, 9, signature, 6, numbers);
     hold(is(numbers, MT_OUT_OF_UNITS, 0, 2, 3, 9), "signed: 9 units");
     fresh();
     for (i = 0; i < 6; i++)
         other[i] = signature[i];
     other[5] = 3;
-    mt_run_signed(table, 64, store, 32, bindings, 32, 3, 0, 2, 10, other, 6, numbers);
+    mt_run_signed(table, 64, store, 32, bindings, 64, 3, 0, 2, 10, other, 6, numbers);
     refused(MT_DISOBEYING_ENTRY, 4, 2, 3, "signed: the pair has three children");
-    mt_run_signed(table, 64, store, 32, bindings, 32, 3, 0, 2, 10, signature, 5, numbers);
+    mt_run_signed(table, 64, store, 32, bindings, 64, 3, 0, 2, 10, signature, 5, numbers);
     refused(MT_DISOBEYING_ENTRY, 4, 2, 3, "signed: the pair is beyond the list");
-    mt_run_signed(table, 64, store, 32, bindings, 32, 3, 0, 2, 10, NULL, 0, numbers);
+    mt_run_signed(table, 64, store, 32, bindings, 64, 3, 0, 2, 10, NULL, 0, numbers);
     refused(MT_DISOBEYING_ENTRY, 4, 2, 3, "signed: an empty signature");
     other[5] = 2;
     other[2] = MT_UNDECLARED;
-    mt_run_signed(table, 64, store, 32, bindings, 32, 3, 0, 2, 10, other, 6, numbers);
+    mt_run_signed(table, 64, store, 32, bindings, 64, 3, 0, 2, 10, other, 6, numbers);
     refused(MT_DISOBEYING_NODE, 1, 2, 3, "signed: node 1 is not declared");
-    mt_run_signed(table, 64, store, 32, bindings, 32, 4, 0, 2, 10, other, 6, numbers);
+    mt_run_signed(table, 64, store, 32, bindings, 64, 4, 0, 2, 10, other, 6, numbers);
     refused(MT_BAD_NODE, 3, 2, 4, "signed: 4 before 11");
-    mt_run_signed(table, 64, store, 32, bindings, 32, 3, 6, 2, 10, other, 6, numbers);
+    mt_run_signed(table, 64, store, 32, bindings, 64, 3, 6, 2, 10, other, 6, numbers);
     refused(MT_DISOBEYING_NODE, 1, 2, 3, "signed: 11 before 5");
-    mt_run_signed(table, 64, store, 32, bindings, 32, 3, 6, 2, 10, signature, 6, numbers);
+    mt_run_signed(table, 64, store, 32, bindings, 64, 3, 6, 2, 10, signature, 6, numbers);
     refused(MT_BAD_START, 0, 2, 3, "signed: a start that is a pattern");
     other[0] = 8;
-    mt_run_signed(table, 64, store, 32, bindings, 32, 3, 0, 2, 10, other, 6, numbers);
+    mt_run_signed(table, 64, store, 32, bindings, 64, 3, 0, 2, 10, other, 6, numbers);
     refused(MT_BAD_SIZES, 0, 2, 3, "signed: a word above 7");
-    mt_run_signed(table, 64, store, 32, bindings, 32, 3, 0, 2, 10, longer, MT_CONSTRUCTORS + 1, numbers);
+    mt_run_signed(table, 64, store, 32, bindings, 64, 3, 0, 2, 10, longer, MT_CONSTRUCTORS + 1, numbers);
     refused(MT_BAD_SIZES, 0, 2, 3, "signed: too long a list");
     mt_run_signed(NULL, 0, NULL, 0, NULL, 0, 0, 0, 0, 0, NULL, 0, numbers);
     hold(is(numbers, MT_BAD_SIZES, 0, 0, 0, 0), "signed: null everywhere");
@@ -225,64 +258,64 @@ static void fresh_list(void)
 /* A call that was refused, and wrote nothing but its two numbers. */
 static void many_refused(uint32_t answer, uint32_t place, const char *text)
 {
-    static const uint32_t zeros[32];
+    static const uint32_t zeros[64];
     size_t i;
     hold(numbers[MT_ANSWER] == answer && numbers[MT_PLACE] == place && numbers[2] == 77, text);
     for (i = 0; i < 20; i++)
         hold(results[i] == OLD, text);
-    hold(same(store, given, 32) && same(bindings, zeros, 32), text);
+    hold(same(store, given, 32) && same(bindings, zeros, 64), text);
 }
 
 static void many_subjects(void)
 {
-    static const uint32_t zeros[32];
+    static const uint32_t zeros[64];
     static const uint32_t subjects[4] = {0, 2, 1, 2};
     static const uint32_t beyond[2] = {2, 3};
     static const uint32_t bad[6] = {8};
     /* 1 and 2 fail; the pair is swapped while there is room for one node. */
     fresh_list();
-    mt_run_many(table, 64, store, 32, bindings, 32, 3, 0, subjects, 4, 10, results, 20, numbers);
+    mt_run_many(table, 64, store, 32, bindings, 64, 3, 0, subjects, 4, 10, results, 20, numbers);
     hold(numbers[MT_ANSWER] == MT_DONE && numbers[MT_PLACE] == 0 && numbers[2] == 77, "many: the two numbers");
     hold(is(results, MT_FAILED, 4, 0, 3, 4), "many: the first");
     hold(is(results + 5, MT_DONE, 0, 3, 4, 10), "many: the second");
     hold(is(results + 10, MT_FAILED, 4, 1, 4, 4), "many: the third");
     hold(is(results + 15, MT_OUT_OF_ROOM, 0, 2, 4, 10), "many: the fourth");
-    hold(same(store, after, 32) && same(bindings, zeros, 32), "many: the store and the bindings");
+    hold(same(store, after, 32) && same(bindings, zeros, 64), "many: the store and the bindings");
     fresh_list();
-    mt_run_many(table, 64, store, 32, bindings, 32, 3, 0, subjects, 2, 9, results, 10, numbers);
+    mt_run_many(table, 64, store, 32, bindings, 64, 3, 0, subjects, 2, 9, results, 10, numbers);
     hold(numbers[MT_ANSWER] == MT_DONE && is(results, MT_FAILED, 4, 0, 3, 4), "many: 9 units, the first");
     hold(is(results + 5, MT_OUT_OF_UNITS, 0, 2, 3, 9) && results[10] == OLD, "many: 9 units, the second");
     hold(same(store, given, 24) && same(store + 24, zeros, 8), "many: 9 units, the store");
     fresh_list();
-    mt_run_many_signed(table, 64, store, 32, bindings, 32, 3, 0, subjects + 1, 2, 10, results, 10, signature, 6, numbers);
+    mt_run_many_signed(table, 64, store, 32, bindings, 64, 3, 0, subjects + 1, 2, 10, results, 10, signature, 6, numbers);
     hold(numbers[MT_ANSWER] == MT_DONE && is(results, MT_DONE, 0, 3, 4, 10), "many signed: the first");
     hold(is(results + 5, MT_FAILED, 4, 1, 4, 4) && same(store, after, 32), "many signed: the second, and the store");
     /* With no subjects nothing is written, and what is wrong is refused all the same. */
     fresh_list();
-    mt_run_many(table, 64, store, 32, bindings, 32, 3, 0, NULL, 0, 10, NULL, 0, numbers);
+    mt_run_many(table, 64, store, 32, bindings, 64, 3, 0, NULL, 0, 10, NULL, 0, numbers);
     many_refused(MT_DONE, 0, "many: no subjects");
-    mt_run_many(table, 64, store, 32, bindings, 32, 3, 6, NULL, 0, 10, NULL, 0, numbers);
+    mt_run_many(table, 64, store, 32, bindings, 64, 3, 6, NULL, 0, 10, NULL, 0, numbers);
     many_refused(MT_BAD_START, 0, "many: no subjects and a pattern");
-    mt_run_many(table, 64, store, 32, bindings, 32, 3, 0, NULL, 0, 10, results, 5, numbers);
+    mt_run_many(table, 64, store, 32, bindings, 64, 3, 0, NULL, 0, 10, results, 5, numbers);
     many_refused(MT_BAD_SIZES, 0, "many: no subjects and results");
-    mt_run_many_signed(table, 64, store, 32, bindings, 32, 3, 0, NULL, 0, 10, NULL, 0, signature, 6, numbers);
+    mt_run_many_signed(table, 64, store, 32, bindings, 64, 3, 0, NULL, 0, 10, NULL, 0, signature, 6, numbers);
     many_refused(MT_DONE, 0, "many signed: no subjects");
-    mt_run_many_signed(table, 64, store, 32, bindings, 32, 3, 0, NULL, 0, 10, NULL, 0, NULL, 0, numbers);
+    mt_run_many_signed(table, 64, store, 32, bindings, 64, 3, 0, NULL, 0, 10, NULL, 0, NULL, 0, numbers);
     many_refused(MT_DISOBEYING_ENTRY, 4, "many signed: no subjects and an empty signature");
     /* The refusals. */
-    mt_run_many(table, 64, store, 32, bindings, 32, 3, 0, subjects, 2, 10, results, 9, numbers);
+    mt_run_many(table, 64, store, 32, bindings, 64, 3, 0, subjects, 2, 10, results, 9, numbers);
     many_refused(MT_BAD_SIZES, 0, "many: a short result list");
-    mt_run_many(table, 64, store, 32, bindings, 32, 3, 0, subjects, 2, 10, results, 15, numbers);
+    mt_run_many(table, 64, store, 32, bindings, 64, 3, 0, subjects, 2, 10, results, 15, numbers);
     many_refused(MT_BAD_SIZES, 0, "many: a long result list");
-    mt_run_many(table, 64, store, 32, bindings, 32, 3, 0, beyond, 2, 10, results, 10, numbers);
+    mt_run_many(table, 64, store, 32, bindings, 64, 3, 0, beyond, 2, 10, results, 10, numbers);
     many_refused(MT_BAD_START, 0, "many: a subject at the first mark");
-    mt_run_many(table, 64, store, 32, bindings, 32, 4, 0, beyond, 2, 10, results, 10, numbers);
+    mt_run_many(table, 64, store, 32, bindings, 64, 4, 0, beyond, 2, 10, results, 10, numbers);
     many_refused(MT_BAD_NODE, 3, "many: a bad node");
-    mt_run_many(table, 63, store, 32, bindings, 32, 4, 0, beyond, 2, 10, results, 10, numbers);
+    mt_run_many(table, 63, store, 32, bindings, 64, 4, 0, beyond, 2, 10, results, 10, numbers);
     many_refused(MT_BAD_SIZES, 0, "many: a table of 63 words");
-    mt_run_many_signed(table, 64, store, 32, bindings, 32, 3, 0, beyond, 2, 10, results, 10, signature, 5, numbers);
+    mt_run_many_signed(table, 64, store, 32, bindings, 64, 3, 0, beyond, 2, 10, results, 10, signature, 5, numbers);
     many_refused(MT_DISOBEYING_ENTRY, 4, "many signed: 10 before 5");
-    mt_run_many_signed(table, 64, store, 32, bindings, 32, 3, 0, beyond, 2, 10, results, 10, bad, 6, numbers);
+    mt_run_many_signed(table, 64, store, 32, bindings, 64, 3, 0, beyond, 2, 10, results, 10, bad, 6, numbers);
     many_refused(MT_BAD_SIZES, 0, "many signed: a word above 7");
     mt_run_many(NULL, 0, NULL, 0, NULL, 0, 0, 0, NULL, 0, 0, NULL, 0, numbers);
     many_refused(MT_BAD_SIZES, 0, "many: null everywhere");
@@ -306,39 +339,39 @@ static void soiled(uint32_t *work)
 
 static void collection(void)
 {
-    static const uint32_t zeros[32];
+    static const uint32_t zeros[64];
     static const uint32_t dirty[5] = {77, 77, 77, 77, 77};
     uint32_t work[5];
     fresh();
     soiled(work);
-    mt_collect(store, 32, bindings, 32, work, 5, 4, 3, numbers);
+    mt_collect(store, 32, bindings, 64, work, 5, 4, 3, numbers);
     hold(numbers[0] == MT_DONE && numbers[1] == 0 && numbers[MT_SUBJECT] == 2 && numbers[MT_MARK] == 3, "collected");
     hold(same(store, collected, 32), "collected: the store");
-    hold(bindings[7] == 2 && same(bindings, zeros, 7) && same(bindings + 8, zeros, 24), "collected: the bindings");
+    hold(bindings[7] == 2 && same(bindings, zeros, 7) && same(bindings + 8, zeros, 56), "collected: the bindings");
     hold(same(work, zeros, 5), "collected: the work list");
     soiled(work);
     bindings[7] = 4;
-    mt_collect(store, 32, bindings, 32, work, 4, 4, 0, numbers);
+    mt_collect(store, 32, bindings, 64, work, 4, 4, 0, numbers);
     hold(numbers[0] == MT_DONE && numbers[MT_SUBJECT] == 0 && numbers[MT_MARK] == 3 && bindings[7] == 3,
          "collected from a binding");
     hold(same(store, collected, 32) && same(work, zeros, 4) && work[4] == 77, "collected from a binding: the words");
     soiled(work);
-    mt_collect(store, 32, bindings, 32, work, 3, 4, 3, numbers);
+    mt_collect(store, 32, bindings, 64, work, 3, 4, 3, numbers);
     hold(numbers[0] == MT_BAD_SIZES && numbers[MT_SUBJECT] == 3 && numbers[MT_MARK] == 4, "a short work list");
-    mt_collect(store, 32, bindings, 31, work, 5, 4, 3, numbers);
-    hold(numbers[0] == MT_BAD_SIZES, "collected: bindings of 31 words");
-    mt_collect(store, 32, bindings, 32, work, 5, 5, 3, numbers);
+    mt_collect(store, 32, bindings, 63, work, 5, 4, 3, numbers);
+    hold(numbers[0] == MT_BAD_SIZES, "collected: bindings of 63 words");
+    mt_collect(store, 32, bindings, 64, work, 5, 5, 3, numbers);
     hold(numbers[0] == MT_BAD_SIZES && numbers[MT_MARK] == 5, "collected: a mark above the store's nodes");
     mt_collect(NULL, 0, NULL, 0, NULL, 0, 0, 0, numbers);
     hold(numbers[0] == MT_BAD_SIZES, "collected: null everywhere");
-    mt_collect(NULL, 0, bindings, 32, NULL, 0, 0, 0, numbers);
+    mt_collect(NULL, 0, bindings, 64, NULL, 0, 0, 0, numbers);
     hold(numbers[0] == MT_BAD_START, "collected: no nodes");
-    mt_collect(store, 32, bindings, 32, work, 5, 4, 4, numbers);
+    mt_collect(store, 32, bindings, 64, work, 5, 4, 4, numbers);
     hold(numbers[0] == MT_BAD_START && numbers[MT_SUBJECT] == 4, "collected: a subject at the mark");
-    mt_collect(store, 32, bindings, 32, work, 5, 1, 0, numbers);
+    mt_collect(store, 32, bindings, 64, work, 5, 1, 0, numbers);
     hold(numbers[0] == MT_BAD_START, "collected: a binding above the mark");
     store[9] = 7;
-    mt_collect(store, 32, bindings, 32, work, 5, 4, 3, numbers);
+    mt_collect(store, 32, bindings, 64, work, 5, 4, 3, numbers);
     hold(numbers[0] == MT_BAD_NODE && numbers[1] == 1, "collected: a bad node");
     store[9] = 0;
     hold(same(store, after, 32) && same(work, dirty, 5) && bindings[7] == 2, "a refused collection wrote something");
@@ -352,15 +385,15 @@ static void empty_slices(void)
     refused(MT_BAD_SIZES, 0, 0, 0, "null everywhere");
     mt_run(NULL, 0, NULL, 0, NULL, 0, 1, 2, 3, 4, numbers);
     refused(MT_BAD_SIZES, 0, 3, 1, "null everywhere, and numbers");
-    mt_run(NULL, 0, store, 32, bindings, 32, 3, 0, 2, 10, numbers);
+    mt_run(NULL, 0, store, 32, bindings, 64, 3, 0, 2, 10, numbers);
     refused(MT_BAD_SIZES, 0, 2, 3, "a null table");
-    mt_run(table, 64, NULL, 0, bindings, 32, 3, 0, 2, 10, numbers);
+    mt_run(table, 64, NULL, 0, bindings, 64, 3, 0, 2, 10, numbers);
     refused(MT_BAD_SIZES, 0, 2, 3, "a null store and a mark");
-    mt_run(table, 64, NULL, 0, bindings, 32, 0, 0, 0, 10, numbers);
+    mt_run(table, 64, NULL, 0, bindings, 64, 0, 0, 0, 10, numbers);
     refused(MT_BAD_START, 0, 0, 0, "a null store without nodes");
     mt_run(table, 64, store, 32, NULL, 0, 3, 0, 2, 10, numbers);
     refused(MT_BAD_SIZES, 0, 2, 3, "null bindings");
-    mt_run(NULL, 64, NULL, 32, NULL, 32, 0, 0, 0, 10, numbers);
+    mt_run(NULL, 64, NULL, 32, NULL, 64, 0, 0, 0, 10, numbers);
     refused(MT_BAD_SIZES, 0, 0, 0, "null is empty whatever its length");
     mt_check_table(NULL, 0, numbers);
     hold(numbers[0] == MT_BAD_SIZES && numbers[1] == 0, "the check of a null table");
@@ -368,16 +401,17 @@ static void empty_slices(void)
     hold(numbers[0] == MT_DONE && numbers[1] == 0, "the check of a null store");
     mt_check_store(NULL, 0, 1, numbers);
     hold(numbers[0] == MT_BAD_SIZES && numbers[1] == 0, "the check of a null store and a mark");
-    mt_free_variables(NULL, 0, 0, numbers);
-    hold(numbers[0] == MT_BAD_SIZES && numbers[1] == 0 && numbers[2] == 0, "free variables of a null table");
+    mt_free_variables(NULL, 0, 0, asked);
+    hold(asked[0] == MT_BAD_SIZES && asked[1] == 0 && asked[MT_MASK] == 0, "free variables of a null table");
     fresh();
-    mt_run(zeros, 8, store, 32, bindings, 32, 3, 0, 2, 0, numbers);
+    mt_run(zeros, 8, store, 32, bindings, 64, 3, 0, 2, 0, numbers);
     hold(is(numbers, MT_OUT_OF_UNITS, 0, 2, 3, 0), "no units");
 }
 
 int main(void)
 {
     the_job();
+    both_halves();
     refusals();
     signed_runs();
     many_subjects();

@@ -46,7 +46,7 @@
  * room for new nodes and may hold anything. A term is a node below the mark. Two terms are equal when constructors, counts
  * and children are, whatever their node numbers.
  *
- * THE BINDINGS. 32 words, one for each variable. 0 is unbound; any other word is a node number plus one.
+ * THE BINDINGS. 64 words, one for each variable. 0 is unbound; any other word is a node number plus one.
  *
  * THE TABLE. Eight words to an entry, 1 to 4,096 entries. An entry's words:
  *   word 0       16 * kind + number of operands; MT_ENTRY(kind, operands) gives it
@@ -73,9 +73,10 @@
  *   MT_BUILD          1                      makes a pattern's term; an unbound variable ends the run, MT_UNBOUND
  *   MT_SCOPE          1       mask           unbinds the variables of the mask, runs, puts them back
  *   MT_WHERE          1                      runs, restores the term, keeps the bindings
- *   MT_PVAR           0       0 to 31        pattern: a variable
+ *   MT_PVAR           0       0 to 63        pattern: a variable
  *   MT_PCON           0 to 6  constructor    pattern: a constructor over patterns
- * MATCH, BUILD and PCON take patterns; all others take strategies. In a mask bit v stands for variable v.
+ * MATCH, BUILD and PCON take patterns; all others take strategies. In a mask bit v stands for variable v. A scope's mask has 64
+ * bits: word 1 is the lower half and word 2 the upper, and its operand is word 3.
  */
 #ifndef MARSHTRUNDLE_H
 #define MARSHTRUNDLE_H
@@ -91,7 +92,7 @@ extern "C" {
 #define MT_NODES 131072
 #define MT_ENTRIES 4096
 #define MT_NESTING 4096
-#define MT_VARIABLES 32
+#define MT_VARIABLES 64
 #define MT_STACK 2097152
 
 /* The most words of a signature, and the word of a constructor that is not declared. */
@@ -145,7 +146,7 @@ enum mt_answer {
                             not: the MT_PCON that differed, or the MT_PVAR that was bound to another term; 4,096 where no match
                             failed */
     MT_BAD_SIZES = 2,    /* the table is empty, over 32,768 words or no multiple of 8; the store is over 1,048,576 words or
-                            no multiple of 8; the bindings are not 32 words; the mark exceeds the store's nodes; the
+                            no multiple of 8; the bindings are not 64 words; the mark exceeds the store's nodes; the
                             result list is not five words for each subject; the signature is over 65,536 words or has
                             a word above 7 */
     MT_BAD_NODE = 4,     /* a node below the mark is malformed; the place is the lowest such node */
@@ -200,7 +201,7 @@ void marshtrundle_run_many_signed(const uint32_t *table, size_t table_words, uin
                                   uint32_t numbers[2]);
 void marshtrundle_collect(uint32_t *store, size_t store_words, uint32_t *bindings, size_t bindings_words,
                           uint32_t *work, size_t work_words, uint32_t mark, uint32_t subject, uint32_t numbers[4]);
-void marshtrundle_free_variables(const uint32_t *table, size_t table_words, uint32_t entry, uint32_t numbers[3]);
+void marshtrundle_free_variables(const uint32_t *table, size_t table_words, uint32_t entry, uint64_t numbers[3]);
 void marshtrundle_check_table(const uint32_t *table, size_t words, uint32_t numbers[2]);
 void marshtrundle_check_store(const uint32_t *store, size_t words, uint32_t mark, uint32_t numbers[2]);
 
@@ -292,11 +293,11 @@ static inline void mt_collect(uint32_t *store, size_t store_words, uint32_t *bin
 }
 
 /*
- * Asks which variables the strategy at `entry` leaves free. `numbers` gets answer, place and mask. The answers are 0, 2
+ * Asks which variables the strategy at `entry` leaves free. `numbers` gets answer, place and mask, each of 64 bits. The answers are 0, 2
  * (the table's length), 13 to 17 and 5 (`entry` is outside the table or a pattern).
  */
 static inline void mt_free_variables(const uint32_t *table, size_t table_words, uint32_t entry,
-                                     uint32_t numbers[3])
+                                     uint64_t numbers[3])
 {
     const uint32_t none = 0;
     marshtrundle_free_variables(table ? table : &none, table ? table_words : 0, entry, numbers);

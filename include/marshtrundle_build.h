@@ -40,7 +40,7 @@ enum mt_build_fault {
     MT_BUILD_ITEM = 3,     /* an operand is no item of this builder */
     MT_BUILD_CALL = 4,     /* a call of a recursion that was not ended */
     MT_BUILD_UNBOUND = 5,  /* a rule builds a variable that its left side does not bind */
-    MT_BUILD_ARGUMENT = 6  /* a variable above 31, a position that is not 1 to 6, or a constructor above 65,535 */
+    MT_BUILD_ARGUMENT = 6  /* a variable above 63, a position that is not 1 to 6, or a constructor above 65,535 */
 };
 
 typedef struct mt_builder {
@@ -72,13 +72,16 @@ static inline mt_item mt_fault(mt_builder *b, enum mt_build_fault fault)
     return MT_NO_ITEM;
 }
 
-/* Makes an entry of any kind. The operands are items made before. */
-static inline mt_item mt_make(mt_builder *b, uint32_t kind, uint32_t argument, uint32_t count, const mt_item *operands)
+/* The word at which the operands of a kind begin: a scope's mask takes words 1 and 2. */
+static inline uint32_t mt_operands(uint32_t kind) { return kind == MT_SCOPE ? 3 : 2; }
+
+/* Makes an entry of any kind. The operands are items made before. Only a scope's argument has more than 32 bits. */
+static inline mt_item mt_make(mt_builder *b, uint32_t kind, uint64_t argument, uint32_t count, const mt_item *operands)
 {
-    uint32_t k, *row;
+    uint32_t k, from = mt_operands(kind), *row;
     if (b->fault != MT_BUILT)
         return MT_NO_ITEM;
-    if (count > 6)
+    if (count > 8 - from)
         return mt_fault(b, MT_BUILD_OPERANDS);
     if (b->finished || b->entries == b->most)
         return mt_fault(b, MT_BUILD_FULL);
@@ -87,9 +90,10 @@ static inline mt_item mt_make(mt_builder *b, uint32_t kind, uint32_t argument, u
             return mt_fault(b, MT_BUILD_ITEM);
     row = b->words + 8 * (size_t)b->entries;
     row[0] = MT_ENTRY(kind, count);
-    row[1] = argument;
-    for (k = 0; k < 6; k++)
-        row[2 + k] = k < count ? operands[k] : 0;
+    row[1] = (uint32_t)argument;
+    row[2] = (uint32_t)(argument >> 32);
+    for (k = 0; k < 8 - from; k++)
+        row[from + k] = k < count ? operands[k] : 0;
     return b->entries++;
 }
 
@@ -117,7 +121,7 @@ static inline mt_item mt_some(mt_builder *b, mt_item s) { return mt_of(b, MT_SOM
 static inline mt_item mt_match(mt_builder *b, mt_item pattern) { return mt_of(b, MT_MATCH, pattern); }
 static inline mt_item mt_build(mt_builder *b, mt_item pattern) { return mt_of(b, MT_BUILD, pattern); }
 static inline mt_item mt_where(mt_builder *b, mt_item s) { return mt_of(b, MT_WHERE, s); }
-static inline mt_item mt_scope(mt_builder *b, uint32_t mask, mt_item s) { return mt_make(b, MT_SCOPE, mask, 1, &s); }
+static inline mt_item mt_scope(mt_builder *b, uint64_t mask, mt_item s) { return mt_make(b, MT_SCOPE, mask, 1, &s); }
 
 static inline mt_item mt_path(mt_builder *b, uint32_t position, mt_item s)
 {
@@ -167,15 +171,16 @@ static inline mt_item mt_end_rec(mt_builder *b, uint32_t recursion, mt_item body
 }
 
 /* The variables that a pattern names, as a mask. */
-static inline uint32_t mt_variables(const mt_builder *b, mt_item pattern)
+static inline uint64_t mt_variables(const mt_builder *b, mt_item pattern)
 {
     const uint32_t *row;
-    uint32_t k, mask = 0;
+    uint64_t mask = 0;
+    uint32_t k;
     if (pattern >= b->entries)
         return 0;
     row = b->words + 8 * (size_t)pattern;
     if (row[0] / 16 == MT_PVAR)
-        return (uint32_t)1 << row[1];
+        return (uint64_t)1 << row[1];
     for (k = 0; k < row[0] % 16; k++)
         mask |= mt_variables(b, row[2 + k]);
     return mask;
@@ -184,7 +189,7 @@ static inline uint32_t mt_variables(const mt_builder *b, mt_item pattern)
 /* A rule: match `from`, build `to`, in a scope of the variables of `from`. Fails where the term does not match. */
 static inline mt_item mt_rule(mt_builder *b, mt_item from, mt_item to)
 {
-    uint32_t bound = mt_variables(b, from);
+    uint64_t bound = mt_variables(b, from);
     if (b->fault == MT_BUILT && (mt_variables(b, to) & ~bound) != 0)
         return mt_fault(b, MT_BUILD_UNBOUND);
     return mt_scope(b, bound, mt_seq(b, mt_match(b, from), mt_build(b, to)));
@@ -268,8 +273,10 @@ static inline size_t mt_finish(mt_builder *b)
         uint32_t *row = b->words + 8 * (size_t)k;
         if (row[0] / 16 == MT_REC)
             row[7] = 0;
-        for (j = 0; j < row[0] % 16; j++)
-            row[2 + j] = mt_start(b, row[2 + j]);
+        for (j = 0; j < row[0] % 16; j++) {
+            uint32_t *operand = row + mt_operands(row[0] / 16) + j;
+            *operand = mt_start(b, *operand);
+        }
     }
     for (k = 0; k < b->entries / 2; k++)
         for (j = 0; j < 8; j++) {

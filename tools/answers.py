@@ -54,7 +54,7 @@ def specs():
     found |= pairs(answer, r"\b(asGiven) i (\d+) ")
     for path in ("crates/checks/specs/Checked.antt", "crates/checks/specs/Signature.antt", "crates/calls/specs/Refused.antt"):
         found |= pairs((ROOT / path).read_text(), r"\b(checked|found) (\d+) ")
-    found |= pairs((ROOT / "crates/checks/specs/Plain.antt").read_text(), r"\b(of-\w+) : .*Faulty (\d+)")
+    found |= pairs((ROOT / "crates/checks/specs/Plain.antt").read_text(), r"\b(of-\w+) : .*Faulty(?:By)? (\d+)")
     found |= pairs((ROOT / "crates/whole_job/specs/Whole.antt").read_text(), r"\b(answered) (\d+) ")
     return found - {("checked", 0)}  # nothing is refused
 

@@ -2,10 +2,10 @@
 import random
 
 from lend import add, lend, memory, rows_of, shown
-from model import MOST, collect
+from model import MOST, VARIABLES, collect
 
 
-def case(label, *, store, mark, subject, bindings=32, work=None, patches=(), fill=0, soil=0):
+def case(label, *, store, mark, subject, bindings=VARIABLES, work=None, patches=(), fill=0, soil=0):
     """store is a number of words, and work too: as many as the store's nodes if not given; soil is what every word of it holds."""
     work = store // 8 if work is None else work
     dirt = [(0, i, soil) for i in range(work)] if soil else []
@@ -50,7 +50,7 @@ def refused():
     for length, mark in ((0, 0), (7, 0), (9, 1), (57, 7), (56, 8), (56, MOST)):
         case("collect %d words, mark %d" % (length, mark), store=length, mark=mark, subject=0, work=16, soil=5)
     case("too long a store", store=1048584, mark=7, subject=0, work=32776)
-    for n in (0, 31, 33, 40):
+    for n in (0, 32, 63, 65, 72):
         case("collect with %d bindings" % n, store=56, mark=7, subject=0, bindings=n, patches=ROWS)
     for n in (0, 6):
         case("a work list of %d words" % n, store=56, mark=7, subject=0, work=n, patches=ROWS, soil=9)
@@ -72,7 +72,7 @@ def mixed(r, k):
     """A random store, its bindings and its work list; now and then one word of it is wrong."""
     nodes = 1 + r.randrange(12)
     rows = [[r.randrange(4), n, *[r.randrange(j) for _ in range(n)]] for j in range(nodes) for n in [r.randrange(4) if j else 0]]
-    patches = rows_of(1, rows) + [(2, r.randrange(32), r.randrange(nodes + 1)) for _ in range(r.randrange(4))]
+    patches = rows_of(1, rows) + [(2, r.randrange(VARIABLES), r.randrange(nodes + 1)) for _ in range(r.randrange(4))]
     length = nodes + r.randrange(3)
     if k % 5 == 4:
         patches.append((1, r.randrange(8 * nodes), r.choice([0, 1, 7, 65536, MOST])))

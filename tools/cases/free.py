@@ -2,7 +2,7 @@
 import random
 
 from lend import add, lend, rows_of, say
-from model import (ALL, BUILD, CALL, CONG, FAIL, ID, LEFT, MATCH, MOST, NAMES, PCON, PVAR, REC, SCOPE, SEQ, arguments, counts,
+from model import (ALL, BUILD, CALL, CONG, FAIL, ID, LEFT, MASK, MATCH, MOST, NAMES, PCON, PVAR, REC, SCOPE, SEQ, VARIABLES, arguments, counts,
                    entry, free_variables, sort, takes)
 
 
@@ -37,7 +37,8 @@ def refusals():
     case("t", 80, 5, [(8 * 5, MOST)], "start at a bad entry")
     case("t", 80, 0, [(8 * 9 + 7, 1)], "bad last entry, start at a good one")
     ask([entry(CALL, 0, 1), entry(ID)], 0, "CALL of an ID")
-    ask([entry(PVAR, 32)], 0, "variable 32")
+    ask([entry(PVAR, VARIABLES)], 0, "variable %d" % VARIABLES)
+    ask([entry(PVAR, MOST)], 0, "variable %d" % MOST)
     for e in (2, 3, 4095, 4096, MOST):
         ask([one, entry(PVAR, 7)], e, "start %d of 2 entries" % e)
     ask([one, entry(PVAR, 7)], 1, "start at a PVAR")
@@ -59,34 +60,36 @@ def kinds():
             else:
                 rows = [entry(kind, argument, *range(1, 1 + n))] + matches(n)
             ask(rows, 0, "%s with %d operands" % (name, n))
-    for v in (0, 1, 30, 31):
+    for v in (0, 1, 30, 31, 32, 33, 62, 63):
         ask([entry(MATCH, 0, 1), entry(PVAR, v)], 0, "MATCH of variable %d" % v)
         ask([entry(BUILD, 0, 1), entry(PVAR, v)], 0, "BUILD of variable %d" % v)
     for n in range(7):
-        ask([entry(MATCH, 0, 1), entry(PCON, 9, *range(2, 2 + n))] + [entry(PVAR, 31 - 6 * i) for i in range(min(n, 6))], 0,
+        ask([entry(MATCH, 0, 1), entry(PCON, 9, *range(2, 2 + n))] + [entry(PVAR, VARIABLES - 1 - 6 * i) for i in range(min(n, 6))], 0,
             "MATCH of a PCON of %d variables" % n)
     ask([entry(BUILD, 0, 1), entry(PCON, 9, 2, 3), entry(PCON, 8, 3, 4), entry(PVAR, 5), entry(PVAR, 6)], 0, "BUILD of a PCON in a PCON")
     ask([entry(SEQ, 0, 1, 1), entry(MATCH, 0, 2), entry(PVAR, 9)], 0, "one operand twice")
     ask([entry(ID), entry(MATCH, 0, 2), entry(PVAR, 9)], 0, "a MATCH that is no operand")
-    wide = [entry(MATCH, 0, 63 + e // 2) if e % 2 or e == 62 else entry(SEQ, 0, e + 1, e + 2) for e in range(63)]
-    wide += [entry(PVAR, v) for v in range(32)]
-    ask(wide, 0, "all 32 variables")
-    ask(wide, 30, "the last 17 variables")
+    last = 2 * VARIABLES - 2
+    wide = [entry(MATCH, 0, last + 1 + e // 2) if e % 2 or e == last else entry(SEQ, 0, e + 1, e + 2) for e in range(last + 1)]
+    wide += [entry(PVAR, v) for v in range(VARIABLES)]
+    ask(wide, 0, "all %d variables" % VARIABLES)
+    ask(wide, 30, "the variables from 15 on")
+    ask(wide, 64, "the variables from 32 on")
 
 
 def scopes():
-    inner = [entry(SEQ, 0, 2, 3), entry(MATCH, 0, 4), entry(BUILD, 0, 5), entry(PVAR, 4), entry(PVAR, 31)]
-    for mask in (0, 1, 1 << 4, 1 << 31, 1 << 4 | 1 << 31, MOST, MOST - (1 << 4), MOST - (1 << 31)):
+    inner = [entry(SEQ, 0, 2, 3), entry(MATCH, 0, 4), entry(BUILD, 0, 5), entry(PVAR, 4), entry(PVAR, 36)]
+    for mask in (0, 1, 1 << 4, 1 << 36, 1 << 4 | 1 << 36, MOST, MASK - MOST, MASK, MASK - (1 << 4), MASK - (1 << 36), 1 << 63, 1 << 32):
         ask([entry(SCOPE, mask, 1)] + inner, 0, "SCOPE of mask %d" % mask)
-    ask([entry(SCOPE, 16, 1), entry(SCOPE, 2**31, 2), entry(SEQ, 0, 3, 4), entry(MATCH, 0, 5), entry(MATCH, 0, 6),
-         entry(PVAR, 4), entry(PVAR, 31)], 0, "a SCOPE in a SCOPE")
+    ask([entry(SCOPE, 16, 1), entry(SCOPE, 2**63, 2), entry(SEQ, 0, 3, 4), entry(MATCH, 0, 5), entry(MATCH, 0, 6),
+         entry(PVAR, 4), entry(PVAR, 63)], 0, "a SCOPE in a SCOPE")
     ask([entry(SEQ, 0, 1, 2), entry(SCOPE, 16, 2), entry(MATCH, 0, 3), entry(PVAR, 4)], 0, "inside and outside a SCOPE")
     ask([entry(SEQ, 0, 1, 1), entry(SCOPE, 16, 2), entry(MATCH, 0, 3), entry(PVAR, 4)], 0, "only inside a SCOPE")
     ask([entry(SCOPE, 16, 1), entry(CALL, 0, 2), entry(REC, 0, 3), entry(MATCH, 0, 4), entry(PVAR, 4)], 0, "a CALL in a SCOPE")
 
 
 def recursion():
-    for v in (0, 31):
+    for v in (0, 31, 32, 63):
         ask([entry(REC, 0, 1), entry(LEFT, 0, 2, 3), entry(MATCH, 0, 4), entry(ALL, 0, 5), entry(PVAR, v), entry(CALL, 0, 0)], 5,
             "CALL of a REC below, variable %d" % v)
     ask([entry(REC, 0, 1), entry(CALL, 0, 0)], 0, "a REC that only calls itself")
@@ -105,14 +108,14 @@ def recursion():
 
 def worst():
     def put(e, row):
-        return [(8 * e + j, (row + [0] * 8)[j]) for j in range(3)]
-    first = put(0, entry(REC, 0, 1)) + put(1, entry(MATCH, 0, 4095)) + put(4094, entry(PVAR, 0)) + put(4095, entry(PVAR, 31))
+        return [(8 * e + j, (row + [0] * 8)[j]) for j in range(4)]
+    first = put(0, entry(REC, 0, 1)) + put(1, entry(MATCH, 0, 4095)) + put(4094, entry(PVAR, 0)) + put(4095, entry(PVAR, 63))
     for e in (0, 1, 2, 2048, 4092, 4093, 4094):
         case("R", 32768, e, first, "2047 RECs in the worst order, entry %d" % e)
-    ring = put(0, entry(REC, 0, 1)) + put(4094, entry(MATCH, 0, 4095)) + put(4095, entry(PVAR, 31)) + [(8, 66), (9, 0), (10, 4094), (11, 4093)]
+    ring = put(0, entry(REC, 0, 1)) + put(4094, entry(MATCH, 0, 4095)) + put(4095, entry(PVAR, 63)) + [(8, 66), (9, 0), (10, 4094), (11, 4093)]
     for e in (0, 4093):
         case("R", 32768, e, ring, "a ring of 2047 RECs, entry %d" % e)
-    cut = put(2049, entry(SCOPE, 2**31, 2051))
+    cut = put(2049, entry(SCOPE, 2**63, 2051))
     for e in (2046, 2048, 4092):
         case("R", 32768, e, first + cut, "the chain cut at entry 2049, entry %d" % e)
     for e in (1, 4093):
@@ -140,9 +143,9 @@ def tables():
             above = [x for x in range(e + 1, n) if sort(of[x]) == takes(kind)]
             count = pick.randint(low, high) if above or kind == CALL else 0
             low, high = arguments(kind)
-            argument = pick.getrandbits(32) if kind == SCOPE else pick.randint(low, high)
+            argument = pick.getrandbits(VARIABLES) if kind == SCOPE else pick.randint(low, high)
             rows.append(entry(kind, argument, *[pick.choice(recs if kind == CALL else above) for _ in range(count)]))
-        ask(rows, next(e for e in range(pick.randrange(2), n) if sort(of[e]) == "strategy"), "random table %d" % k)
+        ask(rows, pick.choice([e for e in range(n) if sort(of[e]) == "strategy"] or [0]), "random table %d" % k)
 
 
 def write():

@@ -4,8 +4,8 @@
 import random
 
 from lend import add
-from model import (ALL, BUILD, CALL, CONG, FAIL, ID, LEFT, MATCH, MOST, NOT, ONE, PATH, PCON, PVAR, REC, SCOPE, SEQ, SOME, TEST,
-                   WHERE, entry, five_of, line)
+from model import (ALL, BUILD, CALL, CONG, FAIL, ID, LEFT, MASK, MATCH, MOST, NOT, ONE, PATH, PCON, PVAR, REC, SCOPE, SEQ, SOME, TEST,
+                   WHERE, VARIABLES, entry, first, five_of, line, mask)
 from runs import FLIP, table_of, term
 
 
@@ -14,11 +14,17 @@ def framed(text):
     return b"# %d\n" % len(text) + text
 
 
+def entry_numbers(row):
+    """Kind, argument and operands of an entry's words."""
+    kind = row[0] // 16
+    return [kind, mask(row) if kind == SCOPE else row[1], *row[first(kind):]]
+
+
 def text_of(table, nodes, *, units=1000, start=0, subject=None, room=None, bound=()):
     """table: rows of entry(); nodes: a constructor and children."""
     subject = max(len(nodes) - 1, 0) if subject is None else subject
     room = min(len(nodes) + 4, 1024) if room is None else room
-    return (line("job", units, start, subject, room) + b"".join(line("e", r[0] // 16, *r[1:]) for r in table)
+    return (line("job", units, start, subject, room) + b"".join(line("e", *entry_numbers(r)) for r in table)
             + b"".join(line("n", *r) for r in nodes) + b"".join(line("b", *p) for p in bound))
 
 
@@ -69,7 +75,7 @@ def small_runs():
             ([entry(REC, 0, 1), entry(CALL, 0, 0)], [6, 0, 2, 3, 7], KEPT, dict(units=7)),
             ([entry(REC, 0, 1), entry(CALL, 0, 0)], [8, 0, 2, 3, 4096], KEPT, dict(units=5000)),
             ([entry(BUILD, 0, 1), X], [12, 0, 2, 3, 2], KEPT, {}),
-            ([entry(BUILD, 0, 1), entry(PVAR, 31)], [12, 31, 2, 3, 2], KEPT + b"b\t4\t1\n", dict(bound=[(4, 1)]))):
+            ([entry(BUILD, 0, 1), entry(PVAR, 63)], [12, 63, 2, 3, 2], KEPT + b"b\t4\t1\n", dict(bound=[(4, 1)]))):
         job(text_of(table, THREE, **more), five, left)
     job(text_of([entry(MATCH, 0, 1), entry(PCON, 5, 2, 2), X], [[1], [2], [5, 0, 0]]), [0, 0, 2, 3, 5],
         b"n\t1\nn\t2\nn\t5\t0\t0\nb\t0\t0\n")
@@ -89,7 +95,7 @@ def refusals():
             (13, 1, [YES, entry(20)]), (13, 1, [YES, entry(255)]), (13, 1, [entry(TEST, 0, 2), [16 * NOT, 0], YES]),
             (13, 1, [YES, entry(ID, 0, 2), YES]),
             (14, 1, [YES, entry(FAIL, 1)]), (14, 0, [entry(PATH, 0, 1), YES]), (14, 0, [entry(PATH, 7, 1), YES]),
-            (14, 1, [YES, entry(PVAR, 32)]), (14, 0, [entry(CONG, 65536)]), (14, 1, [YES, entry(PCON, MOST)]),
+            (14, 1, [YES, entry(PVAR, VARIABLES)]), (14, 0, [entry(CONG, 65536)]), (14, 1, [YES, entry(PCON, MOST)]),
             (15, 1, [YES, entry(TEST, 0, 1)]), (15, 1, [YES, entry(TEST, 0, 0)]), (15, 0, [entry(TEST, 0, 1)]),
             (15, 0, [entry(TEST, 0, MOST)]), (16, 0, [entry(TEST, 0, 1), X]), (16, 0, [entry(MATCH, 0, 1), YES]),
             (16, 1, [YES, entry(PCON, 1, 2), YES]), (16, 0, [entry(CALL, 0, 1), YES]), (15, 0, [entry(CALL, 0, 1)]),
@@ -103,7 +109,7 @@ def refusals():
         job(text_of(ok, nodes), [4, place, len(nodes) - 1, len(nodes), 0])
     job(text_of(ok, [[65536]], start=9, subject=9), [4, 0, 9, 1, 0])
     # 5
-    for more in (dict(start=1), dict(start=MOST), dict(subject=3), dict(subject=MOST), dict(bound=[(0, 0), (31, 3)]),
+    for more in (dict(start=1), dict(start=MOST), dict(subject=3), dict(subject=MOST), dict(bound=[(0, 0), (63, 3)]),
             dict(bound=[(7, 131071)])):
         job(text_of(ok, THREE, **more), [5, 0, more.get("subject", 2), 3, 0])
     job(text_of([YES, X], THREE, start=1), [5, 0, 2, 3, 0])
@@ -145,9 +151,13 @@ def bad_texts():
             (1, b"job\t42949672950\t0\t0\t4\n"), (1, b"job\t18446744073709551617\t0\t0\t4\n"),
             (1, b"job\t" + b"9" * 400 + b"\t0\t0\t4\n"),
             (1, b"job\t\xd9\xa1\t0\t0\t4\n"), (1, b"job\t10\t0\t0\t1025\n"), (1, b"job\t10\t0\t0\t4294967296\n"),
-            (2, HEAD + b"e\t256\t0\n"), (2, HEAD + b"e\t0\t4294967296\n"), (2, HEAD + b"e\t2\t0\t4294967296\n"),
+            (2, HEAD + b"e\t256\t0\n"), (2, HEAD + b"e\t0\t4294967296\n"), (2, HEAD + b"e\t2\t0\t4294967296\n"), (2, HEAD + b"e\t16\t18446744073709551616\t1\n"),
+            (2, HEAD + b"e\t16\t0\t4294967296\n"), (2, HEAD + b"e\t4294967312\t0\t1\n"), (2, HEAD + b"e\t17\t4294967296\t1\n"),
+            (2, HEAD + b"e\t18\t4294967296\n"), (2, HEAD + b"e\t16\t018446744073709551615\t1\n"), (2, HEAD + b"e\t16\n"), (2, HEAD + b"e\t16\t\t1\n"),
+            (2, HEAD + b"e\t16\t1\t1\t1\t1\t1\t1\t1\t1\n"), (3, HEAD + b"e\t16\t18446744073709551615\t1\ne\t15\t4294967296\t2\n"),
+            (3, HEAD + b"e\t0\t0\nn\t16\t4294967296\n"), (4, BODY + b"b\t1\t4294967296\n"),
             (2, HEAD + b"e\t00\t0\n"),
-            (3, HEAD + b"e\t0\t0\nn\t4294967296\n"), (3, HEAD + b"e\t0\t0\nn\t1\t01\n"), (4, BODY + b"b\t32\t0\n"),
+            (3, HEAD + b"e\t0\t0\nn\t4294967296\n"), (3, HEAD + b"e\t0\t0\nn\t1\t01\n"), (4, BODY + b"b\t64\t0\n"),
             (4, BODY + b"b\t0\t131072\n"),
             (4, BODY + b"b\t0\t4294967296\n"), (4, BODY + b"b\t00\t0\n"), (4, BODY + b"b\t4294967296\t0\n"),
             # how many numbers
@@ -162,7 +172,7 @@ def bad_texts():
             (1, BODY[len(HEAD):]), (1, b"n\t1\n"), (1, b"b\t0\t0\n"), (2, HEAD + HEAD), (4, BODY + HEAD), (4, BODY + b"e\t0\t0\n"),
             (5, BODY + b"b\t0\t0\nn\t1\n"), (5, BODY + b"b\t0\t0\ne\t0\t0\n"), (5, BODY + b"b\t3\t0\nb\t3\t0\n"),
             (5, BODY + b"b\t3\t0\nb\t2\t0\n"),
-            (6, BODY + b"b\t3\t0\nb\t31\t0\nb\t0\t0\n"),
+            (6, BODY + b"b\t3\t0\nb\t63\t0\nb\t0\t0\n"),
             # how many lines
             (514, HEAD + b"e\t0\t0\n" * 513), (514, HEAD + b"e\t0\t0\n" * 513 + b"n\t1\n"),
             (1027, HEAD + b"e\t0\t0\n" + b"n\t1\n" * 1025),
@@ -191,14 +201,30 @@ def long_texts():
     job(FIRST + b"x" * (60000 - len(FIRST)), [9, 13, 0, 0, 0])
 
 
+def wide():
+    """A scope's argument of 64 bits, and variables of both halves (wish 9)."""
+    for mask in (0, 1, MOST, MOST + 1, 2**63, MASK - 1, MASK):
+        hides = mask >> 63 & 1
+        table = [entry(SCOPE, mask, 1), entry(MATCH, 0, 2), entry(PVAR, 63)]
+        job(text_of(table, THREE), [0, 0, 2, 3, 3], KEPT + (b"" if hides else b"b\t63\t2\n"))
+        job(text_of(table, THREE, bound=[(31, 0), (63, 1)]), [0, 0, 2, 3, 3] if hides else [1, 2, 2, 3, 4],
+            KEPT + b"b\t31\t0\nb\t63\t1\n")
+    # A scope with another count than one is no good entry, whatever the row has room for
+    for n in (0, 2, 5, 6):
+        job(text_of([[257 - 1 + n, 1, 1, *[1] * n], YES], THREE), [13, 0, 2, 3, 0])
+    every = [(v, v % 3) for v in range(VARIABLES)]
+    job(text_of([YES], THREE, bound=every), [0, 0, 2, 3, 1], KEPT + b"".join(line("b", *p) for p in every))
+    job(text_of([entry(BUILD, 0, 1), entry(PVAR, 32)], THREE, bound=[(0, 1)]), [12, 32, 2, 3, 2], KEPT + b"b\t0\t1\n")
+
+
 def large():
     """The most entries, nodes, bindings and room; the longest numbers."""
     full = [[65535, *range(max(k - 6, 0), k)] for k in range(1024)]
     chain = [entry(SEQ, 0, e + 1, 511) for e in range(510)] + [YES, YES]
-    every = [(v, 1023 - v) for v in range(32)]
+    every = [(v, 1023 - v) for v in range(VARIABLES)]
     job(text_of(chain, full, room=1024, bound=every, units=MOST), [0, 0, 1023, 1024, 1021])
     job(text_of([entry(ALL, 0, 1), YES], full, room=1024, bound=every), [7, 0, 1023, 1024, 7])
-    job(text_of([entry(ALL, 0, 1), YES], full[:1023], room=1024, bound=[(31, 1022)]), [0, 0, 1023, 1024, 7])
+    job(text_of([entry(ALL, 0, 1), YES], full[:1023], room=1024, bound=[(63, 1022)]), [0, 0, 1023, 1024, 7])
     wide = [entry(CONG, 65535, *[511] * 6) for _ in range(511)] + [YES]
     job(text_of(wide, full, room=1024, bound=every, units=MOST), [7, 0, 1023, 1024, 7])
     down = [entry(REC, 0, 1), entry(ALL, 0, 2), entry(CALL, 0, 0)]
@@ -206,7 +232,7 @@ def large():
     job(text_of(down, [[1]] + [[1, k - 1, k - 1] for k in range(1, 10)], room=1024, units=100000), [0, 0, 520, 521, 3068])
     job(text_of(down, [[1]] + [[1, k - 1, k - 1] for k in range(1, 11)], room=1024, units=100000), answer=7)
     job(text_of(down, [[1]] + [[1, k - 1] for k in range(1, 512)], room=1023, units=100000), answer=0)
-    job(text_of([entry(SCOPE, MOST, 1), YES], THREE, bound=[(v, 2) for v in range(32)], units=MOST), [0, 0, 2, 3, 2])
+    job(text_of([entry(SCOPE, MASK, 1), YES], THREE, bound=[(v, 2) for v in range(VARIABLES)], units=MOST), [0, 0, 2, 3, 2])
     job(text_of([YES], THREE, room=1024, units=0), [6, 0, 2, 3, 0])
     job(text_of([YES] * 512, [[0]] * 1024, start=511, room=1024), [0, 0, 1023, 1024, 1])
 
@@ -252,5 +278,5 @@ def generated():
 
 
 def write():
-    for part in (small_runs, refusals, bad_texts, long_texts, large, generated):
+    for part in (small_runs, refusals, bad_texts, long_texts, wide, large, generated):
         part()

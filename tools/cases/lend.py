@@ -1,7 +1,7 @@
 """The cases that the program vectors executes: for each a tag, its bytes, and what must be written. crates/vectors/src says
 what they mean.
 """
-from model import MOST
+from model import MOST, SCOPE
 
 cases = []
 
@@ -32,7 +32,8 @@ def lend(label, *, table=0, store=0, bindings=0, mark=0, start=0, subject=0, uni
             s[8 * k:8 * k + 8] = [k % 65536, 6, k - 1, k - 2, k - 3, k - 4, k - 5, k - 6]
     if head[0]:
         for e in range(table // 8 - 1):
-            t[8 * e:8 * e + 8] = [head[0], head[1], e + 1, head[2], 0, 0, 0, 0]
+            operands = [head[2], e + 1] if head[0] // 16 == SCOPE else [e + 1, head[2]]
+            t[8 * e:8 * e + 8] = [head[0], head[1], *operands, 0, 0, 0, 0]
     if fill & 8:
         for e in range(3, table // 8, 2):
             t[8 * e - 8:8 * e + 8] = [113, 0, e, 0, 0, 0, 0, 0, 129, 0, e - 3, 0, 0, 0, 0, 0]

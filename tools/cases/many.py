@@ -4,7 +4,7 @@ word of the result list is the greatest before the call.
 import random
 
 from lend import add, lend, memory, rows_of, say
-from model import (ALL, BUILD, CALL, CONG, FAIL, ID, LEFT, MATCH, MOST, PATH, PCON, PVAR, REC, SCOPE, SEQ, SOME, WHERE, entry, run_many)
+from model import (ALL, BUILD, CALL, CONG, FAIL, ID, LEFT, MATCH, MOST, PATH, PCON, PVAR, REC, SCOPE, SEQ, SOME, VARIABLES, WHERE, entry, run_many)
 
 U = 7
 labels = set()
@@ -22,7 +22,7 @@ def answer_of(label, head, results, s, b):
     return say(label, *head, *results)[:-1] + memory(s, b).encode() + b"\n"
 
 
-def case(label, table, store, subjects, *, signature=None, results=None, mark=None, room=None, start=0, units=1000, blen=32, bound=(),
+def case(label, table, store, subjects, *, signature=None, results=None, mark=None, room=None, start=0, units=1000, blen=VARIABLES, bound=(),
          words=(), tlen=None, slen=None, fill=1):
     """table and store: rows. results: how many words, where not five for each subject. words: further patches."""
     assert label not in labels, label
@@ -99,7 +99,7 @@ def accepted():
     holds("many bind x and fail", [[1, 4, 2, 3, 5], [0, 0, 0, 3, 5], [1, 4, 1, 3, 5]],
           [entry(SEQ, 0, 1, 2), entry(MATCH, 0, 3), entry(MATCH, 0, 4), X, entry(PCON, 1)], STORE, [2, 0, 1])
     holds("many with all bound", [[0, 0, 3, 4, 3], [0, 0, 4, 5, 3]], [entry(ALL, 0, 1), entry(ID)], [[1], [5, 2, 0, 0], [5, 2, 0, 0]], [1, 2],
-          bound=[(v, v % 3) for v in range(32)])
+          bound=[(v, v % 3) for v in range(VARIABLES)])
     case("many scopes", [entry(SCOPE, 1, 1), entry(ALL, 0, 2), entry(MATCH, 0, 3), X], [[1], [2], [5, 2, 0, 1], [5, 2, 0, 0]], [3, 2, 3, 0], bound=[(0, 1)])
     # Many of them, and large stores.
     holds("many 1024 subjects", [[0, 0, 0, 1, 1]] * 1024, SAME, [[1]], [0] * 1024, room=1)
@@ -124,13 +124,13 @@ def none():
     ran("none signed with an empty list", SAME, [], [], signature=[], mark=0)
     no("none with a pattern as start", 5, 0, WRAP, STORE, [], start=3)
     no("none with a start outside", 5, 0, WRAP, STORE, [], start=6)
-    no("none with a binding above the mark", 5, 0, WRAP, STORE, [], bound=[(31, 3)])
+    no("none with a binding above the mark", 5, 0, WRAP, STORE, [], bound=[(63, 3)])
     no("none with results", 2, 0, WRAP, STORE, [], results=5)
     no("none with one word of results", 2, 0, WRAP, STORE, [], results=1)
     no("none with a bad table", 17, 0, WRAP, STORE, [], words=[(0, 7, 1)])
     no("none with a bad node", 4, 2, WRAP, STORE, [], words=[(1, 18, 2)])
     no("none with a mark past the store", 2, 0, SAME, [], [], mark=4, slen=24)
-    no("none with 31 bindings", 2, 0, SAME, STORE, [], blen=31)
+    no("none with 63 bindings", 2, 0, SAME, STORE, [], blen=63)
     no("none with an undeclared entry", 10, 3, WRAP, STORE, [], signature=[U, U, 0, U, U, 2, U, U, 1])
     no("none with an undeclared node", 11, 1, WRAP, STORE, [], signature=[U, 0, U, U, U, 2, U, U, 1])
     no("none with a word above 7", 2, 0, WRAP, STORE, [], signature=[8])
@@ -151,7 +151,7 @@ def refused():
         no("many with a table of %d words" % n, 2, 0, (), STORE, [0], tlen=n)
     for n in (7, 25, 1048577, 1048584):
         no("many with a store of %d words" % n, 2, 0, SAME, (), [0], mark=0, slen=n)
-    for n in (0, 31, 33):
+    for n in (0, 32, 63, 65):
         no("many with %d bindings" % n, 2, 0, SAME, STORE, [0], blen=n)
     no("many with a mark past the store", 2, 0, SAME, (), [0], mark=4, slen=24)
     # 5: a subject not below the first mark, first, last or between, though the one before would raise the mark
@@ -170,7 +170,7 @@ def refused():
     no("many 4 before 5", 4, 2, WRAP, STORE, [3], words=bad)
     no("many 14 before 4", 14, 1, WRAP, STORE, [3], words=worse)
     no("many 2 before 14", 2, 0, WRAP, STORE, [3], words=worse, results=4)
-    no("many 2 of the bindings before 14", 2, 0, WRAP, STORE, [3], words=worse, blen=31)
+    no("many 2 of the bindings before 14", 2, 0, WRAP, STORE, [3], words=worse, blen=63)
     no("many signed 11 before 5", 11, 0, SAME, STORE, [3], signature=other)
     no("many signed 10 before 11", 10, 3, WRAP, STORE, [3], signature=other)
     no("many signed 4 before 10", 4, 2, WRAP, STORE, [3], signature=other, words=bad)

@@ -5,12 +5,14 @@ What the executed cases must answer comes from it.
 import re
 
 MOST = 2**32 - 1
+VARIABLES = 64
+MASK = 2**VARIABLES - 1
 NAMES = ("ID FAIL TEST NOT SEQ CHOICE LEFT REC CALL PATH CONG ALL ONE SOME MATCH BUILD SCOPE WHERE PVAR PCON").split()
 (ID, FAIL, TEST, NOT, SEQ, CHOICE, LEFT, REC, CALL, PATH, CONG, ALL, ONE, SOME, MATCH, BUILD, SCOPE, WHERE, PVAR,
  PCON) = range(20)
 # The least and the most operands, and the least and the highest argument; (1, 1) and (0, 0) where a kind is not named.
 COUNTS = {ID: (0, 0), FAIL: (0, 0), SEQ: (2, 2), CHOICE: (2, 2), LEFT: (2, 2), CONG: (0, 6), PVAR: (0, 0), PCON: (0, 6)}
-ARGUMENTS = {PATH: (1, 6), CONG: (0, 65535), SCOPE: (0, MOST), PVAR: (0, 31), PCON: (0, 65535)}
+ARGUMENTS = {PATH: (1, 6), CONG: (0, 65535), SCOPE: (0, MASK), PVAR: (0, VARIABLES - 1), PCON: (0, 65535)}
 
 
 def counts(kind):
@@ -31,8 +33,19 @@ def takes(kind):
 
 
 def entry(kind, argument=0, *operands, count=None):
-    """The words of an entry that are used."""
-    return [16 * kind + (len(operands) if count is None else count), argument, *operands]
+    """The words of an entry that are used. A scope's mask has two, its lower half first."""
+    words = [argument & MOST, argument >> 32] if kind == SCOPE else [argument]
+    return [16 * kind + (len(operands) if count is None else count), *words, *operands]
+
+
+def first(kind):
+    """The word of the first operand."""
+    return 3 if kind == SCOPE else 2
+
+
+def mask(word):
+    """The mask of a scope's words."""
+    return word[1] | word[2] << 32
 
 
 # The two checks.
@@ -46,13 +59,13 @@ def fault(t, e):
     low, high = arguments(kind)
     if not low <= word[1] <= high:
         return 14
-    operands = word[2:2 + count]
+    operands = word[first(kind):first(kind) + count]
     if any(o >= len(t) // 8 or kind != CALL and o <= e for o in operands):
         return 15
     kinds = [t[8 * o] // 16 for o in operands]
     if any(of != REC if kind == CALL else sort(of) != takes(kind) for of in kinds):
         return 16
-    return 17 if any(word[2 + count:]) else 0
+    return 17 if any(word[first(kind) + count:]) else 0
 
 
 def good_node(s, k):
@@ -100,9 +113,9 @@ def is_free(t, start, v):
         kind, count = divmod(t[8 * e], 16)
         if kind == PVAR and t[8 * e + 1] == v:
             return True
-        if kind == SCOPE and t[8 * e + 1] >> v & 1:
+        if kind == SCOPE and mask(t[8 * e:8 * e + 8]) >> v & 1:
             continue
-        for o in t[8 * e + 2:8 * e + 2 + count]:
+        for o in t[8 * e + first(kind):8 * e + first(kind) + count]:
             if o not in seen:
                 seen.add(o)
                 rest.append(o)
@@ -115,7 +128,7 @@ def free_variables(t, e):
         return answer, place, 0
     if not is_start(t, e):
         return 5, 0, 0
-    return 0, 0, sum(1 << v for v in range(32) if is_free(t, e, v))
+    return 0, 0, sum(1 << v for v in range(VARIABLES) if is_free(t, e, v))
 
 
 # The run. A state is a term and a dictionary of bindings; a failure is None.
@@ -142,7 +155,7 @@ def refusal(t, s, b, mark, start, subjects, signature=None, results=None):
     """The answer and the place; 0 where nothing is refused. No signature is None, and not an empty one. A list of results is lent
     where there are many subjects.
     """
-    if not table_fits(t) or not store_fits(s, mark) or len(b) != 32:
+    if not table_fits(t) or not store_fits(s, mark) or len(b) != VARIABLES:
         return 2, 0
     if results is not None and len(results) != 5 * len(subjects) or signature is not None and not signature_fits(signature):
         return 2, 0
@@ -193,7 +206,8 @@ class Run:
         self.visit(n)
         word = self.entries[e]
         kind, count = divmod(word[0], 16)
-        argument, ops = word[1], word[2:2 + count]
+        argument = mask(word) if kind == SCOPE else word[1]
+        ops = word[first(kind):first(kind) + count]
         con, kids = self.nodes[t]
         down = n + 1
         if kind == ID:
@@ -322,7 +336,7 @@ def run(t, s, b, mark, start, subject, units, signature=None):
     for k in range(mark, len(r.nodes)):
         con, kids = r.nodes[k]
         clean[8 * k:8 * k + 2 + len(kids)] = [con, len(kids), *kids]
-    return [0, 0, got[0], len(r.nodes), r.used], clean, [got[1].get(v, -1) + 1 for v in range(32)]
+    return [0, 0, got[0], len(r.nodes), r.used], clean, [got[1].get(v, -1) + 1 for v in range(VARIABLES)]
 
 
 def run_many(t, s, b, mark, start, subjects, units, results, signature=None):
@@ -357,7 +371,7 @@ def reached(s, roots):
 def collect(s, b, w, mark, subject):
     """Answer, place, subject and mark, and the words of store, bindings and work list."""
     given = [subject, mark, s, b, w]
-    if not store_fits(s, mark) or len(b) != 32 or len(w) < len(s) // 8:
+    if not store_fits(s, mark) or len(b) != VARIABLES or len(w) < len(s) // 8:
         return [2, 0, *given]
     bad = bad_node(s, mark)
     if bad != (0, 0):
@@ -381,14 +395,21 @@ class Bad(Exception):
 
 
 def numbers(fields):
-    if not all(re.fullmatch(rb"0|[1-9][0-9]*", f) and int(f) <= MOST for f in fields):
+    if not all(re.fullmatch(rb"0|[1-9][0-9]*", f) for f in fields):
         raise ValueError
     return [int(f) for f in fields]
+
+
+def within(name, v):
+    """Every number is within 32 bits; a scope's argument is within 64."""
+    scope = name == b"e" and v[:1] == [SCOPE]
+    return all(x <= (MASK if scope and i == 1 else MOST) for i, x in enumerate(v))
 
 
 def take(job, name, v):
     """One more line, or ValueError."""
     need = lambda fact: fact or numbers([b"-"])
+    need(within(name, v))
     if name == b"job":
         need(job["section"] == 0 and len(v) == 4 and v[3] <= 1024)
         job.update(section=1, units=v[0], start=v[1], subject=v[2], room=v[3])
@@ -396,13 +417,13 @@ def take(job, name, v):
     need(job["section"] > 0)
     if name == b"e":
         need(job["section"] == 1 and 2 <= len(v) <= 8 and v[0] <= 255 and len(job["e"]) < 512)
-        job["e"].append([16 * v[0] + len(v) - 2] + v[1:] + [0] * (8 - len(v)))
+        job["e"].append((entry(v[0], v[1], *v[2:]) + [0] * 8)[:8])
     elif name == b"n":
         need(job["section"] <= 2 and 1 <= len(v) <= 7 and len(job["n"]) < 1024)
         job["section"] = 2
         job["n"].append([v[0], len(v) - 1] + v[1:] + [0] * (7 - len(v)))
     elif name == b"b":
-        need(len(v) == 2 and v[0] < 32 and v[1] < 131072 and v[0] > max(job["b"], default=-1))
+        need(len(v) == 2 and v[0] < VARIABLES and v[1] < 131072 and v[0] > max(job["b"], default=-1))
         job["section"] = 3
         job["b"][v[0]] = v[1]
     else:
@@ -437,7 +458,7 @@ def five_of(text):
         return [9, bad.args[0], 0, 0, 0], b""
     mark, room = len(job["n"]), job["room"]
     store = [w for row in job["n"] for w in row] + [0] * 8192
-    bound = [job["b"].get(v, -1) + 1 for v in range(32)]
+    bound = [job["b"].get(v, -1) + 1 for v in range(VARIABLES)]
     five, store, bound = run([w for row in job["e"] for w in row], store[:8 * room], bound, mark, job["start"],
                              job["subject"], job["units"])
     if five[0] not in (0, 1, 6, 7, 8, 12):

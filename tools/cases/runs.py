@@ -3,13 +3,13 @@ import itertools
 import random
 
 from lend import add, lend, memory, rows_of, say
-from model import (ALL, BUILD, CALL, CHOICE, CONG, FAIL, ID, LEFT, MATCH, MOST, NAMES, NOT, ONE, PATH, PCON, PVAR, REC, SCOPE,
-                   SEQ, SOME, TEST, WHERE, counts, entry, run, sort)
+from model import (ALL, BUILD, CALL, CHOICE, CONG, FAIL, ID, LEFT, MASK, MATCH, MOST, NAMES, NOT, ONE, PATH, PCON, PVAR, REC, SCOPE,
+                   SEQ, SOME, TEST, VARIABLES, WHERE, counts, entry, run, sort)
 
 labels = set()
 
 
-def case(label, table=(), store=(), *, tlen=None, slen=None, blen=32, mark=None, room=None, start=0, subject=None,
+def case(label, table=(), store=(), *, tlen=None, slen=None, blen=VARIABLES, mark=None, room=None, start=0, subject=None,
          units=1000, bound=(), fill=1, head=(0, 0, 0), words=()):
     """table and store: rows. bound: pairs of a variable and a node. words: further patches."""
     assert label not in labels, label
@@ -39,7 +39,7 @@ def small_runs():
     def s(label, table, answer, used, subject=2, mark=3, binds=(), store=THREE, new=(), given=2, place=0, **more):
         five, words, b = case(label, table, store, **{"fill": 0, "room": 6, "units": 100, "subject": given, **more})
         assert five == [answer, place, subject, mark, used], (label, five)
-        assert b == [dict(binds).get(v, -1) + 1 for v in range(32)], (label, b)
+        assert b == [dict(binds).get(v, -1) + 1 for v in range(VARIABLES)], (label, b)
         assert words[24:24 + len(new)] == list(new) and not any(words[24 + len(new):]), (label, words)
     flipped = [5, 2, 1, 0]
     s("S1", FLIP, 0, 10, 3, 4, new=flipped, units=10, room=4)
@@ -67,7 +67,7 @@ def refusals():
         case("2 table of %d words" % n, (), THREE, tlen=n, bound=one)
     for n in (7, 9, 23, 25, 1048577, 1048584):
         case("2 store of %d words" % n, ok, mark=0, slen=n)
-    for n in (0, 31, 33, 40):
+    for n in (0, 32, 63, 65, 72):
         case("2 bindings of %d words" % n, ok, THREE, blen=n, bound=one if n else ())
     case("2 mark one past the store", ok, mark=4, slen=24)
     case("2 mark far past the store", ok, mark=MOST, slen=24)
@@ -78,7 +78,7 @@ def refusals():
                 entry(ID, 0, 2), entry(ID)]),
             ("seven operands", [entry(ID), [16 * CONG + 7, 1, 2, 2, 2, 2, 2, 2], entry(ID)]),
             ("argument where none is named", [entry(ID), entry(FAIL, 1)]), ("PATH 0", [entry(PATH, 0, 1), entry(ID)]),
-            ("PATH 7", [entry(PATH, 7, 1), entry(ID)]), ("variable 32", [entry(ID), entry(PVAR, 32)]),
+            ("PATH 7", [entry(PATH, 7, 1), entry(ID)]), ("variable 64", [entry(ID), entry(PVAR, VARIABLES)]),
             ("constructor 65536", [entry(CONG, 65536)]), ("operand its own entry", [entry(ID), entry(TEST, 0, 1)]),
             ("operand below", [entry(ID), entry(TEST, 0, 0)]), ("operand past the table", [entry(TEST, 0, 1)]),
             ("strategy of a pattern", [entry(TEST, 0, 1), X]), ("MATCH of a strategy", [entry(MATCH, 0, 1), entry(ID)]),
@@ -98,16 +98,16 @@ def refusals():
     case("a bad node at the mark is no refusal", ok, [[1], [65536]], mark=1)
     for label, more in (("start past the table", dict(start=1)), ("start far past the table", dict(start=MOST)),
                         ("subject at the mark", dict(subject=3)), ("subject far above", dict(subject=MOST)),
-                        ("a binding one past the mark", dict(words=[(2, 31, 4)])), ("a binding far above", dict(words=[(2, 0, MOST)]))):
+                        ("a binding one past the mark", dict(words=[(2, 63, 4)])), ("a binding far above", dict(words=[(2, 0, MOST)]))):
         case("5 " + label, ok, THREE, **more)
     case("5 start a PVAR", [entry(ID), X], THREE, start=1)
     case("5 start a PCON", [entry(ID), entry(PCON, 1)], THREE, start=1)
     case("5 no nodes", ok, mark=0, slen=16)
     case("5 empty store", ok, mark=0, slen=0)
-    case("a binding of the last node is no refusal", ok, THREE, bound=[(31, 2)])
+    case("a binding of the last node is no refusal", ok, THREE, bound=[(63, 2)])
     case("2 before 3", bad, THREE, mark=4, slen=24)
-    case("2 before 4", ok, node, blen=31)
-    case("2 before 5", ok, THREE, blen=33, start=1)
+    case("2 before 4", ok, node, blen=32)
+    case("2 before 5", ok, THREE, blen=65, start=1)
     case("3 before 4", bad, node)
     case("3 before 5", bad, THREE, start=9)
     case("4 before 5", ok, node, start=9)
@@ -168,7 +168,7 @@ def children():
                              + [entry(PCON, 20 + j) for j in range(n)]),
                             ("PATH to the last", [entry(PATH, max(n, 1), 1), entry(BUILD, 0, 2), entry(PCON, 7)]),
                             ("MATCH of all", [entry(MATCH, 0, 1),
-                                entry(PCON, 9, *range(2, n + 2))] + [entry(PVAR, 31 - j) for j in range(n)]),
+                                entry(PCON, 9, *range(2, n + 2))] + [entry(PVAR, 63 - 7 * j) for j in range(n)]),
                             ("BUILD of all", [entry(BUILD, 0, 1),
                                 entry(PCON, 9, *range(2, n + 2))] + [entry(PCON, 30 + j) for j in range(n)])):
             case("%s, %d children" % (name, n), table, store, room=16)
@@ -215,8 +215,8 @@ def bindings():
     inner = [entry(SCOPE, 1, 1), entry(MATCH, 0, 2), X]
     case("SCOPE puts a bound variable back", inner, THREE, bound=[(0, 0)])
     case("SCOPE puts an unbound variable back", inner, THREE)
-    case("SCOPE of all variables", [entry(SCOPE, MOST, 1), entry(MATCH, 0, 2), entry(PCON, 5, 3, 4), X,
-         entry(PVAR, 31)], THREE, bound=[(0, 2), (31, 2), (7, 1)])
+    case("SCOPE of all variables", [entry(SCOPE, MASK, 1), entry(MATCH, 0, 2), entry(PCON, 5, 3, 4), X,
+         entry(PVAR, 63)], THREE, bound=[(0, 2), (63, 2), (7, 1)])
     case("SCOPE of none", [entry(SCOPE, 0, 1), entry(MATCH, 0, 2), X], THREE)
     case("SCOPE of none, bound", [entry(SCOPE, 0, 1), entry(MATCH, 0, 2), X], THREE, bound=[(0, 0)])
     case("SCOPE keeps other new bindings", [entry(SCOPE, 1, 1), entry(MATCH, 0, 2), entry(PCON, 5, 3, 4), X, Y],
@@ -250,6 +250,40 @@ def bindings():
          entry(PVAR, 31), entry(PCON, 65535, 3)], THREE)
 
 
+def both_halves():
+    """Variables and masks of both halves (wish 9)."""
+    def ends(label, table, answer, binds, bound, **more):
+        five, _, b = case("64 " + label, table, THREE, bound=bound, **more)
+        assert five[0] == answer and b == [dict(binds).get(v, -1) + 1 for v in range(VARIABLES)], (label, five, b)
+    for v in (0, 31, 32, 63):
+        other = v ^ 32
+        x, y = entry(PVAR, v), entry(PVAR, other)
+        # bound to its own word, and to no other's
+        ends("MATCH of %d" % v, [entry(MATCH, 0, 1), x], 0, [(v, 2)], [])
+        ends("MATCH of %d and %d" % (v, other), [entry(MATCH, 0, 1), entry(PCON, 5, 2, 3), x, y], 0, [(v, 0), (other, 1)], [])
+        ends("MATCH of %d bound to another" % v, [entry(MATCH, 0, 1), x], 1, [(v, 0)], [(v, 0)])
+        ends("MATCH of %d, and %d bound" % (v, other), [entry(MATCH, 0, 1), x], 0, [(v, 2), (other, 0)], [(other, 0)])
+        ends("BUILD of %d, and %d bound" % (v, other), [entry(BUILD, 0, 1), x], 12, [(other, 0)], [(other, 0)])
+        # a scope hides the variables of its mask, of both halves, and no others
+        for mask in (1 << v, 1 << other, 1 << v | 1 << other, MASK, MASK - (1 << v), MASK - (1 << other), 0):
+            for bound in ([], [(v, 0)], [(other, 0)], [(v, 0), (other, 0)]):
+                kept = dict(bound)
+                if mask >> v & 1 == 0:
+                    kept.setdefault(v, 2)
+                fails = mask >> v & 1 == 0 and v in dict(bound)
+                ends("SCOPE %d around %d with %s" % (mask, v, "-".join(str(p[0]) for p in bound) or "none"),
+                     [entry(SCOPE, mask, 1), entry(MATCH, 0, 2), x], int(fails), bound if fails else kept, bound)
+        # and puts them back where it fails
+        ends("a failed SCOPE of %d" % v, [entry(LEFT, 0, 1, 5), entry(SCOPE, MASK, 2), entry(SEQ, 0, 3, 4), entry(MATCH, 0, 6), entry(FAIL), entry(ID),
+             entry(PCON, 5, 7, 8), x, y], 0, [(v, 2), (other, 2)], [(v, 2), (other, 2)])
+    # the scope's operand is word 3; word 2 is the mask's upper half
+    ends("SCOPE with its operand in word 2", [[257, 3, 1, 0, 0, 0, 0, 0], entry(MATCH, 0, 2), X], 15, [], [])
+    for word in range(4, 8):
+        ends("SCOPE with word %d" % word, [[257, 3, 9, 1, *[int(k == word) for k in range(4, 8)]], entry(ID)], 17, [], [])
+    for word in (1, 2):
+        ends("SCOPE with word %d full" % word, [[257, *[MOST * (k == word) for k in (1, 2)], 1], entry(ID)], 0, [], [])
+
+
 def unbound():
     """A build without its binding ends the run with 12 and the variable as its place (wish 3)."""
     def ends(label, table, answer, place, used, store=THREE, mark=3, subject=2, **more):
@@ -257,9 +291,9 @@ def unbound():
         assert five == [answer, place, subject, mark, used], (label, five)
         assert words[:24] == sum(([*row, *[0] * (8 - len(row))] for row in store[:3]), []), label
         assert answer == 0 or not any(words[8 * mark:]), label
-        assert answer == 0 or b == [dict(more.get("bound", ())).get(v, -1) + 1 for v in range(32)], label
+        assert answer == 0 or b == [dict(more.get("bound", ())).get(v, -1) + 1 for v in range(VARIABLES)], label
     seven = [entry(BUILD, 0, 2), entry(PVAR, 7), entry(ID)]
-    for v in (0, 1, 7, 31):
+    for v in (0, 1, 7, 31, 32, 63):
         ends("at variable %d" % v, [entry(BUILD, 0, 1), entry(PVAR, v)], 12, v, 2)
     ends("at a variable far down, and not its entry", [entry(BUILD, 0, 1), entry(PCON, 4, 2), entry(PCON, 4, 3), entry(PVAR, 9)], 12, 9, 4)
     for kind, argument, operands in (
@@ -493,7 +527,7 @@ def random_jobs():
         units = rng.choice((5, 8, 12, 20, 40, 400, 400, 400, 5000))
         slen = 8 * (mark + rng.choice((0, 1, 2, 4, 8)))
         bound = [(v, rng.randrange(mark)) for v in range(3) if rng.random() < 0.3]
-        b = [dict(bound).get(v, -1) + 1 for v in range(32)]
+        b = [dict(bound).get(v, -1) + 1 for v in range(VARIABLES)]
         t = [w for row in table for w in row + [0] * (8 - len(row))]
         s = [w for row in store for w in row + [0] * (8 - len(row))] + [MOST] * (slen - 8 * mark)
         five, _, after = run(t, s, b, mark, 0, mark - 1, units)
@@ -526,5 +560,5 @@ def orderings():
 
 
 def write():
-    for part in (small_runs, refusals, needed, children, bindings, unbound, misses, limits, deep, full, orderings, random_jobs):
+    for part in (small_runs, refusals, needed, children, bindings, both_halves, unbound, misses, limits, deep, full, orderings, random_jobs):
         part()

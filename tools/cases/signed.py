@@ -2,12 +2,12 @@
 import random
 
 from lend import add, lend, memory, rows_of, say
-from model import ALL, BUILD, CHOICE, CONG, FAIL, ID, MATCH, MOST, ONE, PATH, PCON, PVAR, SEQ, SOME, entry, run
+from model import ALL, BUILD, CHOICE, CONG, FAIL, ID, MATCH, MOST, ONE, PATH, PCON, PVAR, SEQ, SOME, VARIABLES, entry, run
 
 U = 7
 
 
-def case(label, table, store, signature, *, mark=None, room=None, start=0, subject=None, units=1000, blen=32, bound=(), words=(),
+def case(label, table, store, signature, *, mark=None, room=None, start=0, subject=None, units=1000, blen=VARIABLES, bound=(), words=(),
          length=None, rest=U, tlen=None, slen=None, fill=1):
     """signature: its first words; length: how many it has, those after the first being `rest`."""
     mark = len(store) if mark is None else mark
@@ -53,7 +53,7 @@ def obeyed():
         case("signed %d" % kind, [entry(kind, 0, 1), entry(ID)], STORE, SMALL)
     case("signed PATH", [entry(PATH, 2, 1), entry(ID)], STORE, SMALL)
     case("signed build of a constant", [entry(BUILD, 0, 1), entry(PCON, 1)], STORE, SMALL)
-    case("signed with bindings", [entry(MATCH, 0, 1), entry(PVAR, 4)], STORE, SMALL, bound=[(31, 0)])
+    case("signed with bindings", [entry(MATCH, 0, 1), entry(PVAR, 4)], STORE, SMALL, bound=[(63, 0)])
     case("a node above the mark disobeys", SAME, [[1], [2], [9]], SMALL, mark=2)
     case("an empty signature and no node", SAME, [], [], mark=0)
     case("no words but declared zero", SAME, [[0]], [0])
@@ -100,7 +100,7 @@ def refused():
     no("13 before 4 and 10", 13, 0, [[16 * 20], entry(PCON, 1)], STORE, [U], words=bad)
     no("17 before 10 in one entry", 17, 0, [[16 * CONG, 3, 1]], STORE, SMALL)
     no("2 before 13", 2, 0, [[16 * 20]], STORE, [8], words=bad)
-    no("2 of the bindings", 2, 0, SAME, STORE, SMALL, blen=31)
+    no("2 of the bindings", 2, 0, SAME, STORE, SMALL, blen=63)
     no("2 of the mark", 2, 0, SAME, [], SMALL, mark=4, slen=24)
     no("5 a binding above the mark", 5, 0, SAME, STORE, SMALL, bound=[(3, 3)])
     no("5 a subject at the mark", 5, 0, SAME, STORE, SMALL, subject=3)

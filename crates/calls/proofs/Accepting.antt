@@ -459,7 +459,8 @@ module _ (W : ℕ) where
     pub refused-node : (p : ℕ) → (verdictWith ≡ checked 4 p) ↔ (AllFit × (EntriesGood W i × Lowest (goodNode (i .store)) (i .mark) p))
     refused-node p =
         under (past-table 4 p (λ e. omega (arith, e)) (omega arith))
-        (λ z. within (λ x. let f = decides store-test afterStore 4 p (store-tested (z .0)) (λ h. entries-not 4 (λ e. omega (arith, e)) (λ e. omega (arith, e)) (λ e. omega (arith, e)) (λ e. omega (arith, e))) in
+        (λ z. within (λ x. let f = decides store-test afterStore 4 p (store-tested (z .0))
+        (λ h. entries-not 4 (λ e. omega (arith, e)) (λ e. omega (arith, e)) (λ e. omega (arith, e)) (λ e. omega (arith, e))) in
         (λ e. f .0 e .1, λ y. f .1 (refl, y))))
 
     pub refused-ten : (p : ℕ) → (verdictWith ≡ checked 10 p) ↔ (AllFit × (EntriesGood W i × (NodesGood i × EntryDisobeys g i 10 p)))
@@ -560,7 +561,13 @@ module _ (W : ℕ) where
           let y = zero-else (storeChecked (i .store) (i .mark)) _ (x .1) in
           let z = zero-else (entriesTest g i) (nodesTest g i) (sym (answer-of (obeyed-in-turn g i)) ∙ y .1) in (
             all-plain g i .0 q,
-            (tablePasses W (i .table) .0 (x .0) .1, (storePasses (i .store) (i .mark) .0 (y .0) .1, (zero-passes (entries-test g i) (entries-tested g i) (z .0), zero-passes (nodes-test g i) (nodes-tested g i) (z .1)))),
+            (
+              tablePasses W (i .table) .0 (x .0) .1,
+              (
+                storePasses (i .store) (i .mark) .0 (y .0) .1,
+                (zero-passes (entries-test g i) (entries-tested g i) (z .0), zero-passes (nodes-test g i) (nodes-tested g i) (z .1)),
+              ),
+            ),
           )
       go false q e = absurd (omega arith)
 

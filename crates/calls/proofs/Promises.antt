@@ -204,7 +204,8 @@ module _ (W : ℕ) where
 
     unplaced : o .answer ≢ 1 → o .answer ≢ 4 → o .answer < 12 → o .place ≡ 0
     unplaced f m n =
-        ⊎-elim (λ a. let e = came i o s b p a in ap (λ (r : Returned). r .place) e ∙ ran-place i (ranBy W places nowhere i) (λ z. f (ap (λ (r : Returned). r .answer) e ∙ z)) (omega (arith, ap (λ (r : Returned). r .answer) e)))
+        ⊎-elim (λ a. let e = came i o s b p a in ap (λ (r : Returned). r .place) e ∙ ran-place i (ranBy W places nowhere i) (λ z. f (ap (λ (r : Returned). r .answer) e ∙ z))
+        (omega (arith, ap (λ (r : Returned). r .answer) e)))
         (λ z. let w : atReturn o s b ≡ refusing i (verdict W i) = refused-came i o s b p z in
         let x : o .answer ≡ verdict W i .answer = ap (λ (r : Returned). r .answer) w in
         ap (λ (r : Returned). r .place) w ∙ accepting.verdict-placed W i (λ e. m (x ∙ e)) (omega (arith, x)))
@@ -340,7 +341,8 @@ module _ (W : ℕ) where
       unfolding value meant
       none-left k b s u e v l =
           let d = meant-demands.demand-2 W ℕ places nowhere i a (value (ended k b s u)) .0 (ap value e) in
-          let n = meant-demands.outside-free (tableBy W (i .table)) (i .start) _ _ _ _ (d .0) v (λ f. omega (arith, free-below W variable (i .table) (tablePasses W (i .table) .0 (ap (λ (c : Checked). c .answer) (a .table))) (i .start) v (a .inside, a .strategy) f)) in
+          let n = meant-demands.outside-free (tableBy W (i .table)) (i .start) _ _ _ _ (d .0) v
+          (λ f. omega (arith, free-below W variable (i .table) (tablePasses W (i .table) .0 (ap (λ (c : Checked). c .answer) (a .table))) (i .start) v (a .inside, a .strategy) f)) in
           unbound (s .words) (b v) (n ∙ none-given v l)
 
       -- the terms of a done run are not among the words that are set to zero
@@ -447,7 +449,8 @@ module _ (W : ℕ) where
     unbound-said T g q i x (cut (without-binding v) l u) h e s = (v, s .0)
 
     -- what answers 1 has the place that was noted of its derivation
-    placed-by : (i : Input) (o : Outcome) (s b : List ℕ) (r : Ran ℕ) → atReturn o s b ≡ returnedBy W i r → o .answer ≡ 1 → (T : Table) (g : Given) (q : Visit Term) → Says places nowhere T g q (value r)
+    placed-by : (i : Input) (o : Outcome) (s b : List ℕ) (r : Ran ℕ) → atReturn o s b ≡ returnedBy W i r → o .answer ≡ 1 → (T : Table) (g : Given) (q : Visit Term)
+        → Says places nowhere T g q (value r)
         → (d : T ⊢ q ⇒ failed) × (o .place ≡ noted places (trace d) nowhere)
     unfolding returnedBy value number noted shut
     placed-by i o s b (ended k c w u) e z T g q h = absurd (omega (arith, ap (λ (r : Returned). r .answer) e, z))

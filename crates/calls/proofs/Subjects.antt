@@ -66,7 +66,8 @@ module _ (W : ℕ) where
   none-to-run g c r rs s p z l =
       let w = ran-in-turn g c r rs s p z in
       let γ = given W g c (w .0) .0 in
-      let q : manyAtReturn r rs s ≡ record { answer = 0; place = 0; results = []; store = c .store } = w .1 ∙ ap (λ (ks : List ℕ). afterTurns (inTurnBy W g c (c .store) (c .mark) ks)) (none-left (c .subjects) l) in (
+      let q : manyAtReturn r rs s ≡ record { answer = 0; place = 0; results = []; store = c .store } = w .1 ∙ ap (λ (ks : List ℕ). afterTurns (inTurnBy W g c (c .store) (c .mark) ks))
+      (none-left (c .subjects) l) in (
         ap (λ (x : ManyReturned). x .place) q,
         ap (λ (x : ManyReturned). x .results) q ∙ sym (none-left (c .results) (omega (arith, γ .results))),
         ap (λ (x : ManyReturned). x .store) q,

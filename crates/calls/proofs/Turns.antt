@@ -169,7 +169,8 @@ module _ (W : ℕ) where
         cleared-same p,
       )
         where
-          done-obeyed : (g : Option (List ℕ)) → EntriesObey W g (single c w m k) → NodesObey W g (single c w m k) → (x u : ℕ) (b : Bindings ℕ) (t : _) → ranBy W places nowhere (single c w m k) ≡ ended x b t u
+          done-obeyed : (g : Option (List ℕ)) → EntriesObey W g (single c w m k) → NodesObey W g (single c w m k) → (x u : ℕ) (b : Bindings ℕ) (t : _) → ranBy W places nowhere
+              (single c w m k) ≡ ended x b t u
               → NodesObey W g (single c (t .words) (t .mark) 0)
           done-obeyed none y z x u b t e = tt
           done-obeyed (some g) y z x u b t e = above.obeyed W ℕ places nowhere (single c w m k) g (accepted-single here k l) y z x u b t e
@@ -187,7 +188,8 @@ module _ (W : ℕ) where
           let x : runWithBy W g (single c s m k) ≡ returnedBy W (single c s m k) (ranBy W places nowhere (single c s m k)) = single-runs (stands-kept same here) k l in
           let n : r ≡ numbers k m (c .units) (ranBy W places nowhere (single c s m k)) = e ∙ same-numbers k m (c .units) q in
           let f : words r ≡ five (runWithBy W g (single c s m k)) = ap words n ∙ ran-numbers (single c s m k) (ranBy W places nowhere (single c s m k)) ∙ ap five (sym x) in
-          let h = left-words (ranBy W places nowhere (single c w m k)) (ranBy W places nowhere (single c s m k)) refl q (over-the-words W ℕ places nowhere (single c w m k) a .1) (over-the-words W ℕ places nowhere (single c s m k) b .1) in (
+          let h = left-words (ranBy W places nowhere (single c w m k)) (ranBy W places nowhere (single c s m k)) refl q (over-the-words W ℕ places nowhere (single c w m k) a .1)
+          (over-the-words W ℕ places nowhere (single c s m k) b .1) in (
             f,
             ap (λ (l : List ℕ). getD l 3 0) f,
             subst (λ (v : List ℕ). Stands g c v (r .mark)) (sym (w-is)) (subst (λ (o : Outcome). Stands g c (wordsOf (ranBy W places nowhere (single c w m k))) (o .mark)) (sym (e)) (h .0)),
@@ -291,7 +293,8 @@ module _ (W : ℕ) where
         record {
           few = omega arith;
           long = length-paste rs (5 * j) (words r) 5 room (omega arith) ∙ G .long;
-          wide = ap length w-is ∙ ran-long w m (ranBy W places nowhere (single c w m k)) (over-the-words W ℕ places nowhere (single c w m k) (accepted-single γ (G .stands) k (γ .subjects j l)) .1) ∙ G .wide;
+          wide = ap length w-is ∙ ran-long w m (ranBy W places nowhere (single c w m k))
+              (over-the-words W ℕ places nowhere (single c w m k) (accepted-single γ (G .stands) k (γ .subjects j l)) .1) ∙ G .wide;
           stands = t .2;
           kept = clearedFrom w′ (8 * r .mark);
           same = cleared-kept W w′ (r .mark) (r .mark) (omega arith);
@@ -362,10 +365,13 @@ module _ (W : ℕ) where
         let o : Ran ℕ = ranBy W places nowhere (single c w m k) in
         let a = accepted-single γ s k l in
         let v = over-the-words W ℕ places nowhere (single c w m k) a .1 in
-        let h = left-words γ w w m k s (kept-refl w m) l (ranBy W places nowhere (single c w m k)) (ranBy W places nowhere (single c w m k)) refl (above.above-mark W ℕ places nowhere (single c w m k) w a (kept-refl w m)) v v in
+        let h = left-words γ w w m k s (kept-refl w m) l (ranBy W places nowhere (single c w m k)) (ranBy W places nowhere (single c w m k)) refl
+        (above.above-mark W ℕ places nowhere (single c w m k) w a (kept-refl w m)) v v in
         let n : ℕ = numbers k m (c .units) (ranBy W places nowhere (single c w m k)) .mark in
         let x : runWithBy W g (single c w m k) ≡ returnedBy W (single c w m k) (ranBy W places nowhere (single c w m k)) = single-runs γ s k l in
-        let y : n ≡ runWithBy W g (single c w m k) .mark = ap (λ (l : List ℕ). getD l 3 0) (ran-numbers (single c w m k) (ranBy W places nowhere (single c w m k))) ∙ ap (λ (r : Returned). r .mark) (sym x) in
+        let y : n ≡ runWithBy W g (single c w m k) .mark = ap (λ (l : List ℕ). getD l 3 0) (ran-numbers (single c w m k) (ranBy W places nowhere (single c w m k))) ∙ ap
+        (λ (r : Returned). r .mark) (sym x) in
         let z : clearedFrom (wordsOf (ranBy W places nowhere (single c w m k))) (8 * n) ≡ runWithBy W g (single c w m k) .store = sym (ap (λ (r : Returned). r .store) x ∙ h .1) in
-        let b : Stands g c (clearedFrom (wordsOf (ranBy W places nowhere (single c w m k))) (8 * n)) n = stands-kept γ (cleared-kept W (wordsOf (ranBy W places nowhere (single c w m k))) n n (omega arith)) (h .0) in
+        let b : Stands g c (clearedFrom (wordsOf (ranBy W places nowhere (single c w m k))) (8 * n)) n = stands-kept γ
+        (cleared-kept W (wordsOf (ranBy W places nowhere (single c w m k))) n n (omega arith)) (h .0) in
         subst (λ (v : List ℕ). Stands g c v (runWithBy W g (single c w m k) .mark)) z (subst (λ (m′ : ℕ). Stands g c (clearedFrom (wordsOf (ranBy W places nowhere (single c w m k))) (8 * n)) m′) y b)

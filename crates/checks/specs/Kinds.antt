@@ -16,7 +16,7 @@ pub data Argument : Type 0 where
 
 -- the words of a scope's mask in the product
 abbrev pub ours : ℕ
-ours = 1
+ours = 2
 
 -- the number of variables
 abbrev pub variablesBy : ℕ → ℕ

@@ -5,7 +5,7 @@ ghost use Prim.Native.Nat.{_+_, _≤_, _<_};
 ghost use lib.ListN.{length};
 ghost use Rattle.words.specs.Tests.{rejected};
 ghost use Rattle.words.specs.Words.{rows};
-ghost use Rattle.checks.specs.Good.{countOf, argumentInBy, kindOf, operandCount, maskBy, argumentBy, operandBy, placedFor, sortedFor, operandsFaultBy, fault, goodEntry};
+ghost use Rattle.checks.specs.Good.{countOf, argumentFitsBy, kindOf, operandCount, maskBy, operandBy, placedFor, sortedFor, operandsFaultBy, fault, goodEntry};
 ghost use Rattle.checks.specs.Kinds as kinds;
 ghost use Rattle.checks.specs.Kinds.{ours, operandsFromBy};
 ghost use Rattle.checks.specs.Checked.{faultedBy, tableLengthFits, tableChecked};
@@ -20,7 +20,7 @@ use crate::kinds::operands_from;
 use crate::kinds::same;
 use crate::kinds::sort_of;
 use crate::kinds::takes;
-use crate::rows::zeros_from;
+use crate::rows::unused_zero;
 use words::word;
 
 // The kind of entry e.
@@ -37,22 +37,13 @@ pub fn operand_count(table: &[u32], e: u32) -> u32
     word(table, e, 0) % 16
 }
 
-// The mask of entry e, a SCOPE.
+// The mask of entry e, a SCOPE: word 1 is its low half and word 2 its high one.
 pub fn mask(table: &[u32], e: u32) -> u64
     ensures { λ r. ⌜ r ≡ maskBy ours (now (table .entry)) e ⌝ }
 {
-    word(table, e, 1) as u64
-}
-
-// The argument of entry e, of the kind k.
-fn argument(table: &[u32], e: u32, k: u32) -> u64
-    requires { ⌜ k ≡ kindOf (now table) e ⌝ }
-    ensures { λ r. ⌜ r ≡ argumentBy ours (now (table .entry)) e ⌝ }
-{
-    if k == SCOPE {
-        return mask(table, e);
-    }
-    word(table, e, 1) as u64
+    let low = word(table, e, 1) as u64;
+    let high = word(table, e, 2) as u64;
+    low + 4294967296 * high
 }
 
 // Operand i of entry e, whose operands begin at word `from`.
@@ -76,11 +67,15 @@ fn count_fits(k: u32, n: u32) -> bool
     n <= most(k)
 }
 
-// The argument a is in the range of the kind k, and zero where none is named.
-fn argument_fits(k: u32, a: u64) -> bool
-    requires { ⌜ k ≤ 19 ⌝ }
-    ensures { λ r. ⌜ r ≡ argumentInBy ours k a ⌝ }
+// The argument of entry e, of the kind k, is in its range, and zero where none is named. Any mask is in a SCOPE's.
+fn argument_fits(table: &[u32], e: u32, k: u32) -> bool
+    requires { ⌜ (k ≡ kindOf (now table) e) × (k ≤ 19) ⌝ }
+    ensures { λ r. ⌜ r ≡ argumentFitsBy ours (now (table .entry)) e ⌝ }
 {
+    if k == SCOPE {
+        return true;
+    }
+    let a = word(table, e, 1);
     if a < lowest_argument(k) {
         return false;
     }
@@ -148,14 +143,14 @@ pub fn entry_fault(table: &[u32], e: u32) -> u32
     if !count_fits(k, n) {
         return 13;
     }
-    if !argument_fits(k, argument(table, e, k)) {
+    if !argument_fits(table, e, k) {
         return 14;
     }
     let operands = operands_fault(table, e, k, n);
     if operands != 0 {
         return operands;
     }
-    if !zeros_from(table, e, operands_from(k) + n) {
+    if !unused_zero(table, e, operands_from(k) + n - 2) {
         return 17;
     }
     0

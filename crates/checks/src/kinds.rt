@@ -1,5 +1,6 @@
 // The twenty kinds: constant tables of document 01's chapter "The strategy table", and the sort of an entry.
 ghost use mathlib.Core.Path.{_≡_};
+ghost use mathlib.Core.Logic.{_≢_};
 ghost use Prim.Native.Nat.{_≤_};
 ghost use Rattle.checks.specs.Kinds.{kind, ours, lowest, highestBy, operandsFromBy, sortOf};
 ghost use Rattle.checks.specs.Kinds as table;
@@ -46,7 +47,7 @@ pub const PVAR: u32 = 18;
 pub const PCON: u32 = 19;
 
 // The number of variables.
-pub const VARIABLES: usize = 32;
+pub const VARIABLES: usize = 64;
 
 // What an entry may be used as. A kind above 19 has no sort.
 pub enum Sort {
@@ -62,10 +63,10 @@ const LEAST: [u32; 20] = [0, 0, 1, 1, 2, 2, 2, 1, 1, 1, 0, 1, 1, 1, 1, 1, 1, 1, 
 const MOST: [u32; 20] = [0, 0, 1, 1, 2, 2, 2, 1, 1, 1, 6, 1, 1, 1, 1, 1, 1, 1, 0, 6];
 
 // The least argument of each kind: PATH's alone is not 0.
-const LOWEST: [u64; 20] = [0, 0, 0, 0, 0, 0, 0, 0, 0, 1, 0, 0, 0, 0, 0, 0, 0, 0, 0, 0];
+const LOWEST: [u32; 20] = [0, 0, 0, 0, 0, 0, 0, 0, 0, 1, 0, 0, 0, 0, 0, 0, 0, 0, 0, 0];
 
-// The greatest argument of each kind; 0 where none is named.
-const HIGHEST: [u64; 20] = [
+// The greatest argument of each kind; 0 where none is named, and for SCOPE, whose mask has no greatest: it is any.
+const HIGHEST: [u32; 20] = [
     0,
     0,
     0,
@@ -82,14 +83,11 @@ const HIGHEST: [u64; 20] = [
     0,
     0,
     0,
-    4294967295,
     0,
-    31,
+    0,
+    63,
     65535,
 ];
-
-// The word at which the operands of each kind begin: after word 0 and the argument, which is a SCOPE's mask and otherwise one word.
-const OPERANDS_FROM: [u32; 20] = [2, 2, 2, 2, 2, 2, 2, 2, 2, 2, 2, 2, 2, 2, 2, 2, 2, 2, 2, 2];
 
 // The sort of the operands of each kind: MATCH, BUILD and PCON take patterns.
 const TAKES: [Sort; 20] = [
@@ -132,27 +130,26 @@ pub(crate) fn most(k: u32) -> u32
 }
 
 // The least argument of the kind k.
-pub(crate) fn lowest_argument(k: u32) -> u64
+pub(crate) fn lowest_argument(k: u32) -> u32
     requires { ⌜ k ≤ 19 ⌝ }
     ensures { λ r. ⌜ r ≡ lowest (kind k .argument) ⌝ }
 {
     LOWEST[k as usize]
 }
 
-// The greatest argument of the kind k.
-pub(crate) fn highest_argument(k: u32) -> u64
-    requires { ⌜ k ≤ 19 ⌝ }
+// The greatest argument of the kind k, which is not SCOPE.
+pub(crate) fn highest_argument(k: u32) -> u32
+    requires { ⌜ (k ≤ 19) × (k ≢ 16) ⌝ }
     ensures { λ r. ⌜ r ≡ highestBy ours (kind k .argument) ⌝ }
 {
     HIGHEST[k as usize]
 }
 
-// The word at which the operands of the kind k begin.
+// The word at which the operands of the kind k begin: after word 0 and the argument, which is two words for a SCOPE and else one.
 pub fn operands_from(k: u32) -> u32
-    requires { ⌜ k ≤ 19 ⌝ }
     ensures { λ r. ⌜ r ≡ operandsFromBy ours k ⌝ }
 {
-    OPERANDS_FROM[k as usize]
+    if k == SCOPE { 3 } else { 2 }
 }
 
 // The sort of the operands of the kind k.

@@ -10,7 +10,7 @@ use crate::Checked;
 use crate::Found;
 use crate::answered;
 use crate::rows::held;
-use crate::rows::zeros_from;
+use crate::rows::unused_zero;
 use words::word;
 
 // The n children of node k are below it.
@@ -42,7 +42,7 @@ pub fn node_fits(store: &[u32], k: u32) -> bool
     if !children_below(store, k, n) {
         return false;
     }
-    zeros_from(store, k, 2 + n)
+    unused_zero(store, k, n)
 }
 
 // The lowest bad node below the mark.

@@ -1,6 +1,7 @@
 // What a collection refuses, in document 01's order: 2, 4, 5. Nothing is written here.
 use checks::Checked;
 use checks::bindings::bindings_below;
+use checks::kinds::VARIABLES;
 use checks::nodes::check_store;
 use checks::nodes::store_length_fits;
 ghost use mathlib.Core.Path.{_≡_};
@@ -15,7 +16,7 @@ fn sizes_fit(store: &[u32], bindings: &[u32], work: &[u32], mark: u32, subject: 
     if !store_length_fits(store.len()) {
         return false;
     }
-    if bindings.len() != 32 {
+    if bindings.len() != VARIABLES {
         return false;
     }
     if store.len() / 8 < mark as usize {

@@ -18,7 +18,7 @@ use Rattle.leaves.specs.Visits.{plan, ruled, countOf, agreeing, Entries, Gives}
 use Rattle.cycle.specs.Cycle.{Counted, walked, Ready}
 use Rattle.leaves.proofs.AnswerWords.{gave-failed}
 use Rattle.leaves.proofs.Children.{part-length}
-use Rattle.leaves.proofs.Holding.{framed-refl}
+use Rattle.leaves.proofs.Holding.{further, framed-refl}
 use Rattle.leaves.proofs.Walking.{failing}
 use Rattle.cycle.proofs.Ruling.{ruled-cong}
 
@@ -40,7 +40,7 @@ module _ {t w st : List ℕ} {e s : ℕ} (n : ℕ) (ready : Ready t w st e s) (h
   unfolding when
   gives-cong-failed {r} q p = record {
     is = gave-failed st w r (unitsIn s) p (omega arith) ∙ sym (rule (not-true a q) ∙ failing t n w (standing st) (unitsIn s));
-    frame = framed-refl st;
+    frame = framed-refl further st;
   }
 
   pub gives-cong : {r : ℕ} {st′ w′ : List ℕ} → not a ≡ false → Gives (plan t n (walked t w e (nodeIn s) (held st)) w (standing st) (unitsIn s)) st r st′ w′
@@ -50,4 +50,4 @@ module _ {t w st : List ℕ} {e s : ℕ} (n : ℕ) (ready : Ready t w st e s) (h
 
   -- an operand for each child
   pub cong-counted : not a ≡ false → Counted t w e (nodeIn s)
-  cong-counted q z = agreed-count t w e (nodeIn s) (sym ae ∙ not-false a q)
+  cong-counted q = (λ z. omega (arith, h, z), λ z. agreed-count t w e (nodeIn s) (sym ae ∙ not-false a q))

@@ -13,6 +13,7 @@ use Rattle.checks.specs.Good.{kindOf}
 use Rattle.meaning.specs.Bindings.{Bindings}
 use Rattle.meaning.specs.Rules.{apply}
 use Rattle.leaves.specs.Visits.{visit, Entries}
+use Rattle.leaves.proofs.Patterns.{operand-below}
 use Rattle.cycle.specs.Cycle.{Hinted, Leads, VisitsAhead, entryAhead, operandFor}
 
 -- no visit leads nowhere else
@@ -53,10 +54,10 @@ module _ {t : List ℕ} {e : ℕ} where
       go false false p q = rw (fe, q) (l .leads (eqb-false n 0 q))
 
   -- such an entry is one of the table
-  pub leads-inside : {x first : ℕ} (n κ i : ℕ) → Entries t → e < 4096 → i < 6 → first ≡ entryAhead t e n → x ≡ (if eqb κ 10 then wordAt t e (2 + i) else first) → x < 4096
-  leads-inside {x} {first} n κ i en l j fe xe = rw (xe, fe) (go (eqb κ 10) (eqb n 0))
+  pub leads-inside : {x first : ℕ} (n κ i : ℕ) → Entries t → e < 4096 → (kindOf t e ≡ 16 → ⊥) → i < 6 → first ≡ entryAhead t e n → x ≡ (if eqb κ 10 then wordAt t e (2 + i) else first) → x < 4096
+  leads-inside {x} {first} n κ i en l other j fe xe = rw (xe, fe) (go (eqb κ 10) (eqb n 0))
     where
       go : (y z : Bool) → (if y then wordAt t e (2 + i) else if z then wordAt t e 2 else wordAt t e 4) < 4096
-      go true z = en .operand e i l j
-      go false true = en .operand e 0 l (omega arith)
-      go false false = en .operand e 2 l (omega arith)
+      go true z = operand-below t en e i l other j
+      go false true = operand-below t en e 0 l other (omega arith)
+      go false false = operand-below t en e 2 l other (omega arith)

@@ -29,7 +29,8 @@ use Rattle.cycle.specs.Cycle.{Ready}
 use Rattle.leaves.proofs.AnswerWords.{node-packed, units-packed, gave-failed, failed-few, attempt-done, attempt-failed, attempt-cut}
 use Rattle.leaves.proofs.Asking.{Tagged, goes-on, caught, cut-off, not-done}
 use Rattle.leaves.proofs.Keeping.{apply-leaves, steady-kept, steady-after, roomy, leaves-done, leaves-failed}
-use Rattle.leaves.proofs.Holding.{held-back, mark-back, miss-back, framed-back, length-back, framed-refl, framed-trans}
+use Rattle.leaves.proofs.Patterns.{operand-below}
+use Rattle.leaves.proofs.Holding.{further, held-back, mark-back, miss-back, framed-back, length-back, framed-refl, framed-trans}
 use Rattle.leaves.proofs.Children.{six-at, part-length, part-next, part-end}
 use Rattle.leaves.proofs.Walking.{failing}
 use Rattle.cycle.proofs.Ruling.{ruled-path, ruled-one}
@@ -99,7 +100,7 @@ module _ {t w st : List ℕ} {e s i : ℕ} (n : ℕ) (ready : Ready t w st e s) 
   unfolding given
   no-child q {r} p = record {
     is = gave-failed st w r (unitsIn s) p (omega arith) ∙ sym (picks (wordAt t e 2) refl q ∙ failing t n w (standing st) (unitsIn s));
-    frame = framed-refl st;
+    frame = framed-refl further st;
   }
 
   pub gives-path-zero : {r : ℕ} → i ≡ 0 → r ≡ failedWord (unitsIn s) → Returns r st w
@@ -133,7 +134,7 @@ module _ {t w st : List ℕ} {e s i : ℕ} (n : ℕ) (ready : Ready t w st e s) 
       units-as = ap unitsIn ge ∙ units-packed y (unitsIn s) (omega arith)
 
       pub ready-path : Ready t w st x g
-      ready-path = record { entries = ready .entries; hints = ready .hints; long = ready .long; inside = rw xe (ready .entries .operand e 0 (ready .inside) (omega arith)); steady = ready .steady; subject = rw node-as below }
+      ready-path = record { entries = ready .entries; hints = ready .hints; long = ready .long; inside = rw xe (operand-below t (ready .entries) e 0 (ready .inside) (λ z. omega (arith, h, z)) (omega arith)); steady = ready .steady; subject = rw node-as below }
 
       asks : ruled t n e (nodeIn s) (held st) w (standing st) (unitsIn s)
           ≡ plan t n (ask keep (apply x y (held st)) (λ z c. again (nodeIn s) (constructorOf w (nodeIn s)) (put (children w (nodeIn s)) i z) c) fail) w (standing st) (unitsIn s)
@@ -158,7 +159,7 @@ module _ {t w st : List ℕ} {e s i : ℕ} (n : ℕ) (ready : Ready t w st e s) 
               ∙ remade (ready .steady) (ready .subject) has-child t n z v st′ (kept-done (ready .steady) (ready .entries) n x y (unitsIn s) below (missOf st) got st′ w′ is read q) we
               ∙ ap (λ j. noded (set was j z) st′ w′ v) (sym place)
               );
-          frame = framed-trans st st′ st″ (gives .frame) (made .frame);
+          frame = framed-trans further st st′ st″ (gives .frame) (made .frame);
         }
 
 -- the mark of the start, with what was noted since
@@ -202,7 +203,7 @@ module _ {t w₀ st₀ : List ℕ} {e s : ℕ} (n : ℕ) (ready : Ready t w₀ s
     steady = ready .steady;
     mark = refl;
     holds = refl;
-    frame = framed-refl st₀;
+    frame = framed-refl further st₀;
     wide = refl;
     long = refl;
     count = ce;
@@ -231,12 +232,12 @@ module _ {t w₀ st₀ : List ℕ} {e s : ℕ} (n : ℕ) (ready : Ready t w₀ s
       units-is : unitsIn g ≡ u
       units-is = ap unitsIn ge ∙ units-packed y u (turn .few)
 
-      pub ready-one : x ≡ wordAt t e 2 → Ready t w st x g
-      ready-one xe = record {
+      pub ready-one : kindOf t e ≡ 12 → x ≡ wordAt t e 2 → Ready t w st x g
+      ready-one h xe = record {
         entries = ready .entries;
         hints = ready .hints;
         long = turn .wide ∙ ready .long;
-        inside = rw xe (ready .entries .operand e 0 (ready .inside) (omega arith));
+        inside = rw xe (operand-below t (ready .entries) e 0 (ready .inside) (λ z. omega (arith, h, z)) (omega arith));
         steady = rw (turn .mark, turn .holds) (turn .steady);
         subject = rw (node-is, turn .mark) below-mark;
       }
@@ -255,7 +256,7 @@ module _ {t w₀ st₀ : List ℕ} {e s : ℕ} (n : ℕ) (ready : Ready t w₀ s
         was = gives .is ∙ (λ z. visit t n (apply x (node-is z) (turn .holds z)) w (at (turn .mark z) (missOf st)) (units-is z))
 
         framed : Framed st₀ st′
-        framed = framed-trans st₀ st st′ (turn .frame) (gives .frame)
+        framed = framed-trans further st₀ st st′ (turn .frame) (gives .frame)
 
         wide′ : length st′ ≡ length st₀
         wide′ = gives .frame .long ∙ turn .wide
@@ -286,7 +287,7 @@ module _ {t w₀ st₀ : List ℕ} {e s : ℕ} (n : ℕ) (ready : Ready t w₀ s
                 ∙ ap (λ gs. plan t n (again (nodeIn s) (constructorOf w (nodeIn s)) gs (held st′)) w′ (standing st′) v) (set-next w (nodeIn s) i has-next z)
                 ∙ remade (turn .steady) (ready .subject) has-next t n z v st′ (kept-done (turn .steady) (ready .entries) n x y u below-mark (missOf st) got st′ w′ was refl (did p)) we
                 ) ∙ asks-next;
-            frame = framed-trans st₀ st′ st″ framed (made .frame);
+            frame = framed-trans further st₀ st′ st″ framed (made .frame);
           }
 
           -- mark and mask are put back, and the next child is tried
@@ -297,13 +298,13 @@ module _ {t w₀ st₀ : List ℕ} {e s : ℕ} (n : ℕ) (ready : Ready t w₀ s
               let con = kept-constructor kept (nodeIn s) (ready .subject) in
               record {
                 steady = steady-kept (turn .steady) kept;
-                mark = mark-back st₀ st′ long′;
-                holds = held-back st₀ st′ long′ framed;
-                frame = framed-back st₀ st′ long′ framed;
-                wide = length-back st₀ st′ long′ ∙ sym (ready .long);
+                mark = mark-back further st₀ st′ long′;
+                holds = held-back further st₀ st′ long′ framed;
+                frame = framed-back further st₀ st′ long′ framed;
+                wide = length-back further st₀ st′ long′ ∙ sym (ready .long);
                 long = kept .long ∙ turn .long;
                 count = turn .count ∙ sym (kept-count kept (nodeIn s) (ready .subject));
                 few = failed-few got v (answerOf got) refl (did-not p);
-                rest = (λ j. plan t n (oneOf x (take (i + 1) (kids j)) (drop (i + 1) (kids j)) (held st₀) (again (nodeIn s) (con j))) w′ (at (markOf st₀) (miss-back st₀ st′ long′ j)) v)
+                rest = (λ j. plan t n (oneOf x (take (i + 1) (kids j)) (drop (i + 1) (kids j)) (held st₀) (again (nodeIn s) (con j))) w′ (at (markOf st₀) (miss-back further st₀ st′ long′ j)) v)
                     ∙ sym (caught t n w (tried st₀ st) u _ got st′ w′ was (answerOf got) refl keep follows others v (did-not p)) ∙ asks-next;
               }

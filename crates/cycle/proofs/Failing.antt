@@ -8,7 +8,8 @@ use native.Mathlib.Omega.{arith}
 use lib.Dec.{eqb}
 use borrow.Author.Tests.{eqb-true, eqb-false}
 use Rattle.words.specs.Words.{wordAt}
-use Rattle.checks.specs.Good.{kindOf, argumentOf}
+use Rattle.checks.specs.Kinds.{ours}
+use Rattle.checks.specs.Good.{kindOf, maskBy}
 use Rattle.meaning.specs.Bindings.{Bindings, unbound, masked}
 use Rattle.meaning.specs.Plan.{keep, ret, fail, ask}
 use Rattle.meaning.specs.Rules.{apply, Do}
@@ -19,12 +20,13 @@ use Rattle.cycle.specs.Cycle.{Hinted, VisitsToFailure}
 use Rattle.leaves.proofs.Asking.{ask-failed}
 use Rattle.leaves.proofs.Walking.{failing}
 use Rattle.leaves.proofs.Kind.{applied}
+use Rattle.leaves.proofs.Patterns.{operand-below}
 use Rattle.cycle.proofs.Ruling.{ruled-match, ruled-seq, ruled-scope}
 use Rattle.leaves.proofs.Matching.{differs}
 
 -- a first operand is an entry
-pub operand-inside : {t : List ℕ} {q x : ℕ} → Entries t → q < 4096 → x ≡ wordAt t q 2 → x < 4096
-operand-inside {q = q} en inside e = rw e (en .operand q 0 inside (omega arith))
+pub operand-inside : {t : List ℕ} {q x : ℕ} → Entries t → q < 4096 → (kindOf t q ≡ 16 → ⊥) → x ≡ wordAt t q 2 → x < 4096
+operand-inside {t} {q} en inside other e = rw e (operand-below t en q 0 inside other (omega arith))
 
 module _ {t w : List ℕ} {q k p : ℕ} where
   -- nothing is known
@@ -44,13 +46,13 @@ module _ {t w : List ℕ} {q k p : ℕ} where
           let s : u - 1 - 1 ≡ u - 2 = omega arith in
           applied t d q k b w m u (λ z. omega arith) (λ z. omega arith)
           ∙ ruled-match t (d - 1) q k b w m (u - 1) p e h
-          ∙ differs t (d - 1) p k b w m (u - 1) (λ z. omega arith) (λ z. omega arith) en (operand-inside en inside e) g a
+          ∙ differs t (d - 1) p k b w m (u - 1) (λ z. omega arith) (λ z. omega arith) en (operand-inside en inside (λ z. omega (arith, h, z)) e) g a
           ∙ ap (λ v. lost (leftOf w (missedAt p m)) v) s;
     };
   }
 
   -- the operand x fails after n visits, and nothing catches that
-  module _ {x n most : ℕ} (xe : x ≡ wordAt t q 2) (skips : VisitsToFailure t w x k p most n) (some : n ≡ 0 → ⊥) where
+  module _ {x n most : ℕ} (skips : VisitsToFailure t w x k p most n) (some : n ≡ 0 → ⊥) where
     asked : (c : Bindings ℕ → Bindings ℕ) (f : Bindings ℕ → ℕ → Bindings ℕ → Do ℕ)
         → ((b : Bindings ℕ) (m : Standing) (d u : ℕ) → ruled t d q k b w m u ≡ plan t d (ask keep (apply x k (c b)) (f b) fail) w m u) → VisitsToFailure t w q k p (most + 1) (n + 1)
     asked c f rule = record {
@@ -66,11 +68,11 @@ module _ {t w : List ℕ} {q k p : ℕ} where
       };
     }
 
-    pub seq-fails : kindOf t q ≡ 4 → VisitsToFailure t w q k p (most + 1) (n + 1)
-    seq-fails h = asked (λ b. b) (λ b g c. ask keep (apply (wordAt t q 3) g c) ret fail) (λ b m d u. ruled-seq t d q k b w m u x xe (wordAt t q 3) refl h)
+    pub seq-fails : x ≡ wordAt t q 2 → kindOf t q ≡ 4 → VisitsToFailure t w q k p (most + 1) (n + 1)
+    seq-fails xe h = asked (λ b. b) (λ b g c. ask keep (apply (wordAt t q 3) g c) ret fail) (λ b m d u. ruled-seq t d q k b w m u x xe (wordAt t q 3) refl h)
 
-    pub scope-fails : kindOf t q ≡ 16 → VisitsToFailure t w q k p (most + 1) (n + 1)
-    scope-fails h = asked (λ b. masked (argumentOf t q) unbound b) (λ b g c. ret g (masked (argumentOf t q) b c)) (λ b m d u. ruled-scope t d q k b w m u x xe (argumentOf t q) refl h)
+    pub scope-fails : x ≡ wordAt t q (1 + ours) → kindOf t q ≡ 16 → VisitsToFailure t w q k p (most + 1) (n + 1)
+    scope-fails xe h = asked (λ b. masked (maskBy ours t q) unbound b) (λ b g c. ret g (masked (maskBy ours t q) b c)) (λ b m d u. ruled-scope t d q k b w m u x xe (maskBy ours t q) refl h)
 
 -- what is known of a first operand, at a node of another constructor or count
 pub skips-hint : {t w : List ℕ} {e k p d u n : ℕ} → Hinted t → e < 4096 → (kindOf t e ≡ 5) ⊎ (kindOf t e ≡ 6) → n ≡ wordAt t e 5 → p ≡ wordAt t e 4 → agreeing t w p k ≡ false

@@ -25,7 +25,8 @@ use Rattle.leaves.proofs.AnswerWords.{answer-failed, out-failed, node-packed, u
 use Rattle.leaves.proofs.Asking.{Tagged}
 use Rattle.leaves.proofs.Kind.{applied}
 use Rattle.leaves.proofs.Keeping.{apply-leaves, steady-kept, steady-after, leaves-done, leaves-failed, node-small}
-use Rattle.leaves.proofs.Holding.{held-back, mark-back, miss-back, length-back, held-missing, mark-missing, miss-missing, framed-missing, framed-back, framed-refl, framed-trans}
+use Rattle.leaves.proofs.Patterns.{operand-below}
+use Rattle.leaves.proofs.Holding.{further, held-back, mark-back, miss-back, length-back, held-missing, mark-missing, miss-missing, framed-missing, framed-back, framed-refl, framed-trans}
 use Rattle.leaves.proofs.Limited.{units-out, nesting-out}
 use Rattle.cycle.proofs.Ruling.{ready-operand, ruled-rec, ruled-call}
 use Rattle.cycle.proofs.Returning.{gives-itself}
@@ -76,14 +77,18 @@ under n i j h = (omega arith, omega arith)
 pub packed-small : (x u : ℕ) → x < 131072 → u < 4294967296 → packed x u < 18446744073709551616
 packed-small x u h l = omega arith
 
+-- a kind that is one of two others is no SCOPE's
+pub no-scope : {k i j : ℕ} → (k ≡ i) ⊎ (k ≡ j) → i < 16 → j < 16 → k ≡ 16 → ⊥
+no-scope h l m z = ⊎-elim (λ e. omega arith) (λ e. omega arith) h
+
 module _ {t w₀ st₀ : List ℕ} {start given deep : ℕ} {w st : List ℕ} {e s d : ℕ} (turn : Turn t w₀ st₀ start given deep w st e s d)
     (units : unitsIn s ≡ 0 → ⊥) (nested : d ≡ 0 → ⊥) where
   -- the visit is counted, and its rule gives the whole
   pub counts : ruled t (d - 1) e (nodeIn (s - 1)) (held st) w (standing st) (unitsIn (s - 1)) ≡ visit t deep (apply start (nodeIn given) (held st₀)) w₀ (standing st₀) (unitsIn given)
   counts = rw (same-node s units, one-less s units) (sym (applied t d e (nodeIn s) (held st) w (standing st) (unitsIn s) units nested) ∙ turn .rest)
 
-  pub ready-next : (i x : ℕ) → i < 6 → x ≡ wordAt t e (2 + i) → Ready t w st x (s - 1)
-  ready-next i x l q = ready-operand (turn .ready) i x (s - 1) l q (rw (same-node s units) (turn .ready .subject))
+  pub ready-next : (kindOf t e ≡ 16 → ⊥) → (i x : ℕ) → i < 6 → x ≡ wordAt t e (2 + i) → Ready t w st x (s - 1)
+  ready-next other i x l q = ready-operand (turn .ready) other i x (s - 1) l q (rw (same-node s units) (turn .ready .subject))
 
   pub ready-same : Ready t w st e (s - 1)
   ready-same = record { entries = turn .ready .entries; hints = turn .ready .hints; long = turn .ready .long; inside = turn .ready .inside; steady = turn .ready .steady; subject = rw (same-node s units) (turn .ready .subject) }
@@ -93,7 +98,7 @@ module _ {t w₀ st₀ : List ℕ} {start given deep : ℕ} {w st : List ℕ} {e
   rec-turn x q k = record {
     deeper = omega (arith, turn .deeper);
     long = turn .long;
-    ready = ready-next 0 x (omega arith) q;
+    ready = ready-next (no-scope k (omega arith) (omega arith)) 0 x (omega arith) q;
     frame = turn .frame;
     wide = turn .wide;
     word = omega (arith, turn .word);
@@ -103,7 +108,7 @@ module _ {t w₀ st₀ : List ℕ} {start given deep : ℕ} {w st : List ℕ} {e
   -- what returns here returns for the whole
   pub whole : {r : ℕ} {st′ w′ : List ℕ} → Gives (ruled t (d - 1) e (nodeIn (s - 1)) (held st) w (standing st) (unitsIn (s - 1))) st r st′ w′
       → Gives (visit t deep (apply start (nodeIn given) (held st₀)) w₀ (standing st₀) (unitsIn given)) st₀ r st′ w′
-  whole {st′ = st′} g = record { is = g .is ∙ counts; frame = framed-trans st₀ st st′ (turn .frame) (g .frame) }
+  whole {st′ = st′} g = record { is = g .is ∙ counts; frame = framed-trans further st₀ st st′ (turn .frame) (g .frame) }
 
   -- ALL of a term without children
   pub all-itself : kindOf t e ≡ 11 → countOf w (nodeIn s) ≡ 0
@@ -139,11 +144,11 @@ module _ {t w₀ st₀ : List ℕ} {start given deep : ℕ} {w st : List ℕ} {e
             entries = turn .ready .entries;
             hints = turn .ready .hints;
             long = long′;
-            inside = rw ye (turn .ready .entries .operand e 1 (turn .ready .inside) (omega arith));
+            inside = rw ye (operand-below t (turn .ready .entries) e 1 (turn .ready .inside) (λ z. omega (arith, h, z)) (omega arith));
             steady = steady-after (turn .ready .steady) w′ (standing st′) z v (held st′) lv;
             subject = subst (λ k. k < markOf st′) (n .0) (lv .2 .subject);
           };
-          frame = framed-trans st₀ st st′ (turn .frame) (gives .frame);
+          frame = framed-trans further st₀ st st′ (turn .frame) (gives .frame);
           wide = gives .frame .long ∙ turn .wide;
           word = omega (arith, n .0, node-small (steady-after (turn .ready .steady) w′ (standing st′) z v (held st′) lv) z (lv .2 .subject));
           rest = sym (λ i. visit t (d - 1) (apply y (n .0 i) (held st′)) w′ (standing st′) (n .1 i)) ∙ seq-goes-on t (d - 1) e (s - 1) st w x got st′ w′ xe (gives .is) a read y ye h z v q ∙ counts;
@@ -156,9 +161,9 @@ module _ {t w₀ st₀ : List ℕ} {start given deep : ℕ} {w st : List ℕ} {e
       pub left-turn : {y v r : ℕ} → y ≡ wordAt t e 3 → a ≡ Failed v → r ≡ packed (nodeIn (s - 1)) v → length w′ ≡ length w → Turn t w₀ st₀ start given deep w′ (back st st′) y r (d - 1)
       left-turn {y} {v} {r} ye q p l =
           let few = failed-few got v a read q in
-          let held-as = held-back st st′ long′ (gives .frame) in
-          let mark-as = mark-back st st′ long′ in
-          let miss-as = miss-back st st′ long′ in
+          let held-as = held-back further st st′ long′ (gives .frame) in
+          let mark-as = mark-back further st st′ long′ in
+          let miss-as = miss-back further st st′ long′ in
           let kept = leaves-failed w (markOf st) _ leaves got st′ w′ (gives .is) a read v q in
           let tiny = node-small (turn .ready .steady) (nodeIn (s - 1)) inside in
           let node-as : nodeIn r ≡ nodeIn (s - 1) = ap nodeIn p ∙ node-packed (nodeIn (s - 1)) v few in
@@ -169,13 +174,13 @@ module _ {t w₀ st₀ : List ℕ} {start given deep : ℕ} {w st : List ℕ} {e
             ready = record {
               entries = turn .ready .entries;
               hints = turn .ready .hints;
-              long = length-back st st′ long′;
-              inside = rw ye (turn .ready .entries .operand e 1 (turn .ready .inside) (omega arith));
+              long = length-back further st st′ long′;
+              inside = rw ye (operand-below t (turn .ready .entries) e 1 (turn .ready .inside) (no-scope h (omega arith) (omega arith)) (omega arith));
               steady = rw (mark-as, held-as) (steady-kept (turn .ready .steady) kept);
               subject = rw (node-as, mark-as) inside;
             };
-            frame = framed-trans st₀ st (back st st′) (turn .frame) (framed-back st st′ long′ (gives .frame));
-            wide = length-back st st′ long′ ∙ sym (turn .ready .long) ∙ turn .wide;
+            frame = framed-trans further st₀ st (back st st′) (turn .frame) (framed-back further st st′ long′ (gives .frame));
+            wide = length-back further st st′ long′ ∙ sym (turn .ready .long) ∙ turn .wide;
             word = rw p (packed-small (nodeIn (s - 1)) v tiny few);
             rest = rw (node-as, units-as, held-as, mark-as, miss-as) (left-goes-on t (d - 1) e (s - 1) st w x got st′ w′ xe (gives .is) a read y ye h v q ∙ counts);
           }
@@ -190,8 +195,8 @@ module _ {t w₀ st₀ : List ℕ} {start given deep : ℕ} {w st : List ℕ} {e
       let node-as = same-node-by (s - 1) n (enough .1) in
       let units-as = less-by (s - 1) n (enough .1) in
       let fails = skips .fails some .is (held st) (standing st) (d - 1) (unitsIn (s - 1)) (enough .0) (enough .1) in
-      let noted : missOf (missing st p) ≡ wordAt t e 4 = miss-missing st p (turn .ready .long) ∙ pe in
-      let frame = framed-missing st p in
+      let noted : missOf (missing st p) ≡ wordAt t e 4 = miss-missing further st p (turn .ready .long) ∙ pe in
+      let frame = framed-missing further st p in
       record {
         deeper = pred-le d deep (turn .deeper);
         long = turn .long;
@@ -199,19 +204,19 @@ module _ {t w₀ st₀ : List ℕ} {start given deep : ℕ} {w st : List ℕ} {e
           entries = turn .ready .entries;
           hints = turn .ready .hints;
           long = frame .long ∙ turn .ready .long;
-          inside = rw ye (turn .ready .entries .operand e 1 (turn .ready .inside) (omega arith));
-          steady = rw (mark-missing st p, held-missing st p) (turn .ready .steady);
-          subject = rw (node-as, mark-missing st p) (ready-same .subject);
+          inside = rw ye (operand-below t (turn .ready .entries) e 1 (turn .ready .inside) (no-scope h (omega arith) (omega arith)) (omega arith));
+          steady = rw (mark-missing further st p, held-missing further st p) (turn .ready .steady);
+          subject = rw (node-as, mark-missing further st p) (ready-same .subject);
         };
-        frame = framed-trans st₀ st (missing st p) (turn .frame) frame;
+        frame = framed-trans further st₀ st (missing st p) (turn .frame) frame;
         wide = frame .long ∙ turn .wide;
         word = fewer s n (turn .word);
-        rest = rw (node-as, units-as, held-missing st p, mark-missing st p) (left-goes-on t (d - 1) e (s - 1) st w x (failedWord v) (missing st p) w xe (out-failed (missing st p) w v few ∙ ap (λ z. lost (leftOf w (at (markOf st) z)) v) noted ∙ sym fails) (Failed v) (sym (answer-failed v few)) y ye h v refl ∙ counts);
+        rest = rw (node-as, units-as, held-missing further st p, mark-missing further st p) (left-goes-on t (d - 1) e (s - 1) st w x (failedWord v) (missing st p) w xe (out-failed (missing st p) w v few ∙ ap (λ z. lost (leftOf w (at (markOf st) z)) v) noted ∙ sym fails) (Failed v) (sym (answer-failed v few)) y ye h v refl ∙ counts);
       }
 
 -- the loop begins
 pub first-turn : {t w st : List ℕ} {e s : ℕ} (d : ℕ) → Ready t w st e s → s < 18446744073709551616 → Turn t w st e s d w st e s d
-first-turn {st = st} d r f = record { deeper = omega arith; long = refl; ready = r; frame = framed-refl st; wide = refl; word = f; rest = refl }
+first-turn {st = st} d r f = record { deeper = omega arith; long = refl; ready = r; frame = framed-refl further st; wide = refl; word = f; rest = refl }
 
 -- a limit met before a visit
 module _ {t w₀ st₀ : List ℕ} {start given deep : ℕ} {w st : List ℕ} {e s d : ℕ} (turn : Turn t w₀ st₀ start given deep w st e s d) (r : ℕ) where

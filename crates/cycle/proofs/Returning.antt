@@ -25,7 +25,7 @@ use Rattle.cycle.proofs.Ruling.{ruled-id, ruled-fail, ruled-above, rule
 use Rattle.leaves.proofs.Asking.{Tagged}
 use Rattle.cycle.proofs.Walker.{childless}
 use Rattle.leaves.proofs.Keeping.{node-small}
-use Rattle.leaves.proofs.Holding.{held-back, mark-back, miss-back, framed-back, length-back, framed-refl}
+use Rattle.leaves.proofs.Holding.{further, held-back, mark-back, miss-back, framed-back, length-back, framed-refl}
 use Rattle.cycle.proofs.Operators.{other, where-stops, where-done, guard-off, test-done, not-did, test-failed, not-failed-then}
 
 -- the first operand x of entry e ran on the operator's own state, and gave `got`
@@ -56,23 +56,23 @@ module _ {t w st : List ℕ} {e s x got : ℕ} {st′ w′ : List ℕ} (n : ℕ)
       attempted-as z = q ∙ ap (λ b. Ended b y v) z
 
       framed : Framed st (back st st′)
-      framed = framed-back st st′ long (gives .frame)
+      framed = framed-back further st st′ long (gives .frame)
 
       pub gives-test : {k r : ℕ} → k ≡ kindOf t e → k ≡ 2 → b ≡ true → r ≡ packed (nodeIn s) v → Returns r (back st st′)
       gives-test {r = r} k i z p = record {
-        is = test-done t n e s st w x got st′ w′ xe (gives .is) g attempted (back st st′) (held-back st st′ long (gives .frame)) (mark-back st st′ long) (miss-back st st′ long) small r v p (sym k ∙ i) y (attempted-as z);
+        is = test-done t n e s st w x got st′ w′ xe (gives .is) g attempted (back st st′) (held-back further st st′ long (gives .frame)) (mark-back further st st′ long) (miss-back further st st′ long) small r v p (sym k ∙ i) y (attempted-as z);
         frame = framed;
       }
 
       pub gives-test-failed : {k r : ℕ} → k ≡ kindOf t e → k ≡ 2 → b ≡ false → r ≡ failedWord v → Returns r (back st st′)
-      gives-test-failed {r = r} k i z p = record { is = test-failed t n e s st w x got st′ w′ xe (gives .is) g attempted (back st st′) (miss-back st st′ long) r v p (sym k ∙ i) y (attempted-as z); frame = framed }
+      gives-test-failed {r = r} k i z p = record { is = test-failed t n e s st w x got st′ w′ xe (gives .is) g attempted (back st st′) (miss-back further st st′ long) r v p (sym k ∙ i) y (attempted-as z); frame = framed }
 
       pub gives-not-failed : {k r : ℕ} → k ≡ kindOf t e → (k ≡ 2 → ⊥) → b ≡ true → r ≡ failedWord v → Returns r (back st st′)
-      gives-not-failed {r = r} k i z p = record { is = not-failed-then t n e s st w x got st′ w′ xe (gives .is) g attempted (back st st′) (miss-back st st′ long) r v p (other h (λ e. i (k ∙ e))) y (attempted-as z); frame = framed }
+      gives-not-failed {r = r} k i z p = record { is = not-failed-then t n e s st w x got st′ w′ xe (gives .is) g attempted (back st st′) (miss-back further st st′ long) r v p (other h (λ e. i (k ∙ e))) y (attempted-as z); frame = framed }
 
       pub gives-not : {k r : ℕ} → k ≡ kindOf t e → (k ≡ 2 → ⊥) → b ≡ false → r ≡ packed (nodeIn s) v → Returns r (back st st′)
       gives-not {r = r} k i z p = record {
-        is = not-did t n e s st w x got st′ w′ xe (gives .is) g attempted (back st st′) (held-back st st′ long (gives .frame)) (mark-back st st′ long) (miss-back st st′ long) small r v p (other h (λ e. i (k ∙ e))) y (attempted-as z);
+        is = not-did t n e s st w x got st′ w′ xe (gives .is) g attempted (back st st′) (held-back further st st′ long (gives .frame)) (mark-back further st st′ long) (miss-back further st st′ long) small r v p (other h (λ e. i (k ∙ e))) y (attempted-as z);
         frame = framed;
       }
 
@@ -85,7 +85,7 @@ module _ {t w st : List ℕ} {e s : ℕ} (n : ℕ) (ready : Ready t w st e s) wh
   pub gives-id : {k : ℕ} → k ≡ kindOf t e → k ≡ 0 → Gives (ruled t n e (nodeIn s) (held st) w (standing st) (unitsIn s)) st s st w
   gives-id q h = record {
     is = gave st w s (nodeIn s) (unitsIn s) (sym (packed-again s)) (node-small (ready .steady) (nodeIn s) (ready .subject)) (omega arith) ∙ sym (ruled-id t n e (nodeIn s) (held st) w (standing st) (unitsIn s) (sym q ∙ h));
-    frame = framed-refl st;
+    frame = framed-refl further st;
   }
 
   -- so does ALL of a term without children
@@ -93,12 +93,12 @@ module _ {t w st : List ℕ} {e s : ℕ} (n : ℕ) (ready : Ready t w st e s) wh
   gives-itself h z = record {
     is = gave st w s (nodeIn s) (unitsIn s) (sym (packed-again s)) (node-small (ready .steady) (nodeIn s) (ready .subject)) (omega arith)
         ∙ sym (ruled-all t n e (nodeIn s) (held st) w (standing st) (unitsIn s) h ∙ childless t w e (nodeIn s) n (held st) (standing st) (unitsIn s) h z);
-    frame = framed-refl st;
+    frame = framed-refl further st;
   }
 
   -- a failure at once
   pub gives-failure : {r : ℕ} → ruled t n e (nodeIn s) (held st) w (standing st) (unitsIn s) ≡ lost (leftOf w (standing st)) (unitsIn s) → r ≡ failedWord (unitsIn s) → Gives (ruled t n e (nodeIn s) (held st) w (standing st) (unitsIn s)) st r st w
-  gives-failure {r} q p = record { is = gave-failed st w r (unitsIn s) p (omega arith) ∙ sym q; frame = framed-refl st }
+  gives-failure {r} q p = record { is = gave-failed st w r (unitsIn s) p (omega arith) ∙ sym q; frame = framed-refl further st }
 
   -- every other kind than those of the rules fails
   pub ruled-none : {k : ℕ} → k ≡ kindOf t e → (k ≡ 1) ⊎ (17 < k) → ruled t n e (nodeIn s) (held st) w (standing st) (unitsIn s) ≡ lost (leftOf w (standing st)) (unitsIn s)
@@ -137,7 +137,7 @@ module _ (k won n g : ℕ) (made st w : List ℕ) (u : ℕ) where
 
   pub finish-failed : {r : ℕ} → k ≡ 13 → won ≡ 0 → r ≡ failedWord u → u < 4294967296 → Finishes r st w
   unfolding finished
-  finish-failed {r} h z p l = record { is = gave-failed st w r u p l ∙ rw (h, z); frame = framed-refl st }
+  finish-failed {r} h z p l = record { is = gave-failed st w r u p l ∙ rw (h, z); frame = framed-refl further st }
 
   pub finish-some : {r : ℕ} {st′ w′ : List ℕ} → k ≡ 13 → (won ≡ 0 → ⊥) → Gives (noded made st w u) st r st′ w′ → Finishes r st′ w′
   unfolding finished
@@ -145,7 +145,7 @@ module _ (k won n g : ℕ) (made st w : List ℕ) (u : ℕ) where
 
   pub finish-itself : (k ≡ 13 → ⊥) → n ≡ 0 → nodeIn g < 131072 → Finishes g st w
   unfolding finished
-  finish-itself h z l = record { is = gave st w g (nodeIn g) (unitsIn g) (sym (packed-again g)) l (omega arith) ∙ rw (ne-eqb k 13 h, z); frame = framed-refl st }
+  finish-itself h z l = record { is = gave st w g (nodeIn g) (unitsIn g) (sym (packed-again g)) l (omega arith) ∙ rw (ne-eqb k 13 h, z); frame = framed-refl further st }
 
   pub finish-node : {r : ℕ} {st′ w′ : List ℕ} → (k ≡ 13 → ⊥) → (n ≡ 0 → ⊥) → Gives (noded made st w u) st r st′ w′ → Finishes r st′ w′
   unfolding finished

@@ -8,7 +8,7 @@ use lib.ListN.{List·getD-eq-default}
 use Rattle.words.specs.Words.{wordAt}
 use Rattle.words.specs.Tests.{if_then_else_}
 use Rattle.checks.specs.Kinds.{ours}
-use Rattle.checks.specs.Good.{kindOf, operandCount, argumentOf, number, maskBy, constructorOf}
+use Rattle.checks.specs.Good.{kindOf, operandCount, argumentOf, maskBy, constructorOf}
 use Rattle.meaning.specs.Bindings.{Bindings, unbound, masked}
 use Rattle.meaning.specs.Table.{ID, FAIL, TEST, NOT, SEQ, CHOICE, LEFT, REC, CALL, PATH, CONG, ALL, ONE, SOME, MATCH, BUILD, SCOPE, WHERE, table, byKind, operands}
 use Rattle.meaning.specs.Plan.{keep, drop, ret, fail, look, make, ask}
@@ -22,10 +22,11 @@ use Rattle.leaves.specs.Visits.{visit, plan, ruled, Entries, Steady, Matchable}
 use Rattle.cycle.specs.Cycle.{visits, walked, Ready}
 use Rattle.leaves.proofs.Kind.{kind-is, rule-is}
 use Rattle.leaves.proofs.Asking.{last}
+use Rattle.leaves.proofs.Patterns.{operand-below}
 
 -- an operand is an entry, and is visited on a node below the mark
-pub ready-operand : {t w st : List ℕ} {e g : ℕ} → Ready t w st e g → (i x h : ℕ) → i < 6 → x ≡ wordAt t e (2 + i) → nodeIn h < markOf st → Ready t w st x h
-ready-operand r i x h l q k = record { entries = r .entries; hints = r .hints; long = r .long; inside = rw q (r .entries .operand _ i (r .inside) l); steady = r .steady; subject = k }
+pub ready-operand : {t w st : List ℕ} {e g : ℕ} → Ready t w st e g → (kindOf t e ≡ 16 → ⊥) → (i x h : ℕ) → i < 6 → x ≡ wordAt t e (2 + i) → nodeIn h < markOf st → Ready t w st x h
+ready-operand {t} {e = e} r other i x h l q k = record { entries = r .entries; hints = r .hints; long = r .long; inside = rw q (operand-below t (r .entries) e i (r .inside) other l); steady = r .steady; subject = k }
 
 -- what is ready for a visit is ready for a match
 pub matchable : {t w st : List ℕ} {e g : ℕ} → Ready t w st e g → Matchable t w st e g
@@ -46,6 +47,11 @@ module _ (t : List ℕ) (n e k : ℕ) (b : Bindings ℕ) (w : List ℕ) (m : Sta
   pub ruled-above : 17 < kindOf t e → ruled t n e k b w m u ≡ lost (leftOf w m) u
   unfolding byKind strategy plan runPlan
   ruled-above h = rule-is t n e k b w m u FAIL (kind-is t e (kindOf t e) refl ∙ List·getD-eq-default (byKind (argumentOf t e) (wordAt t e 2) (wordAt t e 3) (operands t e) (maskBy ours t e) (wordAt t e (1 + ours))) FAIL {n = kindOf t e} (omega arith))
+
+  -- a SCOPE's operand stands after its mask
+  pub ruled-scope : (x : ℕ) → x ≡ wordAt t e (1 + ours) → (s : ℕ) → s ≡ maskBy ours t e → kindOf t e ≡ 16 → asks (ask keep (apply x k (masked s unbound b)) (λ h c. ret h (masked s b c)) fail)
+  unfolding byKind strategy
+  ruled-scope x xe s se h = rule-is t n e k b w m u _ (kind-is t e 16 h) ∙ rw (xe, se)
 
   module _ (x : ℕ) (xe : x ≡ wordAt t e 2) where
     pub ruled-test : kindOf t e ≡ 2 → asks (ask drop (apply x k b) (λ h c. ret k b) fail)
@@ -71,10 +77,6 @@ module _ (t : List ℕ) (n e k : ℕ) (b : Bindings ℕ) (w : List ℕ) (m : Sta
     pub ruled-build : kindOf t e ≡ 15 → ruled t n e k b w m u ≡ visit t n (build x k b) w m u
     unfolding byKind strategy
     ruled-build h = rule-is t n e k b w m u _ (kind-is t e 15 h) ∙ last t n w m u (build (wordAt t e 2) k b) ∙ rw xe
-
-    pub ruled-scope : (s : ℕ) → s ≡ argumentOf t e → kindOf t e ≡ 16 → asks (ask keep (apply x k (masked s unbound b)) (λ h c. ret h (masked s b c)) fail)
-    unfolding number byKind strategy
-    ruled-scope s se h = rule-is t n e k b w m u _ (kind-is t e 16 h) ∙ rw (xe, se)
 
     pub ruled-where : kindOf t e ≡ 17 → asks (ask keep (apply x k b) (λ h c. ret k c) fail)
     unfolding byKind strategy

@@ -5,13 +5,14 @@ use mathlib.Core.Bool.{Bool, true, false}
 use mathlib.Core.Option.{none, some}
 use mathlib.Core.Logic.{inl, inr}
 use mathlib.Core.List.{List}
-use Prim.Native.Nat.{ℕ, _<_}
+use Prim.Native.Nat.{ℕ, _+_, _^_, _<_}
 use native.Mathlib.Omega.{arith}
-use lib.ListN.{length, set}
-use lib.Bits.{bitAnd, bitOr}
+use lib.ListN.{length}
+use lib.Bits.{bitAnd}
 use Rattle.words.specs.Words.{wordAt}
 use Rattle.words.specs.Tests.{if_then_else_}
-use Rattle.checks.specs.Good.{kindOf, argumentOf}
+use Rattle.checks.specs.Kinds.{ours, variables}
+use Rattle.checks.specs.Good.{kindOf, maskBy}
 use Rattle.meaning.specs.Bindings.{Bindings, has, unbound, masked}
 use Rattle.meaning.specs.Plan.{keep, ret, fail, ask}
 use Rattle.meaning.specs.Rules.{Visit, apply}
@@ -20,14 +21,15 @@ use Rattle.leaves.specs.declared.answers.Answer.the-variants.{Done, Failed, Cut
 use Rattle.leaves.specs.Answers.{nodeIn, unitsIn, answerOf}
 use Rattle.meaning.specs.Limits.{lost, cut, at}
 use Rattle.leaves.specs.Noted.{Standing, leftOf}
-use Rattle.leaves.specs.Record.{masking, recordLong, markOf, missOf, standing, maskOf, held, without}
+use Rattle.leaves.specs.Record.{recordLong, markOf, missOf, standing, maskOf, held, hidden, keptWords, putBack}
 use Rattle.leaves.specs.Visits.{limitOf, visit, plan, ruled, meaning, out, Steady, Gives}
 use Rattle.cycle.specs.Cycle.{Ready}
 use Rattle.leaves.proofs.AnswerWords.{out-answer}
 use Rattle.leaves.proofs.Asking.{goes-on, not-done}
 use Rattle.leaves.proofs.Walking.{returned}
+use Rattle.leaves.proofs.Patterns.{scope-operand-below}
 use Rattle.cycle.proofs.Ruling.{ruled-scope}
-use Rattle.leaves.proofs.Holding.{hidden, length-hidden, mark-hidden, miss-hidden, held-hidden, held-apart, held-unscope, framed-unscope, restored, shown, length-shown, mark-shown, miss-shown, held-shown, framed-shown}
+use Rattle.leaves.proofs.Holding.{further, length-hidden, mark-hidden, miss-hidden, held-hidden, held-apart, held-unscope, framed-unscope, shown, length-shown, mark-shown, miss-shown, held-shown, framed-shown}
 
 -- a visit's answer r with the record st, and the same word with a record st″ that holds f of the bindings
 rebound : (t : List ℕ) (n : ℕ) (q : Visit ℕ) (w : List ℕ) (m : Standing) (u r : ℕ) (st w′ : List ℕ) → out r st w′ ≡ visit t n q w m u
@@ -54,58 +56,64 @@ steady-masked : {w : List ℕ} {m : ℕ} {b : Bindings ℕ} (i : ℕ) → Steady
 steady-masked {b = b} i s = record { nodes = s .nodes; small = s .small; used = s .used; fits = s .fits; good = s .good; bound = λ v j e. s .bound v j (masked-some i v j b e) }
 
 -- entry e is a SCOPE of the mask i, its operand x
-module _ {t w st : List ℕ} {e s x i : ℕ} (n : ℕ) (ready : Ready t w st e s) (ie : i ≡ argumentOf t e) (small : i < 4294967296) (xe : x ≡ wordAt t e 2) where
+module _ {t w st : List ℕ} {e s x i : ℕ} (n : ℕ) (ready : Ready t w st e s) (ie : i ≡ maskBy ours t e) (small : i < 2 ^ variables) (xe : x ≡ wordAt t e (1 + ours)) (scope : kindOf t e ≡ 16) where
   abbrev Returns : ℕ → List ℕ → List ℕ → Type 0
   Returns r st″ w′ = Gives (ruled t n e (nodeIn s) (held st) w (standing st) (unitsIn s)) st r st″ w′
 
   abbrev inner : Visit ℕ
   inner = apply x (nodeIn s) (masked i unbound (held st))
 
+  inside : x < 4096
+  inside = rw xe (scope-operand-below t (ready .entries) e (ready .inside) scope)
+
   -- nothing masked is bound
+  pub ready-scope : Ready t w st x s
+  ready-scope = record { entries = ready .entries; hints = ready .hints; long = ready .long; inside = inside; steady = ready .steady; subject = ready .subject }
+
   module _ {got : ℕ} {st′ w′ : List ℕ} (gives : Gives (visit t n (apply x (nodeIn s) (held st)) w (standing st) (unitsIn s)) st got st′ w′) where
     long′ : length st′ ≡ recordLong
     long′ = gives .frame .long ∙ ready .long
 
-    pub gives-scope : {y : ℕ} → kindOf t e ≡ 16 → bitAnd (maskOf st) i ≡ 0 → y ≡ without (maskOf st′) i → Returns got (masking st′ y) w′
-    gives-scope h apart ye =
-        subst (λ y. Returns got (masking st′ y) w′) (sym ye) (
+    pub gives-scope : {st″ : List ℕ} → bitAnd (maskOf st) i ≡ 0 → st″ ≡ hidden st′ i → Returns got st″ w′
+    gives-scope apart f =
+        subst (λ p. Returns got p w′) (sym f) (
         record {
-          is = rebound t n inner w (standing st) (unitsIn s) got st′ w′ (gives .is ∙ ap (λ b. visit t n (apply x (nodeIn s) b) w (standing st) (unitsIn s)) (held-apart st i apart)) (hidden st′ i) (masked i (held st)) (held-unscope st i apart st′ long′ small) (mark-hidden st′ i long′ small) (miss-hidden st′ i long′ small)
-              ∙ sym (ruled-scope t n e (nodeIn s) (held st) w (standing st) (unitsIn s) x xe i ie h);
-          frame = framed-unscope st i apart st′ long′ small (gives .frame);
+          is = rebound t n inner w (standing st) (unitsIn s) got st′ w′ (gives .is ∙ ap (λ b. visit t n (apply x (nodeIn s) b) w (standing st) (unitsIn s)) (held-apart further st i apart)) (hidden st′ i) (masked i (held st)) (held-unscope further st i apart st′ long′ small) (mark-hidden further st′ i long′ small) (miss-hidden further st′ i long′ small)
+              ∙ sym (ruled-scope t n e (nodeIn s) (held st) w (standing st) (unitsIn s) x xe i ie scope);
+          frame = framed-unscope further st i apart st′ long′ small (gives .frame);
         }
         )
 
   -- some masked variable is bound, and they are hidden
-  pub ready-hiding : {z : ℕ} → z ≡ without (maskOf st) i → Ready t w (masking st z) x s
-  ready-hiding ze =
-      subst (λ z. Ready t w (masking st z) x s) (sym ze) (
+  pub ready-hiding : {st₁ : List ℕ} → st₁ ≡ hidden st i → Ready t w st₁ x s
+  ready-hiding f =
+      subst (λ p. Ready t w p x s) (sym f) (
       record {
         entries = ready .entries;
         hints = ready .hints;
-        long = length-hidden st i (ready .long) small;
-        inside = rw xe (ready .entries .operand e 0 (ready .inside) (omega arith));
-        steady = rw (mark-hidden st i (ready .long) small, held-hidden st i (ready .long) small) (steady-masked i (ready .steady));
-        subject = rw (mark-hidden st i (ready .long) small) (ready .subject);
+        long = length-hidden further st i (ready .long) small;
+        inside = inside;
+        steady = rw (mark-hidden further st i (ready .long) small, held-hidden further st i (ready .long) small) (steady-masked i (ready .steady));
+        subject = rw (mark-hidden further st i (ready .long) small) (ready .subject);
       }
       )
 
   module _ {got : ℕ} {st′ w′ : List ℕ} (gives : Gives (visit t n (apply x (nodeIn s) (held (hidden st i))) w (standing (hidden st i)) (unitsIn s)) (hidden st i) got st′ w′) where
     long″ : length st′ ≡ recordLong
-    long″ = gives .frame .long ∙ length-hidden st i (ready .long) small
+    long″ = gives .frame .long ∙ length-hidden further st i (ready .long) small
 
-    gives-shown : kindOf t e ≡ 16 → Returns got (shown st i st′) w′
-    gives-shown h = record {
-      is = rebound t n inner w (standing st) (unitsIn s) got st′ w′ (gives .is ∙ rw (mark-hidden st i (ready .long) small, miss-hidden st i (ready .long) small, held-hidden st i (ready .long) small)) (shown st i st′) (masked i (held st)) (held-shown st i st′ long″ small) (mark-shown st i st′ long″ small) (miss-shown st i st′ long″ small)
-          ∙ sym (ruled-scope t n e (nodeIn s) (held st) w (standing st) (unitsIn s) x xe i ie h);
-      frame = framed-shown st i st′ long″ small (ready .long) (gives .frame);
+    gives-shown : Returns got (shown further st i st′) w′
+    gives-shown = record {
+      is = rebound t n inner w (standing st) (unitsIn s) got st′ w′ (gives .is ∙ rw (mark-hidden further st i (ready .long) small, miss-hidden further st i (ready .long) small, held-hidden further st i (ready .long) small)) (shown further st i st′) (masked i (held st)) (held-shown further st i st′ long″ small) (mark-shown further st i st′ long″ small) (miss-shown further st i st′ long″ small)
+          ∙ sym (ruled-scope t n e (nodeIn s) (held st) w (standing st) (unitsIn s) x xe i ie scope);
+      frame = framed-shown further st i st′ long″ small (ready .long) (gives .frame);
     }
 
-  pub gives-hiding : {z got y : ℕ} {st′ w′ p : List ℕ} → z ≡ without (maskOf st) i → Gives (visit t n (apply x (nodeIn s) (held (masking st z))) w (standing (masking st z)) (unitsIn s)) (masking st z) got st′ w′
-      → kindOf t e ≡ 16 → p ≡ restored st i st′ → y ≡ without (maskOf p) i → Returns got (masking p (bitOr y (bitAnd (maskOf st) i))) w′
-  gives-hiding {got = got} {st′ = st′} {w′ = w′} {p = p} ze gives h pe ye =
-      subst (λ y. Returns got (masking p (bitOr y (bitAnd (maskOf st) i))) w′) (sym ye) (
-      subst (λ p. Returns got (masking p (bitOr (without (maskOf p) i) (bitAnd (maskOf st) i))) w′) (sym pe) (
-      gives-shown (subst (λ z. Gives (visit t n (apply x (nodeIn s) (held (masking st z))) w (standing (masking st z)) (unitsIn s)) (masking st z) got st′ w′) ze gives) h
-      )
+  -- the record before the operand, after it, with what it bound of the mask unbound, and with what was hidden put back
+  pub gives-hiding : {h got : ℕ} {st₁ st′ st₂ st₃ ks w′ : List ℕ} → st₁ ≡ hidden st i → Gives (visit t n (apply x (nodeIn s) (held st₁)) w (standing st₁) (unitsIn s)) st₁ got st′ w′
+      → h ≡ bitAnd (maskOf st) i → ks ≡ keptWords st h → st₂ ≡ hidden st′ i → st₃ ≡ putBack ks h st₂ → Returns got st₃ w′
+  gives-hiding {got = got} {st′ = st′} {st₃ = st₃} {w′ = w′} f gives he ke f₂ f₃ =
+      let z : st₃ ≡ shown further st i st′ = f₃ ∙ rw (f₂, ke, he) in
+      subst (λ p. Returns got p w′) (sym z) (
+      gives-shown (subst (λ p. Gives (visit t n (apply x (nodeIn s) (held p)) w (standing p) (unitsIn s)) p got st′ w′) f gives)
       )

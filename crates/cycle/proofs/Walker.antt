@@ -32,8 +32,9 @@ use Rattle.cycle.specs.Cycle.{Counted, operandFor, visits, walked, finis
 use Rattle.leaves.proofs.AnswerWords.{node-packed, units-packed, done-units, failed-few, attempt-done, attempt-failed, attempt-cut, out-units}
 use Rattle.leaves.proofs.Asking.{goes-on, caught, cut-off}
 use Rattle.leaves.proofs.Keeping.{apply-leaves, steady-kept, steady-after, roomy, leaves-done, leaves-failed, node-small}
-use Rattle.leaves.proofs.Holding.{held-back, mark-back, miss-back, framed-back, length-back, framed-refl, framed-trans}
+use Rattle.leaves.proofs.Holding.{further, held-back, mark-back, miss-back, framed-back, length-back, framed-refl, framed-trans}
 use Rattle.leaves.proofs.Children.{part-length, part-next, part-end, filled, filled-next, one-more, filled-row}
+use Rattle.leaves.proofs.Patterns.{operand-below}
 use Rattle.cycle.proofs.Ahead.{leads-on, leads-inside}
 use Rattle.cycle.proofs.Operators.{ends, fails, not-caught}
 
@@ -74,7 +75,7 @@ module _ (t w : List ℕ) (e k : ℕ) (same : Counted t w e k) where
           → drop i (if z then zip apply (operands t e) (children w k) else map (apply (wordAt t e 2)) (children w k))
           ≡ apply (if z then wordAt t e (2 + i) else wordAt t e 2) (wordAt w k (2 + i)) ∷ drop (i + 1) (if z then zip apply (operands t e) (children w k) else map (apply (wordAt t e 2)) (children w k))
       go true q =
-          let l : i < min (operandCount t e) 6 = omega (arith, same (eqb-true (kindOf t e) 10 q)) in
+          let l : i < min (operandCount t e) 6 = omega (arith, same .1 (eqb-true (kindOf t e) 10 q)) in
           drop-zip apply i (operands t e) (children w k)
           ∙ rw (part-next t e (operandCount t e) i l, part-next w k (childCount w k) i h) (ap (λ r. apply (wordAt t e (2 + i)) (wordAt w k (2 + i)) ∷ r) (sym (drop-zip apply (i + 1) (operands t e) (children w k))))
       go false q =
@@ -132,7 +133,7 @@ rest-all t w e k b = refl
 -- ALL of a term without children gives it back
 pub childless : (t w : List ℕ) (e k n : ℕ) (b : Bindings ℕ) (m : Standing) (u : ℕ) → kindOf t e ≡ 11 → countOf w k ≡ 0 → plan t n (walked t w e k b) w m u ≡ ended k b (on w m) u
 childless t w e k n b m u h z =
-    ap (λ p. plan t n p w m u) (sym (rest-all t w e k b) ∙ rest-end t w e k (λ f. absurd (omega arith)) 0 0 [] b (omega (arith, z)))
+    ap (λ p. plan t n p w m u) (sym (rest-all t w e k b) ∙ rest-end t w e k (λ f. omega (arith, h, f), λ f. absurd (omega arith)) 0 0 [] b (omega (arith, z)))
     ∙ rw (ne-eqb (kindOf t e) 13 (λ f. omega arith)) (itself t n k (constructorOf w k) b w m u)
 
 -- the words of the node that is made: its children are the first, the second, and the four after them
@@ -194,7 +195,7 @@ going-first {t} {w} {st} {e} {s} deep r p q v = record {
   kept = kept-refl w (markOf st);
   more = omega arith;
   steady = r .steady;
-  frame = framed-refl st;
+  frame = framed-refl further st;
   wide = refl;
   few = rw v (omega arith);
   begun = λ z. v;
@@ -223,8 +224,8 @@ module _ {t w₀ st₀ : List ℕ} {e s deep : ℕ} {w st : List ℕ} {u won : �
   }
     where
       operand-inside : (z : Bool) → (if z then wordAt t e (2 + i) else wordAt t e 2) < 4096
-      operand-inside true = ready .entries .operand e i (ready .inside) (omega arith)
-      operand-inside false = ready .entries .operand e 0 (ready .inside) (omega arith)
+      operand-inside true = operand-below t (ready .entries) e i (ready .inside) (same .0) (omega arith)
+      operand-inside false = operand-below t (ready .entries) e 0 (ready .inside) (same .0) (omega arith)
 
   -- the visit of child i gave `got`
   module _ {x κ c p got : ℕ} {st′ w′ : List ℕ} (oe : x ≡ operandFor t e κ i) (κe : κ ≡ kindOf t e) (ce : c ≡ wordAt w (nodeIn s) (2 + i)) (pe : p ≡ packed c u)
@@ -247,7 +248,7 @@ module _ {t w₀ st₀ : List ℕ} {e s deep : ℕ} {w st : List ℕ} {u won : �
     Whole = Gives (plan t deep (walked t w₀ e (nodeIn s) (held st₀)) w₀ (standing st₀) (unitsIn s)) st₀ got st′ w′
 
     framed′ : Framed st₀ st′
-    framed′ = framed-trans st₀ st st′ (g .frame) (gives .frame)
+    framed′ = framed-trans further st₀ st st′ (g .frame) (gives .frame)
 
     long′ : length st′ ≡ recordLong
     long′ = gives .frame .long ∙ g .wide ∙ ready .long
@@ -305,9 +306,9 @@ module _ {t w₀ st₀ : List ℕ} {e s deep : ℕ} {w st : List ℕ} {u won : �
           let se : st″ ≡ back st st′ = saved ∙ saving k mark mask st st′ p q k13 in
           let f = failed-as z in
           let kp = leaves-failed w (markOf st) _ leaves got st′ w′ (gives .is) (answerOf got) refl v f in
-          let hd = held-back st st′ long′ (gives .frame) in
-          let mk = mark-back st st′ long′ in
-          let ms = miss-back st st′ long′ in
+          let hd = held-back further st st′ long′ (gives .frame) in
+          let mk = mark-back further st st′ long′ in
+          let ms = miss-back further st st′ long′ in
           rw (se, re, me) (record {
             done = g .done ++ (wordAt w₀ (nodeIn s) (2 + i) ∷ []);
             made-is = rw cw (filled-next _ _ i (wordAt w₀ (nodeIn s) (2 + i)) (g .done) made (g .made-is) (g .so-far) (omega arith));
@@ -316,8 +317,8 @@ module _ {t w₀ st₀ : List ℕ} {e s deep : ℕ} {w st : List ℕ} {u won : �
             kept = kept-trans (g .more) (g .kept) kp;
             more = rw mk (g .more);
             steady = rw (mk, hd) (steady-kept (g .steady) kp);
-            frame = framed-trans st₀ st (back st st′) (g .frame) (framed-back st st′ long′ (gives .frame));
-            wide = length-back st st′ long′ ∙ sym (ready .long);
+            frame = framed-trans further st₀ st (back st st′) (g .frame) (framed-back further st st′ long′ (gives .frame));
+            wide = length-back further st st′ long′ ∙ sym (ready .long);
             few = failed-few got v (answerOf got) refl f;
             begun = λ j. absurd (omega arith);
             won-later = λ j. omega arith;
@@ -347,7 +348,7 @@ module _ {t w₀ st₀ : List ℕ} {e s deep : ℕ} {w st : List ℕ} {u won : �
           entries = r .entries;
           hints = r .hints;
           long = r .long;
-          inside = leads-inside n κ i (ready .entries) (ready .inside) (omega arith) fe xe;
+          inside = leads-inside n κ i (ready .entries) (ready .inside) (same .0) (omega arith) fe xe;
           steady = r .steady;
           subject = rw (pe, node-packed c (u - n) less) (subst (λ k. k < markOf st) (node-packed c u (g .few)) (r .subject));
         }
@@ -365,7 +366,7 @@ module _ {t w₀ st₀ : List ℕ} {e s deep : ℕ} {w st : List ℕ} {u won : �
       let c = wordAt w (nodeIn s) (2 + i) in
       let o : out r st w ≡ visit t deep (apply (operandFor t e κ i) (nodeIn (packed c u)) (held st)) w (standing st) (unitsIn (packed c u))
       = ap (λ r. out r st w) re ∙ out-units st w ∙ rw (node-packed c u (g .few), units-packed c u (g .few)) (sym (leads .short c (held st) w (standing st) deep u (ahead .few) l)) in
-      going-off ready same g h {x = operandFor t e κ i} {κ = κ} {c = c} {p = packed c u} refl κe refl refl (record { is = o; frame = framed-refl st }) {a = attemptOf (answerOf r)} refl (ap (λ r. attemptOf (answerOf r)) re ∙ units-off)
+      going-off ready same g h {x = operandFor t e κ i} {κ = κ} {c = c} {p = packed c u} refl κe refl refl (record { is = o; frame = framed-refl further st }) {a = attemptOf (answerOf r)} refl (ap (λ r. attemptOf (answerOf r)) re ∙ units-off)
 
 -- the walk's end
 module _ {t w₀ st₀ : List ℕ} {e s deep : ℕ} {w st : List ℕ} {u won : ℕ} {made : List ℕ} {i : ℕ} (ready : Ready t w₀ st₀ e s) (same : Counted t w₀ e (nodeIn s))
@@ -414,7 +415,7 @@ module _ {t w₀ st₀ : List ℕ} {e s deep : ℕ} {w st : List ℕ} {u won : �
 
   pub going-ends : {k n r : ℕ} {st′ w′ : List ℕ} → k ≡ kindOf t e → n ≡ countOf w₀ (nodeIn s) → Gives (finished k won n s made st w u) st r st′ w′
       → Gives (plan t deep (walked t w₀ e (nodeIn s) (held st₀)) w₀ (standing st₀) (unitsIn s)) st₀ r st′ w′
-  going-ends {k} {n} {st′ = st′} ke ne f = record { is = f .is ∙ finishes k n ke ne ∙ g .left; frame = framed-trans st₀ st st′ (g .frame) (f .frame) }
+  going-ends {k} {n} {st′ = st′} ke ne f = record { is = f .is ∙ finishes k n ke ne ∙ g .left; frame = framed-trans further st₀ st st′ (g .frame) (f .frame) }
 
 -- the words that `finish` is handed are the children that are made
 pub whole-made : (κ won n s name a b u r : ℕ) (more st w st′ w′ : List ℕ) → length more ≡ 4

@@ -81,9 +81,9 @@ entryAhead t e n = if eqb n 0 then wordAt t e 2 else wordAt t e 4
 abbrev pub operandFor : List ℕ → ℕ → ℕ → ℕ → ℕ
 operandFor t e k i = if eqb k 10 then wordAt t e (2 + i) else wordAt t e 2
 
--- where entry e is a CONG, it has an operand for each child of node k
+-- entry e is no SCOPE; where it is a CONG, it has an operand for each child of node k
 abbrev pub Counted : List ℕ → List ℕ → ℕ → ℕ → Type 0
-Counted t w e k = kindOf t e ≡ 10 → operandCount t e ≡ countOf w k
+Counted t w e k = (kindOf t e ≡ 16 → ⊥) × (kindOf t e ≡ 10 → operandCount t e ≡ countOf w k)
 
 -- what the child walker does with node k, once CONG's constructor and count agree: SOME, or a visit for each child
 unfoldable pub visits : List ℕ → ℕ → List ℕ → List (Bindings ℕ → Visit ℕ)

@@ -32,18 +32,22 @@ use leaves::builder::node;
 use leaves::matcher::match_node;
 use leaves::reading::HINT_ENTRY;
 use leaves::reading::HINT_VISITS;
+use leaves::reading::SCOPE_OPERAND;
 use leaves::reading::agree;
 use leaves::reading::count;
 use leaves::reading::entry;
 use leaves::reading::kind;
 use leaves::reading::row;
+use leaves::reading::scope_mask;
 use leaves::record::MARK;
-use leaves::record::MASK;
 use leaves::record::MISS;
 use leaves::record::RECORD;
-use leaves::record::hide;
+use leaves::record::bound_in;
+use leaves::record::kept_words;
+use leaves::record::mask_of;
 use leaves::record::put_back;
 use leaves::record::restore;
+use leaves::record::unbind;
 use words::word;
 ghost use mathlib.Core.Path.{_≡_};
 ghost use mathlib.Core.Logic.{_⊎_};
@@ -51,10 +55,10 @@ ghost use Prim.Native.Nat.{_+_, _-_, _<_};
 ghost use Rattle.words.specs.Words.{wordAt};
 ghost use Rattle.words.specs.Tests.{if_then_else_};
 ghost use lib.Dec.{eqb, ltb};
-ghost use lib.ListN.{length, getD, set};
+ghost use lib.ListN.{length, set};
 ghost use Rattle.checks.specs.Good.{kindOf};
 ghost use Rattle.leaves.specs.Answers.{nodeIn};
-ghost use Rattle.leaves.specs.Record.{markOf, recordLong};
+ghost use Rattle.leaves.specs.Record.{markOf, maskOf, recordLong};
 ghost use Rattle.leaves.specs.Visits.{Roomy, Gives};
 ghost use Rattle.cycle.specs.Cycle.{Walks, Applied, Follows, entryAhead, finished, Counted, Hinted, VisitsAhead, Ready, Last};
 
@@ -136,7 +140,7 @@ fn apply_loop(
                     continue;
                 }
                 let mark = st[MARK];
-                let mask = st[MASK];
+                let mask = mask_of(st);
                 let got = apply_loop(table, store, st, first, s, d);
                 let Answer::Failed(rest) = answer_of(got) else {
                     return got;
@@ -194,7 +198,7 @@ fn guard(
     ensures { λ r. ⌜ Follows (now (table .entry)) (now (store .entry)) (now (st .entry)) e s deep r (now (st .exit)) (now (store .exit)) ⌝ }
 {
     let mark = st[MARK];
-    let mask = st[MASK];
+    let mask = mask_of(st);
     let got = apply(table, store, st, entry(table, e, 2), s, deep);
     let Attempt::Ended(yes, _, left) = attempt_of(got) else {
         return got;
@@ -316,8 +320,8 @@ fn walk(
             return no_units();
         }
         let c = word(store, t, 2 + i);
-        let mark = saved(st, kind, MARK);
-        let mask = saved(st, kind, MASK);
+        let mark = saved_mark(st, kind);
+        let mask = saved_mask(st, kind);
         let got = apply(
             table,
             store,
@@ -396,13 +400,21 @@ fn operand(table: &[u32; 32768], e: u32, kind: u32, first: u32, i: u32) -> u32
     first
 }
 
-// The record's word j, for SOME, which may put it back.
-fn saved(st: &[u32; RECORD], kind: u32, j: usize) -> u32
-    requires { ⌜ j < recordLong ⌝ }
-    ensures { λ r. ⌜ r ≡ (if eqb kind 13 then getD (now (st .entry)) j 0 else 0) ⌝ }
+// The mark and the mask, for SOME, which may put them back.
+fn saved_mark(st: &[u32; RECORD], kind: u32) -> u32
+    ensures { λ r. ⌜ r ≡ (if eqb kind 13 then markOf (now (st .entry)) else 0) ⌝ }
 {
     if kind == SOME {
-        return st[j];
+        return st[MARK];
+    }
+    0
+}
+
+fn saved_mask(st: &[u32; RECORD], kind: u32) -> u64
+    ensures { λ r. ⌜ r ≡ (if eqb kind 13 then maskOf (now (st .entry)) else 0) ⌝ }
+{
+    if kind == SOME {
+        return mask_of(st);
     }
     0
 }
@@ -472,7 +484,7 @@ fn one(
     let mut left = (s % HALF) as u32;
     let n = count(store, t);
     let mark = st[MARK];
-    let mask = st[MASK];
+    let mask = mask_of(st);
     let op = entry(table, e, 2);
     let mut i: u32 = 0;
     while i < n {
@@ -511,16 +523,16 @@ fn scope(
     requires { ⌜ Ready (now table) (now store) (now st) e s × (kindOf (now table) e ≡ 16) ⌝ }
     ensures { λ r. ⌜ Follows (now (table .entry)) (now (store .entry)) (now (st .entry)) e s deep r (now (st .exit)) (now (store .exit)) ⌝ }
 {
-    let mask = entry(table, e, 1);
-    if st[MASK] & mask != 0 {
+    let mask = scope_mask(table, e);
+    if bound_in(st, mask) != 0 {
         return hiding(table, store, st, e, s, deep);
     }
-    let got = apply(table, store, st, entry(table, e, 2), s, deep);
-    st[MASK] = hide(st[MASK], mask);
+    let got = apply(table, store, st, entry(table, e, SCOPE_OPERAND), s, deep);
+    unbind(st, mask);
     got
 }
 
-// SCOPE where some masked variable is bound: its word is put back, on failure too.
+// SCOPE where some masked variable is bound: its word is kept and put back, on failure too.
 fn hiding(
     table: &[u32; 32768],
     store: &mut [u32],
@@ -532,12 +544,12 @@ fn hiding(
     requires { ⌜ Ready (now table) (now store) (now st) e s × (kindOf (now table) e ≡ 16) ⌝ }
     ensures { λ r. ⌜ Follows (now (table .entry)) (now (store .entry)) (now (st .entry)) e s deep r (now (st .exit)) (now (store .exit)) ⌝ }
 {
-    let mask = entry(table, e, 1);
-    let hidden = st[MASK] & mask;
-    let outer = *st;
-    st[MASK] = hide(st[MASK], mask);
-    let got = apply(table, store, st, entry(table, e, 2), s, deep);
-    put_back(st, &outer, hidden);
-    st[MASK] = hide(st[MASK], mask) | hidden;
+    let mask = scope_mask(table, e);
+    let hidden = bound_in(st, mask);
+    let kept = kept_words(st, hidden);
+    unbind(st, mask);
+    let got = apply(table, store, st, entry(table, e, SCOPE_OPERAND), s, deep);
+    unbind(st, mask);
+    put_back(st, &kept, hidden);
     got
 }

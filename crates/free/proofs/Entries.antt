@@ -186,7 +186,9 @@ module _ (W : ℕ) (t : List ℕ) (e : ℕ) where
     fits : kindOf t e ≤ 17 → Fits (wordAt t e 2) (wordAt t e 3) (operands t e) (kindOf t e) (tableBy W t .strategies e)
     unfolding tableBy byKind
     fits l =
-        let h = each-at (Fits (wordAt t e 2) (wordAt t e 3) (operands t e)) 0 (byKind (argumentOf t e) (wordAt t e 2) (wordAt t e 3) (operands t e) (maskBy W t e) (wordAt t e (1 + W))) (all-fit _ _ _ _ _ _) (kindOf t e) (omega arith) in
+        let h =
+        each-at (Fits (wordAt t e 2) (wordAt t e 3) (operands t e)) 0
+        (byKind (argumentOf t e) (wordAt t e 2) (wordAt t e 3) (operands t e) (maskBy W t e) (wordAt t e (1 + W))) (all-fit _ _ _ _ _ _) (kindOf t e) (omega arith) in
         let z : 0 + kindOf t e ≡ kindOf t e = omega arith in
         rw z at h
 
@@ -231,7 +233,8 @@ module _ (W : ℕ) (t : List ℕ) (e : ℕ) where
     plainly l n m o =
         let f = fits l in
         let none : own (kindOf t e) ≡ false = rw (ne-eqb (kindOf t e) 14 n, ne-eqb (kindOf t e) 15 m, ne-eqb (kindOf t e) 16 o) in
-        is-plain l o (f .plain-is ∙ rw none) (f .operands-are ∙ decided (eqb (kindOf t e) 10) (λ c. rw c) (λ c. rw (c, none) (sym (counted (eqb-false _ _ c) (λ z. absurd (omega arith)))))) (strategies o n m (λ z. absurd (omega arith)))
+        is-plain l o (f .plain-is ∙ rw none) (f .operands-are ∙ decided (eqb (kindOf t e) 10) (λ c. rw c) (λ c. rw (c, none) (sym (counted (eqb-false _ _ c) (λ z. absurd
+        (omega arith)))))) (strategies o n m (λ z. absurd (omega arith)))
 
     one-operand : (k : ℕ) → kindOf t e ≡ k → eqb k 10 ≡ false → eqb k 19 ≡ false → kind k .least ≡ 1 → operands t e ≡ wordAt t e 2 ∷ []
     one-operand k q n m z = counted (other k 10 q n) (other k 19 q m) ∙ ap (λ (n : ℕ). take n (wordAt t e 2 ∷ wordAt t e 3 ∷ [])) (ap (λ (k : ℕ). kind k .least) q ∙ z)

@@ -15,7 +15,7 @@ mod passes;
 pub struct FreeVariables {
     pub answer: u32,
     pub place: u32,
-    pub mask: u32,
+    pub mask: u64,
 }
 
 // Entry e is inside the table and a strategy.

@@ -12,6 +12,7 @@ ghost use Rattle.free.specs.Answered.{MaskOfBy};
 ghost use Rattle.free.specs.Passes.{joinedOperands, ruled, grown, grows, passed, changed, BitsMeant, Settled};
 ghost use Rattle.free.specs.Promises.{GoodTableBy, StrategyOf};
 use checks::entries::kind_of;
+use checks::entries::mask;
 use checks::entries::operand;
 use checks::entries::operand_count;
 use checks::kinds::PVAR;
@@ -21,7 +22,7 @@ use checks::rows::held;
 use words::word;
 
 // The mask of entry x; empty outside the masks.
-fn mask_at(masks: &[u32], x: u32) -> u32
+fn mask_at(masks: &[u64], x: u32) -> u64
     ensures { λ r. ⌜ r ≡ getD (now (masks .entry)) x 0 ⌝ }
 {
     let i = x as usize;
@@ -29,12 +30,12 @@ fn mask_at(masks: &[u32], x: u32) -> u32
 }
 
 // The masks of entry e's operands, joined; e is no SCOPE.
-fn joined(table: &[u32], masks: &[u32], e: u32) -> u32
+fn joined(table: &[u32], masks: &[u64], e: u32) -> u64
     requires { ⌜ operandCount (now table) e ≤ 6 ⌝ }
     ensures { λ r. ⌜ r ≡ joinedOperands (now (table .entry)) (now (masks .entry)) e ⌝ }
 {
     let n = operand_count(table, e);
-    let mut all: u32 = 0;
+    let mut all: u64 = 0;
     let mut i: u32 = 0;
     while i < n {
         all = all | mask_at(masks, held(table, e, i));
@@ -44,20 +45,20 @@ fn joined(table: &[u32], masks: &[u32], e: u32) -> u32
 }
 
 // What the rule of entry e gives of its operands' masks.
-fn rule(table: &[u32], masks: &[u32], e: u32) -> u32
+fn rule(table: &[u32], masks: &[u64], e: u32) -> u64
     requires { ⌜ Entry (now table) e ⌝ }
     ensures { λ r. ⌜ r ≡ ruled ours (now (table .entry)) (now (masks .entry)) e ⌝ }
 {
     match kind_of(table, e) {
         SCOPE => mask_at(masks, operand(table, e, operands_from(SCOPE), 0))
-            & (4294967295 - word(table, e, 1)),
+            & (18446744073709551615 - mask(table, e)),
         PVAR => 1 << word(table, e, 1),
         _ => joined(table, masks, e),
     }
 }
 
 // Adds to entry e's mask what its rule gives. Whether the mask grew.
-fn grow(table: &[u32], masks: &mut [u32], e: u32) -> bool
+fn grow(table: &[u32], masks: &mut [u64], e: u32) -> bool
     requires { ⌜ Entry (now table) e × (e < length (now masks)) ⌝ }
     ensures { λ r. ⌜ (r ≡ grows ours (now (table .entry)) (now (masks .entry)) e) × (now (masks .exit) ≡ grown ours (now (table .entry)) (now (masks .entry)) e) ⌝ }
 {
@@ -68,9 +69,10 @@ fn grow(table: &[u32], masks: &mut [u32], e: u32) -> bool
 }
 
 // One pass. Whether a mask grew.
-fn pass(table: &[u32], masks: &mut [u32]) -> bool
+fn pass(table: &[u32], masks: &mut [u64]) -> bool
     requires { ⌜ GoodTableBy ours (now table) × (rows (now table) ≤ length (now masks)) ⌝ }
-    ensures { λ r. ⌜ (r ≡ changed ours (now (table .entry)) (rows (now (table .entry))) (now (masks .entry))) × (now (masks .exit) ≡ passed ours (now (table .entry)) (rows (now (table .entry))) (now (masks .entry))) ⌝ }
+    ensures { λ r. ⌜ (r ≡ changed ours (now (table .entry)) (rows (now (table .entry))) (now (masks .entry)))
+        × (now (masks .exit) ≡ passed ours (now (table .entry)) (rows (now (table .entry))) (now (masks .entry))) ⌝ }
 {
     let mut any = false;
     let mut e = (table.len() / 8) as u32;
@@ -84,7 +86,7 @@ fn pass(table: &[u32], masks: &mut [u32]) -> bool
 }
 
 // Passes until one adds nothing.
-fn settle(table: &[u32], masks: &mut [u32])
+fn settle(table: &[u32], masks: &mut [u64])
     requires { ⌜ GoodTableBy ours (now table) × ((rows (now table) ≤ length (now masks)) × BitsMeant ours (now table) (now masks)) ⌝ }
     ensures { λ _. ⌜ BitsMeant ours (now (table .entry)) (now (masks .exit)) × Settled ours (now (table .entry)) (now (masks .exit)) ⌝ }
 {
@@ -95,11 +97,11 @@ fn settle(table: &[u32], masks: &mut [u32])
 }
 
 // The mask of the free variables of the strategy e.
-pub fn mask_of(table: &[u32], e: u32) -> u32
+pub fn mask_of(table: &[u32], e: u32) -> u64
     requires { ⌜ GoodTableBy ours (now table) × StrategyOf (now table) e ⌝ }
     ensures { λ r. ⌜ MaskOfBy ours (now (table .entry)) e r ⌝ }
 {
-    let mut masks = [0u32; 4096];
+    let mut masks = [0u64; 4096];
     settle(table, &mut masks);
     mask_at(&masks, e)
 }

@@ -8,6 +8,7 @@ use native.Mathlib.Omega.{arith}
 use lib.Dec.{eqb}
 use lib.ListN.{length, getD, take, length-append, length-take}
 use borrow.Author.Tests.{eq-eqb, ne-eqb}
+use Rattle.checks.specs.Kinds.{variables}
 use Rattle.words.specs.Tests.{if_then_else_}
 use Rattle.words.specs.Words.{wordAt}
 use Rattle.job.specs.Lines.{Line}
@@ -113,23 +114,23 @@ module _ (a p s m u : ℕ) (w b : List ℕ) where
   answered-alone e = rw e (append-nil _)
 
   pub answered-shown : shown a ≡ true
-      → answered a p s m u w b ≡ (answerLine (a ∷ p ∷ s ∷ m ∷ u ∷ []) ++ written (nodeLines w m)) ++ written (bindingLines b 32)
+      → answered a p s m u w b ≡ (answerLine (a ∷ p ∷ s ∷ m ∷ u ∷ []) ++ written (nodeLines w m)) ++ written (bindingLines b variables)
   unfolding answered
-  answered-shown e = rw e (sym (append-assoc (answerLine (a ∷ p ∷ s ∷ m ∷ u ∷ [])) (written (nodeLines w m)) (written (bindingLines b 32))))
+  answered-shown e = rw e (sym (append-assoc (answerLine (a ∷ p ∷ s ∷ m ∷ u ∷ [])) (written (nodeLines w m)) (written (bindingLines b variables))))
 
 -- The whole text is at most 81,726 bytes, so that a buffer of 81,920 is never too short.
 pub answerFits : AnswerFits
 unfolding answered
 answerFits a p s m u w b l = go (shown a)
   where
-    go : (q : Bool) → length (answerLine (a ∷ p ∷ s ∷ m ∷ u ∷ []) ++ (if q then written (nodeLines w m) ++ written (bindingLines b 32) else [])) ≤ 81726
+    go : (q : Bool) → length (answerLine (a ∷ p ∷ s ∷ m ∷ u ∷ []) ++ (if q then written (nodeLines w m) ++ written (bindingLines b variables) else [])) ≤ 80958 + 24 * variables
     go true =
         omega (
           arith,
-          length-append (answerLine (a ∷ p ∷ s ∷ m ∷ u ∷ [])) (written (nodeLines w m) ++ written (bindingLines b 32)),
-          length-append (written (nodeLines w m)) (written (bindingLines b 32)),
+          length-append (answerLine (a ∷ p ∷ s ∷ m ∷ u ∷ [])) (written (nodeLines w m) ++ written (bindingLines b variables)),
+          length-append (written (nodeLines w m)) (written (bindingLines b variables)),
           length-answerLine a p s m u,
           length-nodes w m,
-          length-bindings b 32,
+          length-bindings b variables,
         )
     go false = omega (arith, length-append (answerLine (a ∷ p ∷ s ∷ m ∷ u ∷ [])) [], length-answerLine a p s m u)

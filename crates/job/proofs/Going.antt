@@ -6,6 +6,7 @@ use mathlib.Core.List.{List}
 use Prim.Native.Nat.{ℕ, _+_, _≤_, _<_}
 use native.Mathlib.Omega.{arith}
 use lib.ListN.{length, getD, drop}
+use Rattle.checks.specs.Kinds.{variables}
 use Rattle.text.specs.Text.{parts}
 use Rattle.job.specs.Lines.{takenAt}
 use Rattle.job.specs.Job.{Reading, admitted, headed, tableWith, storeWith, bindingsWith, bad, good, readLines}
@@ -19,7 +20,7 @@ pub record Goes (s : List ℕ) (g₀ g : Reading) (at n : ℕ) : Type 0 where
   pub counted : n ≤ at + 1
   pub table : length (g .table) ≡ 4096
   pub store : length (g .store) ≡ 8192
-  pub bindings : length (g .bindings) ≡ 32
+  pub bindings : length (g .bindings) ≡ variables
   pub entries : g .heading .entries ≤ 512
   pub nodes : g .heading .nodes ≤ 1024
   pub means : readLines g n (parts 10 (drop at s)) ≡ readLines g₀ 1 (parts 10 s)
@@ -45,10 +46,10 @@ module _ {s : List ℕ} {g₀ g : Reading} {at n : ℕ} (goes : Goes s g₀ g at
       pub line-sound : Sound s at t
       line-sound = sound s at t z k
 
-      pub binding-asks : (length (g .bindings) ≡ 32) × (t .name ≡ 3 → (getD (t .at) 0 0 < 32) × (getD (t .at) 1 0 < 131072))
+      pub binding-asks : (length (g .bindings) ≡ variables) × (t .name ≡ 3 → (getD (t .at) 0 0 < variables) × (getD (t .at) 1 0 < 131072))
       binding-asks = (goes .bindings, binding-fit (t .name) (t .count) (t .at) (line-sound .fit))
 
-      pub heading-asks : (g .heading .entries ≤ 512) × (g .heading .nodes ≤ 1024) × (t .name ≡ 3 → getD (t .at) 0 0 < 32) × (t .name ≤ 3)
+      pub heading-asks : (g .heading .entries ≤ 512) × (g .heading .nodes ≤ 1024) × (t .name ≡ 3 → getD (t .at) 0 0 < variables) × (t .name ≤ 3)
       heading-asks = (goes .entries, goes .nodes, λ e. binding-asks .1 e .0, k)
 
       -- One that may come next finds room in the arrays.
@@ -62,7 +63,7 @@ module _ {s : List ℕ} {g₀ g : Reading} {at n : ℕ} (goes : Goes s g₀ g at
         -- Taken in, it leaves the loop where it was, one line on.
         pub goes-on : at < length s → {h′ : Heading} {t′ s′ b′ : List ℕ}
             → h′ ≡ headed (g .heading) (t .name) (t .at)
-            → t′ ≡ tableWith (g .table) (g .heading .entries) (t .name) (t .count) (t .at)
+            → t′ ≡ tableWith (g .table) (g .heading .entries) (t .name) (t .count) (t .at) (t .high)
             → s′ ≡ storeWith (g .store) (g .heading .nodes) (t .name) (t .count) (t .at)
             → b′ ≡ bindingsWith (g .bindings) (t .name) (t .at)
             → length t′ ≡ length (g .table) → length s′ ≡ length (g .store) → length b′ ≡ length (g .bindings)
@@ -78,7 +79,7 @@ module _ {s : List ℕ} {g₀ g : Reading} {at n : ℕ} (goes : Goes s g₀ g at
               entries = rw p (rows .0);
               nodes = rw p (rows .1);
               means =
-                  ap (λ (x : Reading). readLines x (n + 1) (parts 10 (drop (t .next) s))) (with-made g (t .name) (t .count) (t .at) h′ t′ s′ b′ p q r u)
+                  ap (λ (x : Reading). readLines x (n + 1) (parts 10 (drop (t .next) s))) (with-made g (t .name) (t .count) (t .at) (t .high) h′ t′ s′ b′ p q r u)
                   ∙ sym (reads-on s at t z h g n k a)
                   ∙ goes .means;
             }

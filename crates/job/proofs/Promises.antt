@@ -9,14 +9,15 @@ use lib.Dec.{ltb, eqb}
 use lib.ListN.{length, getD, length-append}
 use borrow.Author.Tests.{le-ltb, ltb-false, eqb-true, eqb-false, ne-eqb}
 use Rattle.words.specs.Tests.{if_then_else_}
-use Rattle.text.specs.Text.{parts, joined, joinedAfter, numbersOf, decimal}
-use Rattle.text.specs.Written.{numbersText, Within}
-use Rattle.job.specs.Lines.{Line, nameOf, letterOf, fits, lineFrom, lineOfFields, lineOf}
+use Rattle.text.specs.Text.{oneWord, twoWords, parts, joined, joinedAfter, numberOf, inFront, numbersOf, decimal, decimalWide}
+use Rattle.text.specs.Written.{numbersText}
+use Rattle.job.specs.Lines.{Line, nameOf, letterOf, fits, lineFrom, entryNumbers, fieldNumbers, lineOfFields, lineOf}
 use Rattle.job.specs.Job.{Reading, unread, admitted, taken, accepted, Meant, bad, good, orBad, ended, readLines, meant}
-use Rattle.job.specs.Written.{nameText, lineText, written, Follow, end, next}
+use Rattle.job.specs.Written.{nameText, entryText, fieldsText, lineText, written, Limited, entry, other, Follow, end, next}
 use Rattle.job.specs.Promises.{JobText, TextIsJob, FirstBad, BadLine, OneReading}
 use Rattle.text.proofs.Separators.{parts-cut, some-part, joined-parts, parts-rest}
-use Rattle.text.proofs.Decimal.{never, same, numbers-text, joinedAfter-numbers}
+use Rattle.text.proofs.Put.{for-one, for-two}
+use Rattle.text.proofs.Decimal.{never, same, number-text, numbers-text, joinedAfter-numbers}
 use Rattle.job.proofs.Readings.{fits-name}
 use Rattle.job.proofs.Grammar.{line-read, line-clear, written-read}
 
@@ -60,22 +61,56 @@ name-text (a ∷ b ∷ c ∷ d ∷ f) l = absurd (long (rw (ne-eqb (suc (suc (su
 record Read (l : List ℕ) (x : Line) : Type 0 where
   text : l ≡ lineText x
   fit : fits (x .name) (length (x .numbers)) (x .numbers) ≡ true
-  within : Within (x .numbers)
+  within : Limited (x .name) (x .numbers)
 
-line-made : (f : List ℕ) (fs : List (List ℕ)) (vs : List ℕ) → f ≡ nameText (nameOf f) → fs ≡ map decimal vs → f ++ joinedAfter 9 fs ≡ lineText (record { name = nameOf f; numbers = vs })
+-- The fields of an `e` line are the text of its numbers.
+entry-text : (fs : List (List ℕ)) (vs : List ℕ) → entryNumbers fs ≡ some vs → (joinedAfter 9 fs ≡ entryText vs) × Limited 1 vs
+unfolding entryNumbers entryText
+entry-text [] vs e = never e
+entry-text (f ∷ []) vs e = never e
+entry-text (f ∷ g ∷ fs) vs e = go (numberOf oneWord f) refl (numberOf twoWords g) refl (numbersOf 8 fs) refl e
+  where
+    text-of : (k a : ℕ) (ws : List ℕ) → f ≡ decimal k → g ≡ decimalWide a → fs ≡ map decimal ws → joinedAfter 9 (f ∷ g ∷ fs) ≡ entryText (k ∷ a ∷ ws)
+    text-of k a ws p q r =
+        (λ z. 9 ∷ (p z ++ (9 ∷ (q z ++ joinedAfter 9 (r z)))))
+        ∙ ap (λ (t : List ℕ). 9 ∷ (decimal k ++ (9 ∷ (decimalWide a ++ t)))) (joinedAfter-numbers ws)
+
+    go : (x : Option ℕ) → numberOf oneWord f ≡ x → (y : Option ℕ) → numberOf twoWords g ≡ y → (z : Option (List ℕ)) → numbersOf 8 fs ≡ z
+        → inFront x (inFront y z) ≡ some vs → (joinedAfter 9 (f ∷ g ∷ fs) ≡ entryText vs) × Limited 1 vs
+    go none i y j z k e = never e
+    go (some a) i none j z k e = never e
+    go (some a) i (some b) j none k e = never e
+    go (some a) i (some b) j (some ws) k e =
+        let p = number-text for-one f a i in
+        let q = number-text for-two g b j in
+        let r = numbers-text 8 fs ws k in
+        subst (λ (us : List ℕ). (joinedAfter 9 (f ∷ g ∷ fs) ≡ entryText us) × Limited 1 us) (same e)
+        (text-of a b ws (p .0) (q .0) (r .0), entry (p .1) (q .1) (r .1))
+
+-- So are the fields of any line.
+fields-text : (k : ℕ) (fs : List (List ℕ)) (vs : List ℕ) → fieldNumbers k fs ≡ some vs → (joinedAfter 9 fs ≡ fieldsText k vs) × Limited k vs
+fields-text k fs vs e = go (eqb k 1) refl e
+  where
+    go : (b : Bool) → eqb k 1 ≡ b → (if b then entryNumbers fs else numbersOf 8 fs) ≡ some vs → (joinedAfter 9 fs ≡ (if b then entryText vs else numbersText vs)) × Limited k vs
+    go true i e = let t = entry-text fs vs e in (t .0, subst (λ (n : ℕ). Limited n vs) (sym (eqb-true k 1 i)) (t .1))
+    go false i e =
+        let t = numbers-text 8 fs vs e in
+        (ap (joinedAfter 9) (t .0) ∙ joinedAfter-numbers vs, other i (t .1))
+
+line-made : (f : List ℕ) (fs : List (List ℕ)) (vs : List ℕ) → f ≡ nameText (nameOf f) → joinedAfter 9 fs ≡ fieldsText (nameOf f) vs → f ++ joinedAfter 9 fs ≡ lineText (record { name = nameOf f; numbers = vs })
 unfolding lineText
-line-made f fs vs n e = ap (λ (gs : List (List ℕ)). f ++ joinedAfter 9 gs) e ∙ ap (λ (r : List ℕ). f ++ r) (joinedAfter-numbers vs) ∙ ap (λ (a : List ℕ). a ++ numbersText vs) n
+line-made f fs vs n e = ap (λ (r : List ℕ). f ++ r) e ∙ ap (λ (a : List ℕ). a ++ fieldsText (nameOf f) vs) n
 
-read-from : (f : List ℕ) (fs : List (List ℕ)) (o : Option (List ℕ)) → numbersOf 8 fs ≡ o → (x : Line) → lineFrom (nameOf f) o ≡ some x → Read (f ++ joinedAfter 9 fs) x
+read-from : (f : List ℕ) (fs : List (List ℕ)) (o : Option (List ℕ)) → fieldNumbers (nameOf f) fs ≡ o → (x : Line) → lineFrom (nameOf f) o ≡ some x → Read (f ++ joinedAfter 9 fs) x
 read-from f fs none i x e = never e
 read-from f fs (some vs) i x e = go (fits (nameOf f) (length vs) vs) refl e
   where
     made : fits (nameOf f) (length vs) vs ≡ true → Read (f ++ joinedAfter 9 fs) (record { name = nameOf f; numbers = vs })
-    made t = record { text = text-of t; fit = t; within = numbers-text 8 fs vs i .1 }
+    made t = record { text = text-of t; fit = t; within = fields-text (nameOf f) fs vs i .1 }
       where
         text-of : fits (nameOf f) (length vs) vs ≡ true → f ++ joinedAfter 9 fs ≡ lineText (record { name = nameOf f; numbers = vs })
         text-of t =
-            line-made f fs vs (name-text f (ltb-false 3 (nameOf f) (fits-name (nameOf f) (length vs) vs t))) (numbers-text 8 fs vs i .0)
+            line-made f fs vs (name-text f (ltb-false 3 (nameOf f) (fits-name (nameOf f) (length vs) vs t))) (fields-text (nameOf f) fs vs i .0)
 
     go : (b : Bool) → fits (nameOf f) (length vs) vs ≡ b → (if b then some (record { name = nameOf f; numbers = vs }) else none) ≡ some x → Read (f ++ joinedAfter 9 fs) x
     go true t e = subst (Read (f ++ joinedAfter 9 fs)) (same e) (made t)
@@ -87,7 +122,7 @@ line-text l x e = subst (λ (s : List ℕ). Read s x) (joined-parts 9 l) (go (pa
   where
     go : (fs : List (List ℕ)) → lineOfFields fs ≡ some x → Read (joined 9 fs) x
     go [] e = never e
-    go (f ∷ fs) e = read-from f fs (numbersOf 8 fs) refl x e
+    go (f ∷ fs) e = read-from f fs (fieldNumbers (nameOf f) fs) refl x e
 
 -- The lines of a text that is read.
 record Lines (s : List ℕ) (g h : Reading) : Type 0 where
@@ -210,7 +245,7 @@ front s x r ps i e = sym i ∙ ap (parts 10) e ∙ parts-cut r (line-clear x)
 -- Bad where it stands: the lines before are none.
 here : (g : Reading) (s : List ℕ) (n m : ℕ) → n ≡ m
     → ((x : Line) (r : List ℕ) → s ≡ lineText x ++ (10 ∷ r) → fits (x .name) (length (x .numbers)) (x .numbers) ≡ true
-    → Within (x .numbers) → admitted (g .heading) (x .name) (getD (x .numbers) 0 0) ≡ true → ⊥)
+    → Limited (x .name) (x .numbers) → admitted (g .heading) (x .name) (getD (x .numbers) 0 0) ≡ true → ⊥)
     → (s ≡ [] → g .heading .section ≡ 0)
     → FirstBad g s n m
 unfolding written
@@ -257,7 +292,7 @@ bad-next g s l k ls n m i rest h o j e = go o j e
     some-text : s ≡ [] → g .heading .section ≡ 0
     some-text z = absurd (let q : length (l ++ (10 ∷ joined 10 (k ∷ ls))) ≡ 0 = ap length (sym whole ∙ z) in omega (arith, q, length-append l (10 ∷ joined 10 (k ∷ ls))))
 
-    first-line : (x : Line) (r : List ℕ) → s ≡ lineText x ++ (10 ∷ r) → fits (x .name) (length (x .numbers)) (x .numbers) ≡ true → Within (x .numbers) → lineOf l ≡ some x
+    first-line : (x : Line) (r : List ℕ) → s ≡ lineText x ++ (10 ∷ r) → fits (x .name) (length (x .numbers)) (x .numbers) ≡ true → Limited (x .name) (x .numbers) → lineOf l ≡ some x
     first-line x r z f w =
         let q : l ∷ k ∷ ls ≡ lineText x ∷ parts 10 r = front s x r (l ∷ k ∷ ls) i z in
         let p : l ≡ lineText x = cc in

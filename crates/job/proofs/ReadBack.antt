@@ -8,13 +8,14 @@ use lib.Dec.{eqb}
 use lib.ListN.{length, getD, set, take, drop, replicate, length-append, length-take, length-drop}
 use lib.Seq.{take-add, take-at, take-all, take-suc, getD-drop, length-take-le, set-at, append-snoc}
 use borrow.Author.Tests.{lt-ltb, le-leb, eqb-true, eqb-false}
+use Rattle.checks.specs.Kinds.{variables}
 use Rattle.words.specs.Tests.{if_then_else_}
 use Rattle.words.specs.Words.{wordAt, putRow}
 use Rattle.words.proofs.Rows.{length-putRow}
 use Rattle.job.specs.Lines.{Line, nodeFits, bindingFits, fits, nodeRow}
 use Rattle.job.specs.Job.{Reading, zeros, admitted, headed, tableWith, storeWith, bindingsWith, with, taken}
 use Rattle.text.specs.Written.{Within, empty, limited}
-use Rattle.job.specs.Written.{Follow, end, next}
+use Rattle.job.specs.Written.{other, Follow, end, next}
 use Rattle.job.specs.Answer.{nodeShown, nodeNumbers, nodeLine, nodeLines, bindingLine, bindingLines}
 use Rattle.job.specs.Promises.{Plain, BeforeNodes, ReadBack}
 
@@ -136,7 +137,7 @@ record Nodes (g : Reading) (w : List ℕ) (n : ℕ) : Type 0 where
   variable : after .heading .variable ≡ 0
   store : length (after .store) ≡ 8192
   same : take (8 * n) (after .store) ≡ take (8 * n) w
-  bindings : after .bindings ≡ zeros 32
+  bindings : after .bindings ≡ zeros variables
 
 node-admitted : (h : Reading) (v : ℕ) → 1 ≤ h .heading .section → h .heading .section ≤ 2 → h .heading .nodes < 1024 → admitted (h .heading) 2 v ≡ true
 unfolding admitted
@@ -171,7 +172,7 @@ node-next g w n p l o t =
       after = taken h (nodeLine w n);
       follow =
           follow-more (nodeLine w n ∷ []) (t .follow)
-          (next (fits-shown w n p) (within-shown w n p) (node-admitted h (getD (nodeNumbers w n) 0 0) (t .begun) (t .before) (omega (arith, t .nodes))) end);
+          (next (fits-shown w n p) (other refl (within-shown w n p)) (node-admitted h (getD (nodeNumbers w n) 0 0) (t .begun) (t .before) (omega (arith, t .nodes))) end);
       begun = omega arith;
       before = omega arith;
       nodes = omega (arith, t .nodes);
@@ -204,7 +205,7 @@ record Bound (g : Reading) (b : List ℕ) (v : ℕ) (xs : List Line) : Type 0 wh
   variable : after .heading .variable ≤ v
   nodes : after .heading .nodes ≡ g .heading .nodes
   store : after .store ≡ g .store
-  bindings : after .bindings ≡ take v b ++ replicate (32 - v) 0
+  bindings : after .bindings ≡ take v b ++ replicate (variables - v) 0
 
 -- A number that is not zero, less one, and one more.
 some-one : (n : ℕ) → (n ≡ 0 → ⊥) → n - 1 + 1 ≡ n
@@ -212,29 +213,29 @@ some-one zero z = absurd (z refl)
 some-one (suc n) z = omega arith
 
 -- The words of the variables below v, and then zeros: one variable more.
-module _ (b : List ℕ) (v : ℕ) (n : length b ≡ 32) (l : v < 32) where
-  left-one : _≡_ {A = List ℕ} (replicate (32 - v) 0) (0 ∷ replicate (32 - suc v) 0)
+module _ (b : List ℕ) (v : ℕ) (n : length b ≡ variables) (l : v < variables) where
+  left-one : _≡_ {A = List ℕ} (replicate (variables - v) 0) (0 ∷ replicate (variables - suc v) 0)
   left-one =
-      let e : 32 - v ≡ suc (32 - suc v) = omega arith in
+      let e : variables - v ≡ suc (variables - suc v) = omega arith in
       ap (λ (k : ℕ). replicate k 0) e
 
-  with-one : (x : ℕ) → getD b v 0 ≡ x → take v b ++ (x ∷ replicate (32 - suc v) 0) ≡ take (suc v) b ++ replicate (32 - suc v) 0
+  with-one : (x : ℕ) → getD b v 0 ≡ x → take v b ++ (x ∷ replicate (variables - suc v) 0) ≡ take (suc v) b ++ replicate (variables - suc v) 0
   with-one x e =
-      sym (append-snoc (take v b) x (replicate (32 - suc v) 0))
-      ∙ ap (λ (a : ℕ). (take v b ++ (a ∷ [])) ++ replicate (32 - suc v) 0) (sym e)
-      ∙ ap (λ (a : List ℕ). a ++ replicate (32 - suc v) 0) (sym (take-suc b v 0 (omega arith)))
+      sym (append-snoc (take v b) x (replicate (variables - suc v) 0))
+      ∙ ap (λ (a : ℕ). (take v b ++ (a ∷ [])) ++ replicate (variables - suc v) 0) (sym e)
+      ∙ ap (λ (a : List ℕ). a ++ replicate (variables - suc v) 0) (sym (take-suc b v 0 (omega arith)))
 
-  unbound-more : getD b v 0 ≡ 0 → take v b ++ replicate (32 - v) 0 ≡ take (suc v) b ++ replicate (32 - suc v) 0
+  unbound-more : getD b v 0 ≡ 0 → take v b ++ replicate (variables - v) 0 ≡ take (suc v) b ++ replicate (variables - suc v) 0
   unbound-more e = ap (λ (a : List ℕ). take v b ++ a) left-one ∙ with-one 0 e
 
-  bound-more : (getD b v 0 ≡ 0 → ⊥) → set (take v b ++ replicate (32 - v) 0) v (getD b v 0 - 1 + 1) ≡ take (suc v) b ++ replicate (32 - suc v) 0
+  bound-more : (getD b v 0 ≡ 0 → ⊥) → set (take v b ++ replicate (variables - v) 0) v (getD b v 0 - 1 + 1) ≡ take (suc v) b ++ replicate (variables - suc v) 0
   bound-more z =
       let x : getD b v 0 - 1 + 1 ≡ getD b v 0 = some-one (getD b v 0) z in
       ap (λ (a : List ℕ). set (take v b ++ a) v (getD b v 0 - 1 + 1)) left-one
-      ∙ set-at (take v b) 0 (replicate (32 - suc v) 0) (getD b v 0 - 1 + 1) v (length-take-le v b (omega arith))
+      ∙ set-at (take v b) 0 (replicate (variables - suc v) 0) (getD b v 0 - 1 + 1) v (length-take-le v b (omega arith))
       ∙ with-one (getD b v 0 - 1 + 1) (sym x)
 
-binding-fits : (v x : ℕ) → v < 32 → x < 131072 → fits 3 2 (v ∷ x ∷ []) ≡ true
+binding-fits : (v x : ℕ) → v < variables → x < 131072 → fits 3 2 (v ∷ x ∷ []) ≡ true
 unfolding fits bindingFits
 binding-fits v x l m = rw (lt-ltb _ _ l, lt-ltb _ _ m)
 
@@ -243,7 +244,7 @@ unfolding admitted
 binding-admitted h v p q = rw (le-leb _ _ p, le-leb _ _ q)
 
 -- One variable more.
-bound-next : (g : Reading) (b : List ℕ) (v : ℕ) (xs : List Line) → length b ≡ 32 → getD b v 0 ≤ 131072 → v < 32 → Bound g b v xs → Bound g b (suc v) (xs ++ bindingLine b v)
+bound-next : (g : Reading) (b : List ℕ) (v : ℕ) (xs : List Line) → length b ≡ variables → getD b v 0 ≤ 131072 → v < variables → Bound g b v xs → Bound g b (suc v) (xs ++ bindingLine b v)
 unfolding bindingLine with headed tableWith storeWith bindingsWith
 bound-next g b v xs n m l t = go (eqb (getD b v 0) 0) refl
   where
@@ -261,7 +262,7 @@ bound-next g b v xs n m l t = go (eqb (getD b v 0) 0) refl
       after = taken (t .after) (record { name = 3; numbers = v ∷ (getD b v 0 - 1) ∷ [] });
       follow =
           follow-more (record { name = 3; numbers = v ∷ (getD b v 0 - 1) ∷ [] } ∷ []) (t .follow)
-          (next (binding-fits v (getD b v 0 - 1) l (omega (arith, m))) (limited (omega arith) (limited (omega (arith, m)) empty)) (binding-admitted (t .after) v (t .begun) (t .variable)) end);
+          (next (binding-fits v (getD b v 0 - 1) l (omega (arith, m))) (other refl (limited (omega arith) (limited (omega (arith, m)) empty))) (binding-admitted (t .after) v (t .begun) (t .variable)) end);
       begun = omega arith;
       variable = omega arith;
       nodes = t .nodes;
@@ -269,7 +270,7 @@ bound-next g b v xs n m l t = go (eqb (getD b v 0) 0) refl
       bindings = ap (λ (c : List ℕ). set c v (getD b v 0 - 1 + 1)) (t .bindings) ∙ bound-more b v n l (eqb-false (getD b v 0) 0 i);
     }
 
-bindings-read : (g : Reading) (b : List ℕ) → 1 ≤ g .heading .section → g .heading .variable ≡ 0 → g .bindings ≡ zeros 32 → length b ≡ 32 → ((v : ℕ) → getD b v 0 ≤ 131072) → (v : ℕ) → v ≤ 32 → Bound g b v (bindingLines b v)
+bindings-read : (g : Reading) (b : List ℕ) → 1 ≤ g .heading .section → g .heading .variable ≡ 0 → g .bindings ≡ zeros variables → length b ≡ variables → ((v : ℕ) → getD b v 0 ≤ 131072) → (v : ℕ) → v ≤ variables → Bound g b v (bindingLines b v)
 unfolding bindingLines zeros
 bindings-read g b p q r n m zero h = record { after = g; follow = end; begun = p; variable = omega (arith, q); nodes = refl; store = refl; bindings = r }
 bindings-read g b p q r n m (suc v) h = bound-next g b v (bindingLines b v) n (m v) (omega arith) (bindings-read g b p q r n m v (omega arith))
@@ -277,11 +278,11 @@ bindings-read g b p q r n m (suc v) h = bound-next g b v (bindingLines b v) n (m
 pub readBack : ReadBack
 readBack g w b m y l =
     let t : Nodes g w m = nodes-read g w m y (l .inside) (l .most) (l .nodes) m (omega arith) in
-    let u : Bound (t .after) b 32 (bindingLines b 32) = bindings-read (t .after) b (t .begun) (t .variable) (t .bindings) (l .variables) (l .bound) 32 (omega arith) in
+    let u : Bound (t .after) b variables (bindingLines b variables) = bindings-read (t .after) b (t .begun) (t .variable) (t .bindings) (l .variables) (l .bound) variables (omega arith) in
     record {
       after = u .after;
-      follow = follow-more (bindingLines b 32) (t .follow) (u .follow);
+      follow = follow-more (bindingLines b variables) (t .follow) (u .follow);
       mark = u .nodes ∙ t .nodes;
       nodes = ap (take (8 * m)) (u .store) ∙ t .same;
-      bindings = u .bindings ∙ append-nil (take 32 b) ∙ take-all 32 b (omega (arith, l .variables));
+      bindings = u .bindings ∙ append-nil (take variables b) ∙ take-all variables b (omega (arith, l .variables));
     }

@@ -1,21 +1,22 @@
 -- A line taken in where it stands in a text: what the text means goes on after it. Assumes nothing.
 use mathlib.Core.Path.{_≡_, refl, ap, sym, _∙_, subst}
-use mathlib.Core.Bool.{Bool, true, false, _&&_, true≢false}
+use mathlib.Core.Bool.{Bool, true, false, _&&_, _||_, true≢false}
 use mathlib.Core.List.{List, [], _∷_}
 use mathlib.Core.Logic.{⊎-elim}
 use mathlib.Core.Option.{Option, none, some}
-use Prim.Native.Nat.{ℕ, _+_, _-_, _≤_, _<_}
+use Prim.Native.Nat.{ℕ, _+_, _-_, _%_, _≤_, _<_}
 use native.Mathlib.Nat.{sub-zero}
 use native.Mathlib.Omega.{arith}
 use lib.Dec.{ltb, leb, eqb}
-use lib.ListN.{length, getD, drop, drop-of-length-le}
-use borrow.Author.Tests.{lt-ltb, le-ltb, eqb-true, leb-true, ltb-true, eq-eqb, ne-eqb}
+use lib.ListN.{length, getD, set, drop, drop-of-length-le}
+use borrow.Author.Tests.{lt-ltb, le-ltb, le-leb, eqb-true, leb-true, ltb-true, eq-eqb, ne-eqb}
+use Rattle.checks.specs.Kinds.{variables}
 use Rattle.words.specs.Tests.{if_then_else_}
 use Rattle.words.proofs.Tests.{and-true, below-or-from}
 use Rattle.words.specs.Words.{clearedFrom}
 use Rattle.text.specs.Text.{parts, upTo, numbersOf, eight}
 use Rattle.text.specs.Lines.{lineEnd}
-use Rattle.job.specs.Lines.{Line, nameOf, jobFits, entryFits, nodeFits, bindingFits, fits, lineFrom, lineOfFields, lineOf, entryRow, nodeRow, noLine, lineHeld, takenAt}
+use Rattle.job.specs.Lines.{Line, nameOf, jobFits, entryFits, nodeFits, bindingFits, fits, lineFrom, fieldNumbers, lineOfFields, lineOf, words, upper, entryRow, nodeRow, noLine, lineHeld, takenAt}
 use Rattle.job.specs.Job.{Reading, admitted, headed, tableWith, storeWith, bindingsWith, with, taken, accepted, Meant, bad, good, orBad, ended, readLines, Holds, blank, zeros, meant, parsedOf, tableOf, storeOf, bindingsOf}
 use Rattle.job.specs.declared.Parsed.the-variants as told
 use Rattle.job.specs.declared.Parsed.{Parsed}
@@ -44,7 +45,7 @@ lined l = go (parts 9 l)
   where
     go : (fs : List (List ℕ)) → Lined (lineOfFields fs)
     go [] = no
-    go (f ∷ fs) = lined-from (nameOf f) (numbersOf 8 fs)
+    go (f ∷ fs) = lined-from (nameOf f) (fieldNumbers (nameOf f) fs)
 
 -- What fits a name has one of the four.
 pub fits-name : (k n : ℕ) (vs : List ℕ) → fits k n vs ≡ true → ltb 3 k ≡ false
@@ -61,10 +62,72 @@ fits-name k n vs e = go (eqb k 0) refl (eqb k 1) refl (eqb k 2) refl (eqb k 3) r
     go false p false q false r false s e = absurd (true≢false (sym e))
 
 -- What is read with a line's eight places is what is read with its numbers.
-with-eight : (g : Reading) (k n : ℕ) (vs : List ℕ) → with g k n (eight vs) ≡ with g k n vs
+with-eight : (g : Reading) (k n : ℕ) (vs : List ℕ) (h : ℕ) → with g k n (eight vs) h ≡ with g k n vs h
 unfolding with headed tableWith storeWith bindingsWith entryRow nodeRow
-with-eight g k n vs =
+with-eight g k n vs h =
     rw (getD-eight vs 0, getD-eight vs 1, getD-eight vs 2, getD-eight vs 3, getD-eight vs 4, getD-eight vs 5, getD-eight vs 6, getD-eight vs 7)
+
+-- What fits each name.
+module _ (k n : ℕ) (vs : List ℕ) (f : fits k n vs ≡ true) where
+  pub entry-fit : k ≡ 1 → (2 ≤ n) × (n ≤ 8) × (getD vs 0 0 ≤ 255)
+  unfolding fits entryFits
+  entry-fit e =
+      let a : entryFits n vs ≡ true = rw e at f in
+      let b : _ = and-true (leb 2 n) _ a in
+      let d : _ = and-true (leb n 8) _ (b .1) in
+      let c : _ = and-true (leb (getD vs 0 0) 255) _ (d .1) in
+      (leb-true _ _ (b .0), leb-true _ _ (d .0), leb-true _ _ (c .0))
+
+  pub node-fit : k ≡ 2 → 1 ≤ n
+  unfolding fits nodeFits
+  node-fit e =
+      let a : nodeFits n vs ≡ true = rw e at f in
+      leb-true _ _ (and-true (leb 1 n) _ a .0)
+
+  pub binding-fit : k ≡ 3 → (getD vs 0 0 < variables) × (getD vs 1 0 < 131072)
+  unfolding fits bindingFits
+  binding-fit e =
+      let a : bindingFits n vs ≡ true = rw e at f in
+      let b : _ = and-true (ltb (getD vs 0 0) variables) _ (and-true (eqb n 2) _ a .1) in
+      (ltb-true _ _ (b .0), ltb-true _ _ (b .1))
+
+-- An `e` line whose argument is of one word.
+entry-fits : (k n : ℕ) (vs : List ℕ) → k ≡ 1 → 2 ≤ n → n ≤ 8 → getD vs 0 0 ≤ 255 → getD vs 1 0 ≤ 4294967295 → fits k n vs ≡ true
+unfolding fits entryFits
+entry-fits k n vs e l m o p = rw (e, le-leb _ _ l, le-leb _ _ m, le-leb _ _ o, le-leb _ _ p) (either (eqb (getD vs 0 0) 16))
+  where
+    either : (b : Bool) → b || true ≡ true
+    either true = refl
+    either false = refl
+
+-- The first word is the first number.
+first-word : (k : ℕ) (vs : List ℕ) → getD (words k vs) 0 0 ≡ getD vs 0 0
+first-word k vs = go (eqb k 1) vs
+  where
+    go : (b : Bool) (vs : List ℕ) → getD (if b then set vs 1 (getD vs 1 0 % 4294967296) else vs) 0 0 ≡ getD vs 0 0
+    go true [] = refl
+    go true (v ∷ vs) = refl
+    go false vs = refl
+
+second-word : (vs : List ℕ) → getD (set vs 1 (getD vs 1 0 % 4294967296)) 1 0 ≤ 4294967295
+second-word [] = omega arith
+second-word (v ∷ []) = omega arith
+second-word (v ∷ w ∷ vs) = omega arith
+
+-- Words fit where the numbers do.
+fits-words : (k n : ℕ) (vs : List ℕ) → fits k n vs ≡ true → fits k n (words k vs) ≡ true
+fits-words k n vs f = go (eqb k 1) refl
+  where
+    first : (vs : List ℕ) → getD (set vs 1 (getD vs 1 0 % 4294967296)) 0 0 ≡ getD vs 0 0
+    first [] = refl
+    first (v ∷ vs) = refl
+
+    go : (b : Bool) → eqb k 1 ≡ b → fits k n (if b then set vs 1 (getD vs 1 0 % 4294967296) else vs) ≡ true
+    go true e =
+        let o : k ≡ 1 = eqb-true k 1 e in
+        let h = entry-fit k n vs f o in
+        entry-fits k n (set vs 1 (getD vs 1 0 % 4294967296)) o (h .0) (h .1) (rw (first vs) (h .2)) (second-word vs)
+    go false e = f
 
 -- Something after the last line feed is bad.
 ended-more : (g : Reading) (n : ℕ) (l : List ℕ) → 0 < length l → ended g n l ≡ bad n
@@ -76,7 +139,7 @@ abbrev pub goesOn : Reading → ℕ → Taken → List ℕ → Meant
 goesOn g n t s =
     if ltb 3 (t .name)
     then bad n
-    else (if admitted (g .heading) (t .name) (getD (t .at) 0 0) then readLines (with g (t .name) (t .count) (t .at)) (n + 1) (parts 10 (drop (t .next) s)) else bad n)
+    else (if admitted (g .heading) (t .name) (getD (t .at) 0 0) then readLines (with g (t .name) (t .count) (t .at) (t .high)) (n + 1) (parts 10 (drop (t .next) s)) else bad n)
 
 module _ (s : List ℕ) (at : ℕ) where
   abbrev l : List ℕ
@@ -100,7 +163,7 @@ module _ (s : List ℕ) (at : ℕ) where
         → orBad n (accepted g o) (λ g′. readLines g′ (n + 1) (m ∷ ls)) ≡ goesOn g n (lineHeld o (e + 1)) s
     one none no m ls p = refl
     one (some x) (yes y f) m ls p =
-        rw (fits-name (x .name) (length (x .numbers)) (x .numbers) f, getD-eight (x .numbers) 0, with-eight g (x .name) (length (x .numbers)) (x .numbers), p)
+        rw (fits-name (x .name) (length (x .numbers)) (x .numbers) f, getD-eight (words (x .name) (x .numbers)) 0, first-word (x .name) (x .numbers), with-eight g (x .name) (length (x .numbers)) (words (x .name) (x .numbers)) (upper (x .name) (x .numbers)), p)
         (go (admitted (g .heading) (x .name) (getD (x .numbers) 0 0)))
       where
         go : (b : Bool)
@@ -146,41 +209,18 @@ module _ (s : List ℕ) (at : ℕ) (t : Taken) (z : t ≡ takenAt s at) (h : at 
   -- A line that is taken in.
   pub reads-on : t .name ≤ 3
       → admitted (g .heading) (t .name) (getD (t .at) 0 0) ≡ true
-      → readLines g n (parts 10 (drop at s)) ≡ readLines (with g (t .name) (t .count) (t .at)) (n + 1) (parts 10 (drop (t .next) s))
+      → readLines g n (parts 10 (drop at s)) ≡ readLines (with g (t .name) (t .count) (t .at) (t .high)) (n + 1) (parts 10 (drop (t .next) s))
   reads-on b a = reads s at g n h ∙ rw (← z, le-ltb _ _ b, a)
 
 -- What is read with a line, part by part.
-pub with-made : (g : Reading) (k n : ℕ) (vs : List ℕ) (h : Heading) (t s b : List ℕ)
+pub with-made : (g : Reading) (k n : ℕ) (vs : List ℕ) (x : ℕ) (h : Heading) (t s b : List ℕ)
     → h ≡ headed (g .heading) k vs
-    → t ≡ tableWith (g .table) (g .heading .entries) k n vs
+    → t ≡ tableWith (g .table) (g .heading .entries) k n vs x
     → s ≡ storeWith (g .store) (g .heading .nodes) k n vs
     → b ≡ bindingsWith (g .bindings) k vs
-    → record { heading = h; table = t; store = s; bindings = b } ≡ with g k n vs
+    → record { heading = h; table = t; store = s; bindings = b } ≡ with g k n vs x
 unfolding with
-with-made g k n vs h t s b p q r u = rw (p, q, r, u)
-
--- What fits each name.
-module _ (k n : ℕ) (vs : List ℕ) (f : fits k n vs ≡ true) where
-  pub entry-fit : k ≡ 1 → (2 ≤ n) × (n ≤ 8) × (getD vs 0 0 ≤ 255)
-  unfolding fits entryFits
-  entry-fit e =
-      let a : entryFits n vs ≡ true = rw e at f in
-      let b : _ = and-true (leb 2 n) _ a in
-      let d : _ = and-true (leb n 8) _ (b .1) in
-      (leb-true _ _ (b .0), leb-true _ _ (d .0), leb-true _ _ (d .1))
-
-  pub node-fit : k ≡ 2 → 1 ≤ n
-  unfolding fits nodeFits
-  node-fit e =
-      let a : nodeFits n vs ≡ true = rw e at f in
-      leb-true _ _ (and-true (leb 1 n) _ a .0)
-
-  pub binding-fit : k ≡ 3 → (getD vs 0 0 < 32) × (getD vs 1 0 < 131072)
-  unfolding fits bindingFits
-  binding-fit e =
-      let a : bindingFits n vs ≡ true = rw e at f in
-      let b : _ = and-true (ltb (getD vs 0 0) 32) _ (and-true (eqb n 2) _ a .1) in
-      (ltb-true _ _ (b .0), ltb-true _ _ (b .1))
+with-made g k n vs x h t s b p q r u = rw (p, q, r, u)
 
 -- What a line that may come next leaves room for.
 module _ (h : Heading) (k v : ℕ) (a : admitted h k v ≡ true) where
@@ -236,7 +276,7 @@ sound s at t z h = ⊎-elim long last (below-or-from (e s at) (length s))
     some-line : (o : Option Line) → Lined o → e s at < length s → lineHeld o (e s at + 1) .name ≤ 3 → Sound s at (lineHeld o (e s at + 1))
     some-line none no m k = absurd (omega arith)
     some-line (some x) (yes y f) m k =
-        record { fit = fits-eight (x .name) (length (x .numbers)) (x .numbers) ∙ f; on = omega arith; within = omega arith }
+        record { fit = fits-eight (x .name) (length (x .numbers)) (words (x .name) (x .numbers)) ∙ fits-words (x .name) (length (x .numbers)) (x .numbers) f; on = omega arith; within = omega arith }
 
     long : e s at < length s → Sound s at t
     long m =
@@ -257,7 +297,7 @@ unfolding meant
 meant-long text l = rw (lt-ltb _ _ l)
 
 -- Otherwise the lines decide.
-pub meant-read : (text t s b : List ℕ) → length text ≤ 60000 → t ≡ zeros 4096 → s ≡ zeros 8192 → b ≡ zeros 32
+pub meant-read : (text t s b : List ℕ) → length text ≤ 60000 → t ≡ zeros 4096 → s ≡ zeros 8192 → b ≡ zeros variables
     → readLines (record { heading = blank; table = t; store = s; bindings = b }) 1 (parts 10 text) ≡ meant text
 unfolding meant
 meant-read text t s b l p q r = rw (le-ltb _ _ l, p, q, r)
@@ -266,7 +306,7 @@ meant-read text t s b l p q r = rw (le-ltb _ _ l, p, q, r)
 abbrev pub Right : Meant → Parsed → List ℕ → List ℕ → List ℕ → Type 0
 Right m o t s b = (o ≡ parsedOf m) × (t ≡ tableOf m) × (s ≡ storeOf m) × (b ≡ bindingsOf m)
 
-pub right-bad : (m : Meant) (n : ℕ) (t s b : List ℕ) → m ≡ bad n → t ≡ zeros 4096 → s ≡ zeros 8192 → b ≡ zeros 32 → Right m (told.Bad n) t s b
+pub right-bad : (m : Meant) (n : ℕ) (t s b : List ℕ) → m ≡ bad n → t ≡ zeros 4096 → s ≡ zeros 8192 → b ≡ zeros variables → Right m (told.Bad n) t s b
 right-bad m n t s b e p q r = rw e (refl, p, q, r)
 
 -- The outcome tells what the text means.

@@ -13,7 +13,7 @@ use Rattle.text.specs.Text.{parts, upTo, numbersOf, eight}
 use Rattle.text.specs.Held.{numbersHeld}
 use Rattle.text.specs.Lines.{lineEnd}
 use Rattle.text.specs.declared.Numbers.{Numbers}
-use Rattle.job.specs.Lines.{nameOf, jobFits, entryFits, nodeFits, bindingFits, fits, lineFrom, lineOf, noLine, lineHeld, takenAt}
+use Rattle.job.specs.Lines.{Line, nameOf, jobFits, entryFits, nodeFits, bindingFits, fits, lineFrom, entryNumbers, fieldNumbers, lineOf, words, upper, noLine, lineHeld, takenAt}
 use Rattle.text.proofs.Parts.{parts-first, upTo-take, length-upTo, upTo-stops}
 use Rattle.text.proofs.Lines.{line-bytes}
 
@@ -49,7 +49,14 @@ fits-nine k vs = go (eqb k 0) (eqb k 1) (eqb k 2) (eqb k 3)
     go false false false true = refl
     go false false false false = refl
 
-module _ (k next : ℕ) (got : Numbers) where
+-- Of a line that is no `e` line the words are the numbers.
+words-other : (k : ℕ) (vs : List ℕ) → eqb k 1 ≡ false → words k vs ≡ vs
+words-other k vs e = rw e
+
+upper-other : (k : ℕ) (vs : List ℕ) → eqb k 1 ≡ false → upper k vs ≡ 0
+upper-other k vs e = rw e
+
+module _ (k next : ℕ) (got : Numbers) (plain : eqb k 1 ≡ false) where
   -- Numbers that do not fit make no line.
   pub line-none : (o : Option (List ℕ)) → got ≡ numbersHeld o → fits k (got .count) (got .at) ≡ false → noLine next ≡ lineHeld (lineFrom k o) next
   line-none none e f = refl
@@ -61,12 +68,12 @@ module _ (k next : ℕ) (got : Numbers) where
   pub line-some : (o : Option (List ℕ))
       → got ≡ numbersHeld o
       → fits k (got .count) (got .at) ≡ true
-      → record { name = k; count = got .count; at = got .at; next = next } ≡ lineHeld (lineFrom k o) next
+      → record { name = k; count = got .count; at = got .at; high = 0; next = next } ≡ lineHeld (lineFrom k o) next
   line-some none e f =
       absurd (true≢false (sym f ∙ ap (λ (n : Numbers). fits k (n .count) (n .at)) e ∙ fits-nine k (replicate 8 0)))
   line-some (some vs) e f =
       let g : fits k (length vs) vs ≡ true = sym (fits-eight k (length vs) vs) ∙ sym (ap (λ (n : Numbers). fits k (n .count) (n .at)) e) ∙ f in
-      rw (g, e)
+      rw (g, e, plain)
 
 module _ (l : List ℕ) (e : ℕ) (z : e ≡ 0 + length (upTo 9 l)) where
   -- The name ends at a tab or at the end.
@@ -76,24 +83,32 @@ module _ (l : List ℕ) (e : ℕ) (z : e ≡ 0 + length (upTo 9 l)) where
       (omega (arith, length-upTo 9 l), λ m. ap (λ (i : ℕ). getD l i 0) n ∙ upTo-stops 9 l (omega arith))
 
   -- The line is that of the name and of the fields after it.
-  pub line-fields : lineOf l ≡ lineFrom (nameOf (take e l)) (numbersOf 8 (tail (parts 9 (drop e l))))
+  pub line-fields : lineOf l ≡ lineFrom (nameOf (take e l)) (fieldNumbers (nameOf (take e l)) (tail (parts 9 (drop e l))))
   unfolding lineOf
   line-fields =
       let n : length (upTo 9 l) ≡ e = omega arith in
       let f : upTo 9 l ≡ take e l = upTo-take 9 l ∙ ap (λ (i : ℕ). take i l) n in
       rw (parts-first 9 l, n, f)
 
-  module _ (k next : ℕ) (got : Numbers) (named : k ≡ nameOf (take e l)) (held : got ≡ numbersHeld (numbersOf 8 (tail (parts 9 (drop e l))))) where
+  -- An `e` line.
+  pub entry-whole : (k next : ℕ) → k ≡ nameOf (take e l) → k ≡ 1 → lineHeld (lineFrom 1 (entryNumbers (tail (parts 9 (drop e l))))) next ≡ lineHeld (lineOf l) next
+  entry-whole k next named one =
+      let n : nameOf (take e l) ≡ 1 = sym named ∙ one in
+      sym (ap (λ (o : Option Line). lineHeld o next) (line-fields ∙ ap (λ (i : ℕ). lineFrom i (fieldNumbers i (tail (parts 9 (drop e l))))) n))
+
+  module _ (k next : ℕ) (got : Numbers) (named : k ≡ nameOf (take e l)) (plain : eqb k 1 ≡ false) (held : got ≡ numbersHeld (numbersOf 8 (tail (parts 9 (drop e l))))) where
     whole : lineHeld (lineFrom k (numbersOf 8 (tail (parts 9 (drop e l))))) next ≡ lineHeld (lineOf l) next
-    whole = rw (line-fields, named)
+    whole =
+        let f : fieldNumbers k (tail (parts 9 (drop e l))) ≡ numbersOf 8 (tail (parts 9 (drop e l))) = rw plain in
+        sym (ap (λ (o : Option Line). lineHeld o next) (line-fields ∙ ap (λ (i : ℕ). lineFrom i (fieldNumbers i (tail (parts 9 (drop e l))))) (sym named) ∙ ap (lineFrom k) f))
 
     -- The line is bad where the numbers do not fit the name.
     pub bad-line : fits k (got .count) (got .at) ≡ false → noLine next ≡ lineHeld (lineOf l) next
-    bad-line f = line-none k next got (numbersOf 8 (tail (parts 9 (drop e l)))) held f ∙ whole
+    bad-line f = line-none k next got plain (numbersOf 8 (tail (parts 9 (drop e l)))) held f ∙ whole
 
     -- Where they fit it is the line.
-    pub good-line : fits k (got .count) (got .at) ≡ true → record { name = k; count = got .count; at = got .at; next = next } ≡ lineHeld (lineOf l) next
-    good-line f = line-some k next got (numbersOf 8 (tail (parts 9 (drop e l)))) held f ∙ whole
+    pub good-line : fits k (got .count) (got .at) ≡ true → record { name = k; count = got .count; at = got .at; high = 0; next = next } ≡ lineHeld (lineOf l) next
+    good-line f = line-some k next got plain (numbersOf 8 (tail (parts 9 (drop e l)))) held f ∙ whole
 
 module _ (s : List ℕ) (at : ℕ) where
   -- A line with its line feed.

@@ -5,6 +5,7 @@ use mathlib.Core.List.{List, [], _∷_, _++_}
 use Prim.Native.Nat.{ℕ, zero, suc, _+_, _-_, min}
 use lib.Dec.{leb, eqb}
 use lib.ListN.{getD, take}
+use Rattle.checks.specs.Kinds.{variables}
 use Rattle.words.specs.Tests.{if_then_else_}
 use Rattle.words.specs.Words.{wordAt}
 use Rattle.job.specs.Lines.{Line}
@@ -57,4 +58,4 @@ unfoldable pub answered : ℕ → ℕ → ℕ → ℕ → ℕ → List ℕ → L
 unfolding answerLine
 answered a p s m u w b =
     answerLine (a ∷ p ∷ s ∷ m ∷ u ∷ [])
-    ++ (if shown a then written (nodeLines w m) ++ written (bindingLines b 32) else [])
+    ++ (if shown a then written (nodeLines w m) ++ written (bindingLines b variables) else [])

@@ -8,10 +8,11 @@ use mathlib.Core.Option.{Option, none, some}
 use Prim.Native.Nat.{ℕ, _+_}
 use lib.Dec.{leb, ltb, eqb}
 use lib.ListN.{length, getD, set, replicate}
+use Rattle.checks.specs.Kinds.{variables}
 use Rattle.words.specs.Tests.{if_then_else_}
 use Rattle.words.specs.Words.{putRow}
 use Rattle.text.specs.Text.{parts}
-use Rattle.job.specs.Lines.{Line, lineOf, entryRow, nodeRow}
+use Rattle.job.specs.Lines.{Line, lineOf, words, upper, entryRow, nodeRow}
 use Rattle.job.specs.declared.Heading.{Heading}
 use Rattle.job.specs.declared.Parsed.{Parsed}
 use Rattle.job.specs.declared.Parsed.the-variants as told
@@ -33,7 +34,7 @@ blank = record { section = 0; entries = 0; nodes = 0; variable = 0; units = 0; s
 
 abbrev pub unread : Reading
 unread =
-    record { heading = blank; table = zeros 4096; store = zeros 8192; bindings = zeros 32 }
+    record { heading = blank; table = zeros 4096; store = zeros 8192; bindings = zeros variables }
 
 -- a line may come next: `job` first and once; then `e` lines, at most 512, `n` lines, at most 1,024, and `b` lines, whose
 -- variables rise
@@ -58,8 +59,8 @@ headed h k vs =
     else record { section = k; entries = h .entries; nodes = h .nodes; variable = getD vs 0 0 + 1; units = h .units; start = h .start; subject = h .subject; room = h .room }))
 
 -- an `e` line is the next row of the table
-unfoldable pub tableWith : List ℕ → ℕ → ℕ → ℕ → List ℕ → List ℕ
-tableWith w e k n vs = if eqb k 1 then putRow w e (entryRow n vs) else w
+unfoldable pub tableWith : List ℕ → ℕ → ℕ → ℕ → List ℕ → ℕ → List ℕ
+tableWith w e k n vs h = if eqb k 1 then putRow w e (entryRow n vs h) else w
 
 -- an `n` line is the next row of the store
 unfoldable pub storeWith : List ℕ → ℕ → ℕ → ℕ → List ℕ → List ℕ
@@ -69,19 +70,19 @@ storeWith w m k n vs = if eqb k 2 then putRow w m (nodeRow n vs) else w
 unfoldable pub bindingsWith : List ℕ → ℕ → List ℕ → List ℕ
 bindingsWith w k vs = if eqb k 3 then set w (getD vs 0 0) (getD vs 1 0 + 1) else w
 
--- what is read with one more line, of n numbers
-unfoldable pub with : Reading → ℕ → ℕ → List ℕ → Reading
+-- what is read with one more line, of n numbers, whose words are vs and, of an argument's upper word, h
+unfoldable pub with : Reading → ℕ → ℕ → List ℕ → ℕ → Reading
 unfolding headed tableWith storeWith bindingsWith
-with g k n vs =
+with g k n vs h =
     record {
       heading = headed (g .heading) k vs;
-      table = tableWith (g .table) (g .heading .entries) k n vs;
+      table = tableWith (g .table) (g .heading .entries) k n vs h;
       store = storeWith (g .store) (g .heading .nodes) k n vs;
       bindings = bindingsWith (g .bindings) k vs;
     }
 
 abbrev pub taken : Reading → Line → Reading
-taken g x = with g (x .name) (length (x .numbers)) (x .numbers)
+taken g x = with g (x .name) (length (x .numbers)) (words (x .name) (x .numbers)) (upper (x .name) (x .numbers))
 
 -- a line taken in, where it is a line and may come next
 abbrev pub accepted : Reading → Option Line → Option Reading
@@ -128,7 +129,7 @@ storeOf (bad n) = zeros 8192
 storeOf (good g) = g .store
 
 abbrev pub bindingsOf : Meant → List ℕ
-bindingsOf (bad n) = zeros 32
+bindingsOf (bad n) = zeros variables
 bindingsOf (good g) = g .bindings
 
 -- what the code gives and leaves in its arrays; of a bad text, the line alone

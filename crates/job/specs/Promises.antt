@@ -7,11 +7,11 @@ use mathlib.Core.Bool.{true}
 use mathlib.Core.List.{List, [], _∷_, _++_}
 use Prim.Native.Nat.{ℕ, _+_, _*_, _≤_, _<_}
 use lib.ListN.{length, getD, take}
+use Rattle.checks.specs.Kinds.{variables}
 use Rattle.words.specs.Words.{wordAt}
 use Rattle.job.specs.Lines.{Line, fits}
 use Rattle.job.specs.Job.{Reading, unread, zeros, admitted, bad, good, meant}
-use Rattle.text.specs.Written.{Within}
-use Rattle.job.specs.Written.{lineText, written, Follow}
+use Rattle.job.specs.Written.{lineText, written, Limited, Follow}
 use Rattle.job.specs.Answer.{nodeLines, bindingLines, answered}
 
 -- s is the text of lines, and g what is read with them
@@ -36,7 +36,7 @@ pub record FirstBad (g : Reading) (s : List ℕ) (n m : ℕ) : Type 0 where
   pub follow : Follow g lines after
   pub number : n + length lines ≡ m
   pub stuck : (x : Line) (r : List ℕ) → rest ≡ lineText x ++ (10 ∷ r) → fits (x .name) (length (x .numbers)) (x .numbers) ≡ true
-      → Within (x .numbers) → admitted (after .heading) (x .name) (getD (x .numbers) 0 0) ≡ true → ⊥
+      → Limited (x .name) (x .numbers) → admitted (after .heading) (x .name) (getD (x .numbers) 0 0) ≡ true → ⊥
   pub unfinished : rest ≡ [] → after .heading .section ≡ 0
 
 -- a text of at most 60,000 bytes that is no job is refused at its first bad line
@@ -58,7 +58,7 @@ pub record Left (w b : List ℕ) (m : ℕ) : Type 0 where
   pub inside : 8 * m ≤ length w
   pub most : m ≤ 1024
   pub nodes : (k : ℕ) → k < m → Plain w k
-  pub variables : length b ≡ 32
+  pub variables : length b ≡ variables
   pub bound : (v : ℕ) → getD b v 0 ≤ 131072
 
 -- line 1 and perhaps `e` lines are read, and neither a node nor a binding
@@ -68,12 +68,12 @@ pub record BeforeNodes (g : Reading) : Type 0 where
   pub nodes : g .heading .nodes ≡ 0
   pub variable : g .heading .variable ≡ 0
   pub store : length (g .store) ≡ 8192
-  pub bindings : g .bindings ≡ zeros 32
+  pub bindings : g .bindings ≡ zeros variables
 
 -- the lines written are lines that may follow, and what is read with them has the same nodes and bindings
 pub record Back (g : Reading) (w b : List ℕ) (m : ℕ) : Type 0 where
   pub after : Reading
-  pub follow : Follow g (nodeLines w m ++ bindingLines b 32) after
+  pub follow : Follow g (nodeLines w m ++ bindingLines b variables) after
   pub mark : after .heading .nodes ≡ m
   pub nodes : take (8 * m) (after .store) ≡ take (8 * m) w
   pub bindings : after .bindings ≡ b
@@ -82,6 +82,6 @@ pub record Back (g : Reading) (w b : List ℕ) (m : ℕ) : Type 0 where
 abbrev pub ReadBack : Type 0
 ReadBack = (g : Reading) (w b : List ℕ) (m : ℕ) → BeforeNodes g → Left w b m → Back g w b m
 
--- the text of an answer is at most 81,726 bytes where the mark is at most 1,024
+-- the text of an answer is at most 82,494 bytes where the mark is at most 1,024
 abbrev pub AnswerFits : Type 0
-AnswerFits = (a p s m u : ℕ) (w b : List ℕ) → m ≤ 1024 → length (answered a p s m u w b) ≤ 81726
+AnswerFits = (a p s m u : ℕ) (w b : List ℕ) → m ≤ 1024 → length (answered a p s m u w b) ≤ 80958 + 24 * variables

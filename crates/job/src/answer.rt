@@ -1,12 +1,14 @@
-// The text of an answer, put into a lent buffer. A buffer of 81,920 bytes is never too short: the answer's own line is at
-// most 62 bytes, each of 1,024 `n` lines at most 79 and each of 32 `b` lines at most 24, together 81,726.
+// The text of an answer, put into a lent buffer. A buffer of 82,944 bytes is never too short: the answer's own line is at
+// most 62 bytes, each of 1,024 `n` lines at most 79 and each of 64 `b` lines at most 24, together 82,494.
 ghost use mathlib.Core.Path.{_≡_};
 ghost use mathlib.Core.List.{[], _∷_};
 ghost use Prim.Native.Nat.{_+_, _*_, _≤_, _<_};
 ghost use lib.ListN.{length};
+ghost use Rattle.checks.specs.Kinds.{variables};
 ghost use Rattle.job.specs.Written.{written};
 ghost use Rattle.text.specs.Written.{Put};
 ghost use Rattle.job.specs.Answer.{nodeShown, nodeLine, nodeLines, bindingLine, bindingLines, shown, answerName, answerLine, answered};
+use checks::kinds::VARIABLES;
 use text::write::put_byte;
 use text::write::put_rest;
 use words::word;
@@ -68,12 +70,12 @@ fn put_binding(buf: &mut [u8], at: usize, bindings: &[u32], v: u32) -> usize
 
 // The `b` lines of the bound variables.
 fn put_bindings(buf: &mut [u8], start: usize, bindings: &[u32]) -> usize
-    requires { ⌜ (start + 768 ≤ length (now buf)) × (length (now bindings) ≡ 32) ⌝ }
-    ensures { λ r. ⌜ Put (now (buf .entry)) start (written (bindingLines (now (bindings .entry)) 32)) (now (buf .exit)) r ⌝ }
+    requires { ⌜ (start + 24 * variables ≤ length (now buf)) × (length (now bindings) ≡ variables) ⌝ }
+    ensures { λ r. ⌜ Put (now (buf .entry)) start (written (bindingLines (now (bindings .entry)) variables)) (now (buf .exit)) r ⌝ }
 {
     let mut at = start;
     let mut v: u32 = 0;
-    while v < 32 {
+    while (v as usize) < VARIABLES {
         at = put_binding(buf, at, bindings, v);
         v += 1;
     }
@@ -129,7 +131,7 @@ pub fn answer(
     store: &[u32],
     bindings: &[u32],
 ) -> usize
-    requires { ⌜ (81920 ≤ length (now buf)) × (m ≤ 1024) × (length (now bindings) ≡ 32) ⌝ }
+    requires { ⌜ (82944 ≤ length (now buf)) × (m ≤ 1024) × (length (now bindings) ≡ variables) ⌝ }
     ensures { λ r. ⌜ Put (now (buf .entry)) 0 (answered a p s m u (now (store .entry)) (now (bindings .entry))) (now (buf .exit)) r ⌝ }
 {
     let end = put_line(buf, a, p, s, m, u);

@@ -3,11 +3,13 @@ pub mod answer;
 mod lines;
 pub mod read;
 
-// A line of a job, its numbers and the place after it. The name is 0 to 3 for job, e, n and b; 4 is a bad line.
+// A line of a job, its numbers and the place after it. The name is 0 to 3 for job, e, n and b; 4 is a bad line. Of an argument of two
+// words `at` has the lower one.
 pub struct Taken {
     pub name: u32,
     pub count: u32,
     pub at: [u32; 8],
+    pub high: u32,
     pub next: usize,
 }
 

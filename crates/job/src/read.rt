@@ -3,12 +3,14 @@
 ghost use mathlib.Core.Path.{_≡_};
 ghost use Prim.Native.Nat.{_≤_, _<_};
 ghost use lib.ListN.{length, getD};
+ghost use Rattle.checks.specs.Kinds.{variables};
 ghost use Rattle.text.specs.Text.{parts};
 ghost use Rattle.job.specs.Lines.{entryRow, nodeRow};
 ghost use Rattle.job.specs.Job.{admitted, headed, blank, zeros, tableWith, storeWith, bindingsWith, readLines, Holds, meant, parsedOf, tableOf, storeOf, bindingsOf};
 use crate::Heading;
 use crate::Parsed;
 use crate::lines::line_at;
+use checks::kinds::SCOPE;
 use words::clear_from;
 use words::put_row;
 
@@ -39,7 +41,7 @@ fn admits(h: Heading, name: u32, variable: u32) -> bool
 
 // The heading after a line.
 fn advanced(h: Heading, name: u32, at: [u32; 8]) -> Heading
-    requires { ⌜ (h .entries ≤ 512) × (h .nodes ≤ 1024) × (name ≡ 3 → getD at 0 0 < 32) × (name ≤ 3) ⌝ }
+    requires { ⌜ (h .entries ≤ 512) × (h .nodes ≤ 1024) × (name ≡ 3 → getD at 0 0 < variables) × (name ≤ 3) ⌝ }
     ensures { λ r. ⌜ r ≡ headed h name at ⌝ }
 {
     if name == 0 {
@@ -69,10 +71,22 @@ fn advanced(h: Heading, name: u32, at: [u32; 8]) -> Heading
 }
 
 // The row of an `e` line.
-fn entry_row(n: u32, at: [u32; 8]) -> [u32; 8]
+fn entry_row(n: u32, at: [u32; 8], high: u32) -> [u32; 8]
     requires { ⌜ (2 ≤ n) × (n ≤ 8) × (getD at 0 0 ≤ 255) ⌝ }
-    ensures { λ r. ⌜ r ≡ entryRow n at ⌝ }
+    ensures { λ r. ⌜ r ≡ entryRow n at high ⌝ }
 {
+    if at[0] == SCOPE {
+        return [
+            16 * at[0] + (n - 2),
+            at[1],
+            high,
+            at[2],
+            at[3],
+            at[4],
+            at[5],
+            at[6],
+        ];
+    }
     [
         16 * at[0] + (n - 2),
         at[1],
@@ -94,12 +108,12 @@ fn node_row(n: u32, at: [u32; 8]) -> [u32; 8]
 }
 
 // An `e` line is the next row of the table.
-fn put_entry(table: &mut [u32], e: u32, name: u32, n: u32, at: [u32; 8])
+fn put_entry(table: &mut [u32], e: u32, name: u32, n: u32, at: [u32; 8], high: u32)
     requires { ⌜ (length (now table) ≡ 4096) × (name ≡ 1 → (e < 512) × (2 ≤ n) × (n ≤ 8) × (getD at 0 0 ≤ 255)) ⌝ }
-    ensures { λ _. ⌜ now (table .exit) ≡ tableWith (now (table .entry)) e name n at ⌝ }
+    ensures { λ _. ⌜ now (table .exit) ≡ tableWith (now (table .entry)) e name n at high ⌝ }
 {
     if name == 1 {
-        let row = entry_row(n, at);
+        let row = entry_row(n, at, high);
         put_row(table, e, row);
     }
 }
@@ -117,7 +131,7 @@ fn put_node(store: &mut [u32], m: u32, name: u32, n: u32, at: [u32; 8])
 
 // A `b` line binds its variable.
 fn put_binding(bindings: &mut [u32], name: u32, at: [u32; 8])
-    requires { ⌜ (length (now bindings) ≡ 32) × (name ≡ 3 → (getD at 0 0 < 32) × (getD at 1 0 < 131072)) ⌝ }
+    requires { ⌜ (length (now bindings) ≡ variables) × (name ≡ 3 → (getD at 0 0 < variables) × (getD at 1 0 < 131072)) ⌝ }
     ensures { λ _. ⌜ now (bindings .exit) ≡ bindingsWith (now (bindings .entry)) name at ⌝ }
 {
     if name == 3 {
@@ -127,7 +141,7 @@ fn put_binding(bindings: &mut [u32], name: u32, at: [u32; 8])
 
 // The lines of a text from the first on, over the words as they are.
 fn read_lines(text: &[u8], table: &mut [u32], store: &mut [u32], bindings: &mut [u32]) -> Parsed
-    requires { ⌜ (length (now text) ≤ 60000) × (length (now table) ≡ 4096) × (length (now store) ≡ 8192) × (length (now bindings) ≡ 32) ⌝ }
+    requires { ⌜ (length (now text) ≤ 60000) × (length (now table) ≡ 4096) × (length (now store) ≡ 8192) × (length (now bindings) ≡ variables) ⌝ }
     ensures { λ r. ⌜ Holds (readLines (record { heading = blank; table = now (table .entry); store = now (store .entry); bindings = now (bindings .entry) }) 1 (parts 10 (now (text .entry)))) r (now (table .exit)) (now (store .exit)) (now (bindings .exit)) ⌝ }
 {
     let mut h = Heading {
@@ -152,7 +166,7 @@ fn read_lines(text: &[u8], table: &mut [u32], store: &mut [u32], bindings: &mut 
         if !admits(h, k, a[0]) {
             return Parsed::Bad(n);
         }
-        put_entry(table, h.entries, k, t.count, a);
+        put_entry(table, h.entries, k, t.count, a, t.high);
         put_node(store, h.nodes, k, t.count, a);
         put_binding(bindings, k, a);
         h = advanced(h, k, a);
@@ -167,8 +181,8 @@ fn read_lines(text: &[u8], table: &mut [u32], store: &mut [u32], bindings: &mut 
 
 // Every word of the three arrays cleared.
 fn clear_all(table: &mut [u32], store: &mut [u32], bindings: &mut [u32])
-    requires { ⌜ (length (now table) ≡ 4096) × (length (now store) ≡ 8192) × (length (now bindings) ≡ 32) ⌝ }
-    ensures { λ _. ⌜ (now (table .exit) ≡ zeros 4096) × (now (store .exit) ≡ zeros 8192) × (now (bindings .exit) ≡ zeros 32) ⌝ }
+    requires { ⌜ (length (now table) ≡ 4096) × (length (now store) ≡ 8192) × (length (now bindings) ≡ variables) ⌝ }
+    ensures { λ _. ⌜ (now (table .exit) ≡ zeros 4096) × (now (store .exit) ≡ zeros 8192) × (now (bindings .exit) ≡ zeros variables) ⌝ }
 {
     clear_from(table, 0);
     clear_from(store, 0);
@@ -177,7 +191,7 @@ fn clear_all(table: &mut [u32], store: &mut [u32], bindings: &mut [u32])
 
 // The job of a text: its numbers, and its words in the lent arrays, or its first bad line, and zeros.
 pub fn read(text: &[u8], table: &mut [u32], store: &mut [u32], bindings: &mut [u32]) -> Parsed
-    requires { ⌜ (length (now table) ≡ 4096) × (length (now store) ≡ 8192) × (length (now bindings) ≡ 32) ⌝ }
+    requires { ⌜ (length (now table) ≡ 4096) × (length (now store) ≡ 8192) × (length (now bindings) ≡ variables) ⌝ }
     ensures { λ r. ⌜ (r ≡ parsedOf (meant (now (text .entry)))) × (now (table .exit) ≡ tableOf (meant (now (text .entry)))) × (now (store .exit) ≡ storeOf (meant (now (text .entry)))) × (now (bindings .exit) ≡ bindingsOf (meant (now (text .entry)))) ⌝ }
 {
     clear_all(table, store, bindings);

@@ -25,7 +25,7 @@ use Rattle.leaves.proofs.AnswerWords.{out-done, out-room, out-unbound}
 use Rattle.leaves.proofs.Asking.{Tagged}
 use Rattle.leaves.proofs.Kind.{counted, pattern-variable, pattern-con}
 use Rattle.leaves.proofs.Keeping.{build-leaves, steady-after, node-small, leaves-done}
-use Rattle.leaves.proofs.Holding.{framed-refl, framed-trans, framed-mark, held-mark, mark-marking, miss-marking, held-some, held-none}
+use Rattle.leaves.proofs.Holding.{further, framed-refl, framed-trans, framed-mark, held-mark, mark-marking, miss-marking, held-some, held-none}
 use Rattle.leaves.proofs.Children.{part-next, part-end, filled, filled-next, filled-row, one-more}
 use Rattle.leaves.proofs.Walking.{walk-end, walk-on, walk-stop, returned}
 
@@ -36,7 +36,7 @@ module _ (made st w : List ℕ) (u r : ℕ) (s : Roomy w (markOf st)) (l : u < 4
   unfolding noded roomFor
   node-full h e =
       let f : rows w ≤ markOf st = omega (arith, s .nodes) in
-      record { is = ap (λ r. out r st w) e ∙ out-room st w u l ∙ rw (le-leb (rows w) (markOf st) f); frame = framed-refl st }
+      record { is = ap (λ r. out r st w) e ∙ out-room st w u l ∙ rw (le-leb (rows w) (markOf st) f); frame = framed-refl further st }
 
   pub node-made : length st ≡ recordLong → 8 * markOf st + 8 ≤ length w → r ≡ packed (markOf st) u → Gives (noded made st w u) st r (marking st (markOf st + 1)) (putRow w (markOf st) made)
   unfolding noded roomFor
@@ -46,8 +46,8 @@ module _ (made st w : List ℕ) (u r : ℕ) (s : Roomy w (markOf st)) (l : u < 4
         is =
             ap (λ r. out r (marking st (markOf st + 1)) (putRow w (markOf st) made)) e
             ∙ out-done (marking st (markOf st + 1)) (putRow w (markOf st) made) (markOf st) u (omega (arith, s .small)) l
-            ∙ rw (lt-leb (rows w) (markOf st) f, held-mark st (markOf st + 1), mark-marking st (markOf st + 1) long, miss-marking st (markOf st + 1));
-        frame = framed-mark st (markOf st + 1);
+            ∙ rw (lt-leb (rows w) (markOf st) f, held-mark further st (markOf st + 1), mark-marking further st (markOf st + 1) long, miss-marking further st (markOf st + 1));
+        frame = framed-mark further st (markOf st + 1);
       }
 
 -- the row made of the children gs is a new node of them
@@ -83,13 +83,13 @@ module _ (t : List ℕ) (n p : ℕ) (w st : List ℕ) (u : ℕ) (h : u ≡ 0 →
     pub variable-built : Steady w (markOf st) (held st) → v < variables → bitOf (maskOf st) v ≡ 1 → {y : ℕ} → y ≡ wordOf st v → r ≡ packed y (u - 1) → Gives (visit t n (build p k (held st)) w (standing st) u) st r st w
     unfolding needed
     variable-built s small b ye e =
-        let j : held st v ≡ some (wordOf st v) = held-some st v small b in
+        let j : held st v ≡ some (wordOf st v) = held-some further st v small b in
         let x : wordOf st v < 131072 = node-small s _ (s .bound v _ j) in
         record {
           is =
               ap (λ r. out r st w) (e ∙ ap (λ y. packed y (u - 1)) ye) ∙ out-done st w (wordOf st v) (u - 1) (omega arith) (omega arith)
               ∙ sym (at-variable ∙ rw j (returned t (n - 1) w (standing st) (u - 1) (wordOf st v) (held st)));
-          frame = framed-refl st;
+          frame = framed-refl further st;
         }
 
     pub variable-unbound : v < variables → (bitOf (maskOf st) v ≡ 1 → ⊥) → r ≡ unboundWord v (u - 1) → Gives (visit t n (build p k (held st)) w (standing st) u) st r st w
@@ -98,15 +98,15 @@ module _ (t : List ℕ) (n p : ℕ) (w st : List ℕ) (u : ℕ) (h : u ≡ 0 →
         record {
           is =
               ap (λ r. out r st w) e ∙ out-unbound st w v (u - 1) (omega arith) (omega arith)
-              ∙ sym (at-variable ∙ rw (held-none st v b) refl);
-          frame = framed-refl st;
+              ∙ sym (at-variable ∙ rw (held-none further st v b) refl);
+          frame = framed-refl further st;
         }
 
   -- before the first operand
   pub built-none : (x y : ℕ) → x ≡ argumentOf t p → y ≡ operandCount t p → kindOf t p ≡ 19 → Steady w (markOf st) (held st) → Built t (n - 1) p st (λ k. visit t n (build p k (held st)) w (standing st) u) w st (x ∷ y ∷ 0 ∷ 0 ∷ 0 ∷ 0 ∷ 0 ∷ 0 ∷ []) (u - 1) 0
   unfolding building
   built-none x y xe ye kind s =
-      record { gs = []; so-far = refl; filling = rw (xe, ye); steady = s; frame = framed-refl st; goes-on = λ k. sym (opened k ∙ rw (pattern-con t p kind)) }
+      record { gs = []; so-far = refl; filling = rw (xe, ye); steady = s; frame = framed-refl further st; goes-on = λ k. sym (opened k ∙ rw (pattern-con t p kind)) }
 
 module _ (t : List ℕ) (n p : ℕ) (st₀ : List ℕ) (o : ℕ → Ran) (w st made : List ℕ) (u i : ℕ) (c : Built t n p st₀ o w st made u i) where
   -- all operands are built
@@ -117,7 +117,7 @@ module _ (t : List ℕ) (n p : ℕ) (st₀ : List ℕ) (o : ℕ → Ran) (w st m
         ∙ node-of t n (argumentOf t p) (c .gs) made st w u (filled-row (argumentOf t p) (operandCount t p) (c .gs) made (c .filling) (c .so-far ∙ sym e))
         ∙ sym (walk-end t n w (standing st) u (c .gs) (held st) _ _ (rw (part-end t p (operandCount t p) i (omega arith))))
         ∙ c .goes-on k;
-    frame = framed-trans st₀ st st′ (c .frame) (g .frame);
+    frame = framed-trans further st₀ st st′ (c .frame) (g .frame);
   }
 
   -- the next operand q: the answer's word r, read as a, with record and store at its return
@@ -128,7 +128,7 @@ module _ (t : List ℕ) (n p : ℕ) (st₀ : List ℕ) (o : ℕ → Ran) (w st m
     pub build-stops : Tagged a 1 2 → (k : ℕ) → Gives (o k) st₀ r st′ w′
     build-stops e k = record {
       is = walk-stop t n w (standing st) u (c .gs) (held st) _ (build q k) _ r st′ w′ (g k .is) a read e ∙ next k;
-      frame = framed-trans st₀ st st′ (c .frame) (g k .frame);
+      frame = framed-trans further st₀ st st′ (c .frame) (g k .frame);
     }
 
     pub built-more : Entries t → (x v : ℕ) → a ≡ Done x v → Built t n p st₀ o w′ st′ (set made (2 + i) x) v (i + 1)
@@ -137,6 +137,6 @@ module _ (t : List ℕ) (n p : ℕ) (st₀ : List ℕ) (o : ℕ → Ran) (w st m
       so-far = one-more (c .gs) x i (c .so-far);
       filling = filled-next (argumentOf t p) (operandCount t p) i x (c .gs) made (c .filling) (c .so-far) (omega arith);
       steady = steady-after (c .steady) w′ (standing st′) x v (held st′) (leaves-done w (markOf st) _ (build-leaves (c .steady) t en n q 0 (missOf st) u (c .steady .used)) r st′ w′ (g 0 .is) a read x v e);
-      frame = framed-trans st₀ st st′ (c .frame) (g 0 .frame);
+      frame = framed-trans further st₀ st st′ (c .frame) (g 0 .frame);
       goes-on = λ k. sym (walk-on t n w (standing st) u (c .gs) (held st) _ (build q k) _ r st′ w′ (g k .is) a read x v e) ∙ next k;
     }

@@ -29,7 +29,7 @@ use Rattle.leaves.proofs.Asking.{Tagged, gives-up, last-match}
 use Rattle.leaves.proofs.Kind.{counted, no-units, no-nesting, pattern-variable, pattern-con}
 use Rattle.leaves.proofs.Keeping.{node-small}
 use Rattle.leaves.proofs.Limited.{units-out, nesting-out}
-use Rattle.leaves.proofs.Holding.{framed-refl, framed-trans, framed-bound, held-bound, mark-bound, miss-bound, mark-missing, miss-missing, framed-missing, held-some, held-none}
+use Rattle.leaves.proofs.Holding.{further, framed-refl, framed-trans, framed-bound, held-bound, mark-bound, miss-bound, mark-missing, miss-missing, framed-missing, held-some, held-none}
 use Rattle.leaves.proofs.Children.{part-next, part-end}
 use Rattle.leaves.proofs.Walking.{walk-end, walk-done, walk-failed, walk-cut, kept-on, kept-stop, returned, plan-missed}
 use Rattle.leaves.proofs.Patterns.{no-variable, operand-pattern, agree-is, agreed-count}
@@ -90,9 +90,9 @@ module _ (a : Answer) (st : List ℕ) (q : ℕ) where
   framed-given-up = go a
     where
       go : (a : Answer) → Framed st (givenUp a st q)
-      go (Done x u) = framed-refl st
-      go (Failed u) = framed-missing st q
-      go (Cut c) = framed-refl st
+      go (Done x u) = framed-refl further st
+      go (Failed u) = framed-missing further st q
+      go (Cut c) = framed-refl further st
 
   mark-given-up : markOf (givenUp a st q) ≡ markOf st
   unfolding givenUp
@@ -100,7 +100,7 @@ module _ (a : Answer) (st : List ℕ) (q : ℕ) where
     where
       go : (a : Answer) → markOf (givenUp a st q) ≡ markOf st
       go (Done x u) = refl
-      go (Failed u) = mark-missing st q
+      go (Failed u) = mark-missing further st q
       go (Cut c) = refl
 
   giving-up : (x : ℕ) (w : List ℕ) (m : ℕ) → length st ≡ recordLong → giving a x (held (givenUp a st q)) w (stands m (givenUp a st q)) ≡ gives-up q (giving a x (held st) w (stands m st))
@@ -109,7 +109,7 @@ module _ (a : Answer) (st : List ℕ) (q : ℕ) where
     where
       go : (a : Answer) → giving a x (held (givenUp a st q)) w (stands m (givenUp a st q)) ≡ gives-up q (giving a x (held st) w (stands m st))
       go (Done y u) = refl
-      go (Failed u) = rw (miss-missing st q long)
+      go (Failed u) = rw (miss-missing further st q long)
       go (Cut c) = refl
 
 -- what holds before child i, with the record st and the units u, in what follows the visit of entry p on the node of g: the
@@ -120,7 +120,7 @@ pub record Matched (t w : List ℕ) (n p g : ℕ) (b st : List ℕ) (u i : ℕ) 
   pub mark : markOf st ≡ markOf b
 
 pub matched-none : (t w : List ℕ) (n p g : ℕ) (b : List ℕ) → Matched t w n p g b b (unitsIn g) 0
-matched-none t w n p g b = record { goes-on = λ m. ([], refl); frame = framed-refl b; mark = refl }
+matched-none t w n p g b = record { goes-on = λ m. ([], refl); frame = framed-refl further b; mark = refl }
 
 -- the same at values that are equal
 pub matched-at : (t w : List ℕ) (n p g : ℕ) (b st st′ : List ℕ) (u u′ i : ℕ) → st′ ≡ st → u′ ≡ u → u < 4294967296 → Matched t w n p g b st u i → (u′ < 4294967296) × Matched t w n p g b st′ u′ i
@@ -187,18 +187,18 @@ module _ {t w : List ℕ} {n p g : ℕ} {b st : List ℕ} {u i q x : ℕ} (c : T
 
   -- its visit does not succeed, and the word r says so, with the record st′
   from-here : (r : ℕ) (st′ : List ℕ) → Framed st st′ → markOf st′ ≡ markOf st → ((m : ℕ) → kept r (nodeIn g) (held st′) w (stands m st′) ≡ plan t n (walk (match q x ∷ rest) (before m) (held st) (λ gs b′. ret (nodeIn g) b′)) w (stands m st) u) → MatchesChildren t w n p g b r st′
-  from-here r st′ f k e = record { is = λ m. e m ∙ next m; frame = framed-trans b st st′ (c .so-far .frame) f; mark = k ∙ c .so-far .mark }
+  from-here r st′ f k e = record { is = λ m. e m ∙ next m; frame = framed-trans further b st st′ (c .so-far .frame) f; mark = k ∙ c .so-far .mark }
 
   pub child-units : {r : ℕ} → r ≡ unitsWord → u ≡ 0 → MatchesChildren t w n p g b r st
   child-units {r} e z =
-      from-here r st (framed-refl st) refl (λ m.
+      from-here r st (framed-refl further st) refl (λ m.
       ap (λ r. kept r (nodeIn g) (held st) w (stands m st)) e
       ∙ kept-units w w (nodeIn g) (held st) (stands m st)
       ∙ sym (walk-cut t n w (stands m st) u (before m) (held st) _ (match q x) rest 0 w (stands m st) units (no-units t n _ w (stands m st) u z)))
 
   pub child-nesting : {r : ℕ} → r ≡ nestingWord u → (u ≡ 0 → ⊥) → n ≡ 0 → MatchesChildren t w n p g b r st
   child-nesting {r} e z d =
-      from-here r st (framed-refl st) refl (λ m.
+      from-here r st (framed-refl further st) refl (λ m.
       ap (λ r. kept r (nodeIn g) (held st) w (stands m st)) e
       ∙ kept-nesting w w (nodeIn g) (held st) (stands m st) u (c .few)
       ∙ sym (walk-cut t n w (stands m st) u (before m) (held st) _ (match q x) rest u w (stands m st) nesting (no-nesting t n _ w (stands m st) u z d)))
@@ -218,7 +218,7 @@ module _ {t w : List ℕ} {n p g : ℕ} {b st : List ℕ} {u i q x : ℕ} (c : T
     ended-by : (st′ : List ℕ) (v : ℕ) → Framed st st′ → markOf st′ ≡ markOf st → ((m : ℕ) → visit t n (match q x (held st)) w (stands m st) u ≡ ended x (held st′) (on w (stands m st′)) v) → Matched t w n p g b st′ v (i + 1)
     ended-by st′ v f k e = record {
       goes-on = λ m. (before m ++ (x ∷ []), sym (walk-done t n w (stands m st) u (before m) (held st) _ (match q x) rest x (stands m st′) v w (held st′) (e m)) ∙ next m);
-      frame = framed-trans b st st′ (c .so-far .frame) f;
+      frame = framed-trans further b st st′ (c .so-far .frame) f;
       mark = k ∙ c .so-far .mark;
     }
 
@@ -227,7 +227,7 @@ module _ {t w : List ℕ} {n p g : ℕ} {b st : List ℕ} {u i q x : ℕ} (c : T
       answered : (y v : ℕ) → a ≡ Done y v → Matched t w n p g b st′ v (i + 1)
       answered y v e = record {
         goes-on = λ m. (before m ++ (x ∷ []), sym (kept-on t n w (stands m st) u (before m) (held st) _ (match q x) rest r x (held st′) (stands m st′) (is m) a read y v e) ∙ next m);
-        frame = framed-trans b st st′ (c .so-far .frame) f;
+        frame = framed-trans further b st st′ (c .so-far .frame) f;
         mark = k ∙ c .so-far .mark;
       }
 
@@ -243,15 +243,15 @@ module _ {t w : List ℕ} {n p g : ℕ} {b st : List ℕ} {u i q x : ℕ} (c : T
 
       -- the same with the record as it was, but for the miss
       refused : length st ≡ recordLong → Tagged a 1 2 → MatchesChildren t w n p g b r (missing st (missOf st′))
-      refused long e = stopped-with (missing st (missOf st′)) (framed-missing st (missOf st′)) (mark-missing st (missOf st′)) (miss-missing st (missOf st′) long) e
+      refused long e = stopped-with (missing st (missOf st′)) (framed-missing further st (missOf st′)) (mark-missing further st (missOf st′)) (miss-missing further st (missOf st′) long) e
 
     -- a variable
     module _ {v : ℕ} (kind : kindOf t q ≡ 18) (ve : v ≡ argumentOf t q) where
       pub free-matched : {st′ : List ℕ} → length st ≡ recordLong → (bitOf (maskOf st) v ≡ 1 → ⊥) → st′ ≡ bound st v x → Matched t w n p g b st′ (u - 1) (i + 1)
       free-matched long e s =
           let l : v < variables = variable-small kind ve in
-          rw s (ended-by (bound st v x) (u - 1) (framed-bound st v x l long e) (mark-bound st v x l)
-          (λ m. variable-free t n q x (held st) w (stands m st) u z d v kind ve (held-none st v e) ∙ rw (held-bound st v x l long, miss-bound st v x l)))
+          rw s (ended-by (bound st v x) (u - 1) (framed-bound further st v x l long e) (mark-bound further st v x l)
+          (λ m. variable-free t n q x (held st) w (stands m st) u z d v kind ve (held-none further st v e) ∙ rw (held-bound further st v x l long, miss-bound further st v x l)))
 
       -- a bound one: the comparison's word r
       module _ (long : length st ≡ recordLong) (e : bitOf (maskOf st) v ≡ 1) {y : ℕ} (ye : y ≡ wordOf st v) (r : ℕ) (is : (m : Standing) → kept r x (held st) w m ≡ visit t (n - 1) (compare y x (held st)) w m (u - 1)) (a : Answer) (read : a ≡ answerOf r) where
@@ -260,7 +260,7 @@ module _ {t w : List ℕ} {n p g : ℕ} {b st : List ℕ} {u i q x : ℕ} (c : T
             kept-answer w w x (held (givenUp a st q)) (stands m (givenUp a st q)) r a read
             ∙ giving-up a st q x w m long
             ∙ ap (gives-up q) (sym (kept-answer w w x (held st) (stands m st) r a read) ∙ is (stands m st) ∙ ap (λ y. visit t (n - 1) (compare y x (held st)) w (stands m st) (u - 1)) ye)
-            ∙ sym (variable-bound t n q x (held st) w (stands m st) u z d v kind ve (wordOf st v) (held-some st v (variable-small kind ve) e))
+            ∙ sym (variable-bound t n q x (held st) w (stands m st) u z d v kind ve (wordOf st v) (held-some further st v (variable-small kind ve) e))
 
         pub bound-matched : (j k : ℕ) → a ≡ Done j k → Matched t w n p g b st k (i + 1)
         unfolding givenUp
@@ -273,14 +273,14 @@ module _ {t w : List ℕ} {n p g : ℕ} {b st : List ℕ} {u i q x : ℕ} (c : T
     module _ (kind : kindOf t q ≡ 19) where
       pub other : {r : ℕ} → length st ≡ recordLong → r ≡ failedWord (u - 1) → agreeing t w q x ≡ false → MatchesChildren t w n p g b r (missing st q)
       other {r} long e f =
-          from-here r (missing st q) (framed-missing st q) (mark-missing st q) (λ m.
+          from-here r (missing st q) (framed-missing further st q) (mark-missing further st q) (λ m.
           ap (λ r. kept r (nodeIn g) (held (missing st q)) w (stands m (missing st q))) e
           ∙ kept-failed w w (nodeIn g) (held (missing st q)) (stands m (missing st q)) (u - 1) less
-          ∙ rw (miss-missing st q long) (sym (walk-failed t n w (stands m st) u (before m) (held st) _ (match q x) rest (u - 1) w (missedAt q (stands m st)) (differs t n q x (held st) w (stands m st) u z d (c .entries) (operand-is .0) kind f))))
+          ∙ rw (miss-missing further st q long) (sym (walk-failed t n w (stands m st) u (before m) (held st) _ (match q x) rest (u - 1) w (missedAt q (stands m st)) (differs t n q x (held st) w (stands m st) u z d (c .entries) (operand-is .0) kind f))))
 
       module _ (e : agreeing t w q x ≡ true) where
         pub leaf-matched : operandCount t q ≡ 0 → Matched t w n p g b st (u - 1) (i + 1)
-        leaf-matched f = ended-by st (u - 1) (framed-refl st) refl (λ m. agrees-leaf t n q x (held st) w (stands m st) u z d (c .entries) (operand-is .0) kind e f)
+        leaf-matched f = ended-by st (u - 1) (framed-refl further st) refl (λ m. agrees-leaf t n q x (held st) w (stands m st) u z d (c .entries) (operand-is .0) kind e f)
 
         -- its own children: the word s is handed over
         module _ {s : ℕ} (se : s ≡ packed x (u - 1)) where
@@ -436,10 +436,10 @@ module _ {t w st : List ℕ} {p g : ℕ} (c : Matchable t w st p g) (n : ℕ) wh
   root = visit t n (match p (nodeIn g) (held st)) w (standing st) (unitsIn g)
 
   pub root-units : {r : ℕ} → r ≡ unitsWord → unitsIn g ≡ 0 → Gives root st r st w
-  root-units {r} e z = record { is = units-out t n _ w (unitsIn g) r st e z; frame = framed-refl st }
+  root-units {r} e z = record { is = units-out t n _ w (unitsIn g) r st e z; frame = framed-refl further st }
 
   pub root-nesting : {r : ℕ} → r ≡ nestingWord (unitsIn g) → (unitsIn g ≡ 0 → ⊥) → n ≡ 0 → Gives root st r st w
-  root-nesting {r} e z d = record { is = nesting-out t n _ w (unitsIn g) r st e (omega arith) z d; frame = framed-refl st }
+  root-nesting {r} e z d = record { is = nesting-out t n _ w (unitsIn g) r st e (omega arith) z d; frame = framed-refl further st }
 
   -- the root's node with the units v, and the record st′
   ended-root : (r v : ℕ) (st′ : List ℕ) → r ≡ packed (nodeIn g) v → v < 4294967296 → markOf st′ ≡ markOf st → Framed st st′ → root ≡ ended (nodeIn g) (held st′) (on w (stands (markOf st) st′)) v → Gives root st r st′ w
@@ -474,8 +474,8 @@ module _ {t w st : List ℕ} {p g : ℕ} (c : Matchable t w st p g) (n : ℕ) wh
 
       pub root-free : {st′ : List ℕ} → (bitOf (maskOf st) v ≡ 1 → ⊥) → st′ ≡ bound st v (nodeIn g) → Gives root st (g - 1) st′ w
       root-free e s =
-          rw s (ended-root (g - 1) (unitsIn g - 1) (bound st v (nodeIn g)) one-less (omega arith) (mark-bound st v (nodeIn g) root-small) (framed-bound st v (nodeIn g) root-small (c .long) e)
-          (variable-free t n p (nodeIn g) (held st) w (standing st) (unitsIn g) z d v kind ve (held-none st v e) ∙ rw (held-bound st v (nodeIn g) root-small (c .long), miss-bound st v (nodeIn g) root-small)))
+          rw s (ended-root (g - 1) (unitsIn g - 1) (bound st v (nodeIn g)) one-less (omega arith) (mark-bound further st v (nodeIn g) root-small) (framed-bound further st v (nodeIn g) root-small (c .long) e)
+          (variable-free t n p (nodeIn g) (held st) w (standing st) (unitsIn g) z d v kind ve (held-none further st v e) ∙ rw (held-bound further st v (nodeIn g) root-small (c .long), miss-bound further st v (nodeIn g) root-small)))
 
       module _ (e : bitOf (maskOf st) v ≡ 1) {y : ℕ} (ye : y ≡ wordOf st v) (r : ℕ) (is : kept r (nodeIn g) (held st) w (standing st) ≡ visit t (n - 1) (compare y (nodeIn g) (held st)) w (standing st) (unitsIn g - 1)) (a : Answer) (read : a ≡ answerOf r) where
         root-compared : kept r (nodeIn g) (held (givenUp a st p)) w (stands (markOf st) (givenUp a st p)) ≡ root
@@ -483,7 +483,7 @@ module _ {t w st : List ℕ} {p g : ℕ} (c : Matchable t w st p g) (n : ℕ) wh
             kept-answer w w (nodeIn g) (held (givenUp a st p)) (stands (markOf st) (givenUp a st p)) r a read
             ∙ giving-up a st p (nodeIn g) w (markOf st) (c .long)
             ∙ ap (gives-up p) (sym (kept-answer w w (nodeIn g) (held st) (standing st) r a read) ∙ is ∙ ap (λ y. visit t (n - 1) (compare y (nodeIn g) (held st)) w (standing st) (unitsIn g - 1)) ye)
-            ∙ sym (variable-bound t n p (nodeIn g) (held st) w (standing st) (unitsIn g) z d v kind ve (wordOf st v) (held-some st v root-small e))
+            ∙ sym (variable-bound t n p (nodeIn g) (held st) w (standing st) (unitsIn g) z d v kind ve (wordOf st v) (held-some further st v root-small e))
 
         pub root-bound-stops : {st′ : List ℕ} → st′ ≡ givenUp (answerOf r) st p → Tagged a 1 2 → Gives root st r st′ w
         root-bound-stops s h = rw (s ∙ ap (λ a. givenUp a st p) (sym read)) (stopped-root r (givenUp a st p) (framed-given-up a st p) a read h root-compared)
@@ -491,7 +491,7 @@ module _ {t w st : List ℕ} {p g : ℕ} (c : Matchable t w st p g) (n : ℕ) wh
         pub root-bound : (j k r′ : ℕ) → a ≡ Done j k → r′ ≡ packed (nodeIn g) k → Gives root st r′ st w
         unfolding givenUp
         root-bound j k r′ f s =
-            ended-root r′ k st s (omega (arith, done-node r j k (sym read ∙ f))) refl (framed-refl st)
+            ended-root r′ k st s (omega (arith, done-node r j k (sym read ∙ f))) refl (framed-refl further st)
             (sym (subst (λ a. kept r (nodeIn g) (held (givenUp a st p)) w (stands (markOf st) (givenUp a st p)) ≡ root) f root-compared) ∙ kept-is w r (nodeIn g) (held st) (standing st) a read j k f)
 
     -- a constructor
@@ -501,14 +501,14 @@ module _ {t w st : List ℕ} {p g : ℕ} (c : Matchable t w st p g) (n : ℕ) wh
         is =
             ap (λ r. out r (missing st p) w) e
             ∙ out-failed (missing st p) w (unitsIn g - 1) (omega arith)
-            ∙ rw (miss-missing st p (c .long)) (sym (differs t n p (nodeIn g) (held st) w (standing st) (unitsIn g) z d (c .entries) (c .inside) kind f));
-        frame = framed-missing st p;
+            ∙ rw (miss-missing further st p (c .long)) (sym (differs t n p (nodeIn g) (held st) w (standing st) (unitsIn g) z d (c .entries) (c .inside) kind f));
+        frame = framed-missing further st p;
       }
 
       module _ (e : agreeing t w p (nodeIn g) ≡ true) where
         pub root-leaf : operandCount t p ≡ 0 → Gives root st (g - 1) st w
         root-leaf f =
-            ended-root (g - 1) (unitsIn g - 1) st one-less (omega arith) refl (framed-refl st)
+            ended-root (g - 1) (unitsIn g - 1) st one-less (omega arith) refl (framed-refl further st)
             (agrees-leaf t n p (nodeIn g) (held st) w (standing st) (unitsIn g) z d (c .entries) (c .inside) kind e f)
 
         pub root-handed : agreeing t w p (nodeIn (g - 1)) ≡ true

@@ -7,8 +7,9 @@ use mathlib.Core.Logic.{⊎-elim}
 use Prim.Native.Nat.{ℕ, _+_, _<_, min}
 use native.Mathlib.Omega.{arith}
 use lib.Dec.{eqb}
-use borrow.Author.Tests.{eqb-true}
+use borrow.Author.Tests.{eqb-true, eq-eqb, ne-eqb}
 use Rattle.words.specs.Words.{wordAt}
+use Rattle.checks.specs.Kinds.{ours}
 use Rattle.checks.specs.Good.{kindOf, operandCount, argumentOf}
 use Rattle.meaning.specs.Table.{operands}
 use Rattle.meaning.specs.Rules.{agree}
@@ -20,8 +21,15 @@ pub no-variable : (t : List ℕ) (p k : ℕ) → Pattern t p → k ≡ kindOf t 
 no-variable t p k h e n = ⊎-elim (λ z. absurd (n (omega arith))) (λ z. z) h
 
 module _ (t : List ℕ) (n : Entries t) where
+  -- a word from 2 on, where the entry is no SCOPE, and a SCOPE's operand are entries
+  pub operand-below : (e i : ℕ) → e < 4096 → (kindOf t e ≡ 16 → ⊥) → i < 6 → wordAt t e (2 + i) < 4096
+  operand-below e i h other l = n .operand e (2 + i) h (rw (ne-eqb (kindOf t e) 16 other) (omega arith)) (omega arith)
+
+  pub scope-operand-below : (e : ℕ) → e < 4096 → kindOf t e ≡ 16 → wordAt t e (1 + ours) < 4096
+  scope-operand-below e h k = n .operand e (1 + ours) h (rw (eq-eqb (kindOf t e) 16 k) (omega arith)) (omega arith)
+
   pub operand-pattern : (p i q : ℕ) → p < 4096 → kindOf t p ≡ 19 → i < operandCount t p → q ≡ wordAt t p (2 + i) → (q < 4096) × Pattern t q
-  operand-pattern p i q h k l e = rw e (n .operand p i h (omega (arith, n .few p h)), n .parts p i h k l)
+  operand-pattern p i q h k l e = rw e (operand-below p i h (λ z. omega (arith, k, z)) (omega (arith, n .few p h)), n .parts p i h k l)
 
   -- the rules' test is the engine's
   pub agree-is : (w : List ℕ) (e k : ℕ) → e < 4096 → agree (argumentOf t e) (operands t e) (wordAt w k 0) (children w k) ≡ agreeing t w e k

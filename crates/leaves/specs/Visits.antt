@@ -9,7 +9,7 @@ use lib.Dec.{eqb, leb, ltb}
 use lib.ListN.{length}
 use Rattle.words.specs.Words.{wordAt, rows, putRow}
 use Rattle.words.specs.Tests.{if_then_else_}
-use Rattle.checks.specs.Kinds.{variables}
+use Rattle.checks.specs.Kinds.{ours, variables, operandsFromBy}
 use Rattle.checks.specs.Good.{kindOf, operandCount, argumentOf, goodNode}
 use Rattle.meaning.specs.Bindings.{Bindings}
 use Rattle.meaning.specs.Table.{table, operands}
@@ -79,10 +79,11 @@ Compares w a b u d r = (t : List ℕ) (β : Bindings ℕ) (m : Standing) → kep
 abbrev pub Pattern : List ℕ → ℕ → Type 0
 Pattern t p = (kindOf t p ≡ 18) ⊎ (kindOf t p ≡ 19)
 
--- what the engine needs of a checked table, held in 32,768 words with zeros after its last entry
+-- what the engine needs of a checked table, held in 32,768 words with zeros after its last entry: from where its operands begin, every
+-- word of an entry is an entry's number
 pub record Entries (t : List ℕ) : Type 0 where
   pub long : length t ≡ 32768
-  pub operand : (e i : ℕ) → e < 4096 → i < 6 → wordAt t e (2 + i) < 4096
+  pub operand : (e j : ℕ) → e < 4096 → operandsFromBy ours (kindOf t e) ≤ j → j < 8 → wordAt t e j < 4096
   pub few : (e : ℕ) → e < 4096 → operandCount t e ≤ 6
   pub variable : (e : ℕ) → e < 4096 → kindOf t e ≡ 18 → argumentOf t e < variables
   pub constructor : (e : ℕ) → e < 4096 → kindOf t e ≡ 19 → argumentOf t e ≤ 65535

@@ -10,7 +10,6 @@ use crate::reading::entry;
 use crate::reading::kind;
 use crate::reading::operands;
 use crate::record::MARK;
-use crate::record::MASK;
 use crate::record::RECORD;
 use crate::record::bit;
 use crate::record::word_of;
@@ -57,7 +56,7 @@ pub fn build(
     let mut left = units - 1;
     if kind(table, p) == PVAR {
         let v = entry(table, p, 1);
-        if bit(st[MASK], v) == 1 {
+        if bit(st, v) == 1 {
             return done(word_of(st, v), left);
         }
         return no_binding(v, left);

@@ -1,5 +1,6 @@
 // The matcher: pattern and term walked together, left to right. The bindings are one record that it fills as it walks: the
-// run's own, in place, for the children of a MATCH's pattern; below that its core takes and returns the record by value.
+// run's own, in place, for the children of a MATCH's pattern. Its core, for a pattern nested in one, takes and returns the record by
+// value, and fills its own copy, in place at every level below.
 use crate::answers::Answer;
 use crate::answers::HALF;
 use crate::answers::answer_of;
@@ -14,7 +15,6 @@ use crate::reading::entry;
 use crate::reading::kind;
 use crate::reading::operands;
 use crate::record::Bindings;
-use crate::record::MASK;
 use crate::record::MISS;
 use crate::record::RECORD;
 use crate::record::bind;
@@ -30,13 +30,72 @@ ghost use lib.ListN.{length};
 ghost use Rattle.leaves.specs.Record.{recordLong};
 ghost use Rattle.leaves.specs.Visits.{Pattern, Agreed, Matchable, Matches, MatchesChildren};
 
+// The children of a PCON whose constructor and count agree with the node's, after its own visit, one by one, in the record lent. Some
+// nesting is left for them, so that the loop does not test it; its caller does.
+fn match_nested(
+    table: &[u32; 32768],
+    store: &[u32],
+    st: &mut [u32; RECORD],
+    p: u32,
+    s: u64,
+    deep: u32,
+) -> u64
+    requires { ⌜ (length (now st) ≡ recordLong) × Agreed (now table) (now store) p s deep ⌝ }
+    ensures { λ r. ⌜ MatchesChildren (now (table .entry)) (now (store .entry)) deep p s (now (st .entry)) r (now (st .exit)) ⌝ }
+{
+    let t = (s / HALF) as u32;
+    let mut left = (s % HALF) as u32;
+    let n = operands(table, p);
+    let mut i: u32 = 0;
+    while i < n {
+        let q = entry(table, p, 2 + i);
+        let c = word(store, t, 2 + i);
+        if left == 0 {
+            return no_units();
+        }
+        left -= 1;
+        if kind(table, q) == PVAR {
+            let v = entry(table, q, 1);
+            if bit(st, v) == 1 {
+                // A call gets a copy of the slice, so that the slice itself stays in registers; so below.
+                let words = store;
+                let got = same(words, word_of(st, v), c, left, deep - 1);
+                let Answer::Done(_, rest) = answer_of(got) else {
+                    give_up(st, q, got);
+                    return got;
+                };
+                left = rest;
+            } else {
+                put_variable(st, v, c);
+            }
+        } else {
+            if !agree(table, store, q, c) {
+                st[MISS] = q;
+                return failure(left);
+            }
+            if operands(table, q) != 0 {
+                if deep == 1 {
+                    return stopped(left);
+                }
+                let words = store;
+                let got = match_nested(table, words, st, q, done(c, left), deep - 1);
+                let Answer::Done(_, rest) = answer_of(got) else {
+                    return got;
+                };
+                left = rest;
+            }
+        }
+        i += 1;
+    }
+    done(0, left)
+}
+
 pub struct MatchedChildren {
     pub got: u64,
     pub binds: Bindings,
 }
 
-// The children of a PCON whose constructor and count agree with the node's, after its own visit, one by one. Some nesting is left
-// for them, so that the loop does not test it; its caller does. The record is taken and returned by value.
+// The same by value: the record is taken and returned, and filled on the way.
 fn match_children(
     table: &[u32; 32768],
     store: &[u32],
@@ -48,72 +107,10 @@ fn match_children(
     requires { ⌜ Agreed (now table) (now store) p s deep ⌝ }
     ensures { λ r. ⌜ MatchesChildren (now (table .entry)) (now (store .entry)) deep p s (b .words) (r .got) (r .binds .words) ⌝ }
 {
-    let t = (s / HALF) as u32;
-    let mut left = (s % HALF) as u32;
     let mut words = b.words;
-    let n = operands(table, p);
-    let mut i: u32 = 0;
-    while i < n {
-        let q = entry(table, p, 2 + i);
-        let c = word(store, t, 2 + i);
-        if left == 0 {
-            return MatchedChildren {
-                got: no_units(),
-                binds: Bindings { words },
-            };
-        }
-        left -= 1;
-        if kind(table, q) == PVAR {
-            let v = entry(table, q, 1);
-            if bit(words[MASK], v) == 1 {
-                let got = same(store, word_of(&words, v), c, left, deep - 1);
-                let Answer::Done(_, rest) = answer_of(got) else {
-                    give_up(&mut words, q, got);
-                    return MatchedChildren {
-                        got,
-                        binds: Bindings { words },
-                    };
-                };
-                left = rest;
-            } else {
-                put_variable(&mut words, v, c);
-            }
-        } else {
-            if !agree(table, store, q, c) {
-                words[MISS] = q;
-                return MatchedChildren {
-                    got: failure(left),
-                    binds: Bindings { words },
-                };
-            }
-            if operands(table, q) != 0 {
-                if deep == 1 {
-                    return MatchedChildren {
-                        got: stopped(left),
-                        binds: Bindings { words },
-                    };
-                }
-                let f = match_children(
-                    table,
-                    store,
-                    q,
-                    done(c, left),
-                    Bindings { words },
-                    deep - 1,
-                );
-                let got = f.got;
-                let Answer::Done(_, rest) = answer_of(got) else {
-                    return f;
-                };
-                left = rest;
-                let filled = f.binds;
-                words = filled.words;
-            }
-        }
-        i += 1;
-    }
+    let got = match_nested(table, store, &mut words, p, s, deep);
     MatchedChildren {
-        got: done(0, left),
+        got,
         binds: Bindings { words },
     }
 }
@@ -147,8 +144,7 @@ fn match_in_place(
         i += 1;
         if kind(table, q) == PVAR {
             let v = entry(table, q, 1);
-            if bit(st[MASK], v) == 1 {
-                // A call gets a copy of the slice, so that the slice itself stays in registers; so below.
+            if bit(st, v) == 1 {
                 let words = store;
                 let got = same(words, word_of(st, v), c, left, d - 1);
                 let Answer::Done(_, rest) = answer_of(got) else {
@@ -223,7 +219,7 @@ pub fn match_node(
     let t = (s / HALF) as u32;
     if kind(table, p) == PVAR {
         let v = entry(table, p, 1);
-        if bit(st[MASK], v) == 1 {
+        if bit(st, v) == 1 {
             let words = store;
             let got = same(words, word_of(st, v), t, left - 1, deep - 1);
             let Answer::Done(_, rest) = answer_of(got) else {

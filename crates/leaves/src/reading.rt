@@ -1,16 +1,21 @@
 // Reading the table, which a run holds in 32,768 words, and the store. A node's count is read as at most 6.
+use crate::answers::HALF;
 use words::word;
 ghost use mathlib.Core.Path.{_≡_};
 ghost use Prim.Native.Nat.{_<_, _+_, min};
 ghost use mathlib.Core.Bool.{true, false};
 ghost use Rattle.words.specs.Words.{wordAt};
-ghost use Rattle.checks.specs.Good.{kindOf, operandCount};
+ghost use Rattle.checks.specs.Good.{kindOf, operandCount, maskBy};
+ghost use Rattle.checks.specs.Kinds.{ours};
 ghost use Rattle.leaves.specs.Visits.{countOf, rowAt, agreeing};
 
 // The words of an entry that a run may note a hint in, where they are no operands: an entry, and a number of visits.
 pub const HINT_ENTRY: u32 = 4;
 
 pub const HINT_VISITS: u32 = 5;
+
+// The word of a SCOPE's operand, after its mask.
+pub const SCOPE_OPERAND: u32 = 3;
 
 // Word j of the entry e.
 pub fn entry(table: &[u32; 32768], e: u32, j: u32) -> u32
@@ -32,6 +37,14 @@ pub fn operands(table: &[u32; 32768], e: u32) -> u32
     ensures { λ r. ⌜ r ≡ operandCount (now (table .entry)) e ⌝ }
 {
     entry(table, e, 0) % 16
+}
+
+// The mask of the SCOPE e: words 1 and 2, the low one first.
+pub fn scope_mask(table: &[u32; 32768], e: u32) -> u64
+    requires { ⌜ e < 4096 ⌝ }
+    ensures { λ r. ⌜ r ≡ maskBy ours (now (table .entry)) e ⌝ }
+{
+    entry(table, e, 1) as u64 + entry(table, e, 2) as u64 * HALF
 }
 
 // The child count of node k, at most 6.

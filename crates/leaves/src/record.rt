@@ -1,23 +1,30 @@
-// The run's one record: control words, and then a node for each variable. The control words are the mark, the mask of the
-// variables that are bound, and the pattern at which a match gave up last. The word of an unbound variable means nothing.
+// The run's one record: control words, and then a node for each variable. The control words are the mark, the pattern at which a
+// match gave up last, and the mask of the variables that are bound, in two words, the low one first. The word of an unbound variable
+// means nothing. Where the mask stands and how it is set is known here alone; elsewhere it is one number.
 use crate::answers::Answer;
+use crate::answers::HALF;
 use crate::answers::answer_of;
 use checks::kinds::VARIABLES;
 ghost use mathlib.Core.Path.{_≡_};
-ghost use Prim.Native.Nat.{_<_};
+ghost use Prim.Native.Nat.{_+_, _≤_, _<_};
+ghost use lib.Bits.{bitAnd};
+ghost use lib.ListN.{length, getD};
 ghost use Rattle.checks.specs.Kinds.{variables};
 ghost use Rattle.leaves.specs.Answers.{answerOf};
-ghost use Rattle.leaves.specs.Record.{wordOf, bitOf, bound, givenUp, without, putBack, marking, masking};
+ghost use Rattle.leaves.specs.Record.{recordLong, maskOf, wordOf, bitOf, bound, givenUp, hidden, copied, keptWords, putBack, marking, masking};
 
 // The control words.
 pub const MARK: usize = 0;
 
-pub const MASK: usize = 1;
+pub const MISS: usize = 1;
 
-pub const MISS: usize = 2;
+// The mask's low word, and its high one.
+const MASK: usize = 2;
+
+const MASK_HIGH: usize = 3;
 
 // Where the words of the variables begin, and the record's words in all.
-pub const FIRST: usize = 3;
+pub const FIRST: usize = 4;
 
 pub const RECORD: usize = FIRST + VARIABLES;
 
@@ -25,12 +32,34 @@ pub struct Bindings {
     pub words: [u32; RECORD],
 }
 
-// 1 where variable v is in the mask, else 0.
-pub fn bit(mask: u32, v: u32) -> u32
-    requires { ⌜ v < variables ⌝ }
-    ensures { λ r. ⌜ r ≡ bitOf mask v ⌝ }
+// Word j of the record.
+fn word_at(st: &[u32; RECORD], j: usize) -> u32
+    requires { ⌜ j < recordLong ⌝ }
+    ensures { λ r. ⌜ r ≡ getD (now (st .entry)) j 0 ⌝ }
 {
-    (mask >> v) % 2
+    st[j]
+}
+
+// The mask of the variables that are bound.
+pub fn mask_of(st: &[u32; RECORD]) -> u64
+    ensures { λ r. ⌜ r ≡ maskOf (now (st .entry)) ⌝ }
+{
+    word_at(st, MASK) as u64 + word_at(st, MASK_HIGH) as u64 * HALF
+}
+
+fn put_mask(st: &mut [u32; RECORD], mask: u64)
+    ensures { λ _. ⌜ now (st .exit) ≡ masking (now (st .entry)) mask ⌝ }
+{
+    st[MASK] = (mask % HALF) as u32;
+    st[MASK_HIGH] = (mask / HALF) as u32;
+}
+
+// 1 where variable v is bound, else 0.
+pub fn bit(st: &[u32; RECORD], v: u32) -> u64
+    requires { ⌜ v < variables ⌝ }
+    ensures { λ r. ⌜ r ≡ bitOf (maskOf (now (st .entry))) v ⌝ }
+{
+    (mask_of(st) >> v) % 2
 }
 
 // The word of variable v: its node, where it is bound.
@@ -47,7 +76,11 @@ pub(crate) fn set_variable(b: &mut Bindings, v: u32, t: u32)
     ensures { λ _. ⌜ now (b .exit) .words ≡ bound (now (b .entry) .words) v t ⌝ }
 {
     b.words[FIRST + v as usize] = t;
-    b.words[MASK] = b.words[MASK] | (1 << v);
+    let low = b.words[MASK] as u64;
+    let high = b.words[MASK_HIGH] as u64;
+    let mask = (low + high * HALF) | (1 << v);
+    b.words[MASK] = (mask % HALF) as u32;
+    b.words[MASK_HIGH] = (mask / HALF) as u32;
 }
 
 // Sets one variable of a record by value: what a MATCH of a variable alone calls.
@@ -66,7 +99,7 @@ pub(crate) fn put_variable(st: &mut [u32; RECORD], v: u32, t: u32)
     ensures { λ _. ⌜ now (st .exit) ≡ bound (now (st .entry)) v t ⌝ }
 {
     st[FIRST + v as usize] = t;
-    st[MASK] = st[MASK] | (1 << v);
+    put_mask(st, mask_of(st) | (1 << v));
 }
 
 // Where a comparison failed, by its answer's word, the match gives up at the pattern p. A cut-off is no failure.
@@ -80,31 +113,56 @@ pub(crate) fn give_up(st: &mut [u32; RECORD], p: u32, got: u64)
 }
 
 // Puts mark and mask back: a failure leaves no node and no binding. Where a match gave up stays.
-pub fn restore(st: &mut [u32; RECORD], mark: u32, mask: u32)
+pub fn restore(st: &mut [u32; RECORD], mark: u32, mask: u64)
     ensures { λ _. ⌜ now (st .exit) ≡ masking (marking (now (st .entry)) mark) mask ⌝ }
 {
     st[MARK] = mark;
-    st[MASK] = mask;
+    put_mask(st, mask);
 }
 
-// The mask without the hidden variables.
-pub fn hide(mask: u32, hidden: u32) -> u32
-    ensures { λ r. ⌜ r ≡ without mask hidden ⌝ }
+// Those variables of the mask that are bound.
+pub fn bound_in(st: &[u32; RECORD], mask: u64) -> u64
+    ensures { λ r. ⌜ r ≡ bitAnd (maskOf (now (st .entry))) mask ⌝ }
 {
-    mask & (4294967295 - hidden)
+    mask_of(st) & mask
 }
 
-// Puts the outer words of the variables of the mask back. It ends with the last of them.
-pub fn put_back(st: &mut [u32; RECORD], outer: &[u32; RECORD], mask: u32)
-    ensures { λ _. ⌜ now (st .exit) ≡ putBack variables 0 mask (now (outer .entry)) (now (st .entry)) ⌝ }
+// Unbinds the variables of the mask. Their words stay.
+pub fn unbind(st: &mut [u32; RECORD], mask: u64)
+    ensures { λ _. ⌜ now (st .exit) ≡ hidden (now (st .entry)) mask ⌝ }
+{
+    put_mask(st, mask_of(st) & (18446744073709551615 - mask));
+}
+
+// Copies the words of the variables of the mask, from the place `start` on to the place `at` on. It ends with the last of them.
+fn copy_words(to: &mut [u32], at: usize, from: &[u32], start: usize, mask: u64)
+    requires { ⌜ (at + variables ≤ length (now to)) × (start + variables ≤ length (now from)) ⌝ }
+    ensures { λ _. ⌜ now (to .exit) ≡ copied variables mask (now (from .entry)) start (now (to .entry)) at ⌝ }
 {
     let mut rest = mask;
     let mut v: usize = 0;
     while rest != 0 {
         if rest % 2 == 1 {
-            st[FIRST + v] = outer[FIRST + v];
+            to[at + v] = from[start + v];
         }
         rest = rest / 2;
         v += 1;
     }
+}
+
+// The words of the variables of the mask, each at its variable's number.
+pub fn kept_words(st: &[u32; RECORD], mask: u64) -> [u32; VARIABLES]
+    ensures { λ r. ⌜ r ≡ keptWords (now (st .entry)) mask ⌝ }
+{
+    let mut kept = [0u32; VARIABLES];
+    copy_words(&mut kept, 0, st, FIRST, mask);
+    kept
+}
+
+// Binds the variables of the mask again, with the words that were kept of them.
+pub fn put_back(st: &mut [u32; RECORD], kept: &[u32; VARIABLES], mask: u64)
+    ensures { λ _. ⌜ now (st .exit) ≡ putBack (now (kept .entry)) mask (now (st .entry)) ⌝ }
+{
+    copy_words(st, FIRST, kept, 0, mask);
+    put_mask(st, mask_of(st) | mask);
 }

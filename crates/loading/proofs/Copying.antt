@@ -12,6 +12,7 @@ use lib.ListN.{length, getD, set, replicate, length-set, length-append, length-r
 use lib.Seq.{getD-set-same, getD-set-other, getD-append-add, ext-getD}
 use borrow.Author.Tests.{eq-eqb, ne-eqb}
 use Rattle.checks.specs.Kinds.{variables}
+use Rattle.checks.specs.Good.{number}
 use Rattle.words.specs.Words.{wordAt}
 use Rattle.words.specs.Tests.{if_then_else_}
 use Rattle.words.proofs.Tests.{below-or-from}
@@ -20,7 +21,7 @@ use Rattle.meaning.specs.Store.{named, bindings}
 use Rattle.meaning.specs.Answer.{bindingWord, bindingWords}
 use Rattle.leaves.specs.Record.{markAt, recordLong, markOf, maskOf, wordOf, marking, bitOf, held, bound}
 use Rattle.meaning.proofs.Bits.{bit-has, has-nothing}
-use Rattle.leaves.proofs.Holding.{held-some, held-none, held-mark, held-bound, length-bound, mark-bound, mark-marking}
+use Rattle.leaves.proofs.Holding.{further, held-some, held-none, held-mark, held-bound, length-bound, mark-bound, mark-marking}
 use Rattle.calls.proofs.Words.{with-next, length-words, word-of}
 use Rattle.loading.specs.Loaded.{Hints, given, Loaded, Opened}
 
@@ -117,15 +118,16 @@ pub record Filled (b : List ℕ) (m : ℕ) (st : List ℕ) (i : ℕ) : Type 0 wh
 -- A record whose mask is zero holds nothing.
 held-nothing : (st : List ℕ) → maskOf st ≡ 0 → (v : ℕ) → held st v ≡ none
 held-nothing st e v =
-    held-none st v (λ z. true≢false (sym (bit-has 0 v (subst (λ (m : ℕ). bitOf m v ≡ 1) e z)) ∙ has-nothing v))
+    held-none further st v (λ z. true≢false (sym (bit-has 0 v (subst (λ (m : ℕ). bitOf m v ≡ 1) e z)) ∙ has-nothing v))
 
 -- At first none is held.
 pub filled-none : (b : List ℕ) (m : ℕ) → Filled b m (marking (replicate recordLong 0) m) 0
+unfolding number
 filled-none b m = record {
   long = length-set (replicate recordLong 0) markAt m;
-  mark = mark-marking (replicate recordLong 0) m refl;
+  mark = mark-marking further (replicate recordLong 0) m refl;
   before = λ v l. absurd (omega arith);
-  after = λ v l. ap (λ (h : Bindings ℕ). h v) (held-mark (replicate recordLong 0) m) ∙ held-nothing (replicate recordLong 0) refl v;
+  after = λ v l. ap (λ (h : Bindings ℕ). h v) (held-mark further (replicate recordLong 0) m) ∙ held-nothing (replicate recordLong 0) refl v;
 }
 
 module _ (b : List ℕ) (m : ℕ) (st : List ℕ) (i : ℕ) (p : Filled b m st i) where
@@ -143,8 +145,8 @@ module _ (b : List ℕ) (m : ℕ) (st : List ℕ) (i : ℕ) (p : Filled b m st i
   pub filled-bind : (w : ℕ) → w ≡ getD b i 0 → (w ≡ 0 → ⊥) → i < variables → Filled b m (bound st i (w - 1)) (i + 1)
   unfolding bind bindings named
   filled-bind w e n l = record {
-    long = length-bound st i (w - 1) l ∙ p .long;
-    mark = mark-bound st i (w - 1) l ∙ p .mark;
+    long = length-bound further st i (w - 1) l ∙ p .long;
+    mark = mark-bound further st i (w - 1) l ∙ p .mark;
     before =
         with-next (λ v. held (bound st i (w - 1)) v ≡ bindings b v) i
         (λ v k. other v (λ z. omega arith) ∙ p .before v k)
@@ -153,7 +155,7 @@ module _ (b : List ℕ) (m : ℕ) (st : List ℕ) (i : ℕ) (p : Filled b m st i
   }
     where
       now : (v : ℕ) → held (bound st i (w - 1)) v ≡ bind i (w - 1) (held st) v
-      now v = ap (λ (h : Bindings ℕ). h v) (held-bound st i (w - 1) l (p .long))
+      now v = ap (λ (h : Bindings ℕ). h v) (held-bound further st i (w - 1) l (p .long))
 
       other : (v : ℕ) → (v ≡ i → ⊥) → held (bound st i (w - 1)) v ≡ held st v
       other v z = now v ∙ rw (ne-eqb v i z)
@@ -203,8 +205,8 @@ written-all b w i p l =
 -- The word of a variable in the mask, and of one that is not.
 pub word-some : (st : List ℕ) (v : ℕ) → v < variables → bitOf (maskOf st) v ≡ 1 → wordOf st v + 1 ≡ bindingWord (held st v)
 unfolding bindingWord
-word-some st v l e = rw (held-some st v l e) (omega arith)
+word-some st v l e = rw (held-some further st v l e) (omega arith)
 
 pub word-none : (st : List ℕ) (v : ℕ) → (bitOf (maskOf st) v ≡ 1 → ⊥) → 0 ≡ bindingWord (held st v)
 unfolding bindingWord
-word-none st v n = rw (held-none st v n)
+word-none st v n = rw (held-none further st v n)

@@ -1,7 +1,7 @@
 -- The table that a run copies is the table that it was given, whatever is noted in it, and a checked one has what the engine
 -- needs.
 use mathlib.Core.Path.{_≡_, refl, ap, sym, _∙_, subst}
-use mathlib.Core.Logic.{_⊎_, ⊎-elim, inl, inr}
+use mathlib.Core.Logic.{_≢_, _⊎_, ⊎-elim, inl, inr}
 use mathlib.Core.List.{List, [], _∷_}
 use Prim.Native.Nat.{ℕ, _+_, _-_, _/_, _≤_, _<_}
 use native.Mathlib.Omega.{arith}
@@ -19,7 +19,7 @@ use Rattle.checks.specs.declared.kinds.Sort.{Sort}
 use Rattle.checks.specs.declared.kinds.Sort.the-variants.{Strategy, Pattern, Neither}
 use Rattle.checks.specs.Checked.{checked, tableChecked}
 use Rattle.checks.specs.Promises.{AllGood}
-use Rattle.checks.proofs.Good.{operandCount-six}
+use Rattle.checks.proofs.Good.{operandCount-six, operands-word, operand-word}
 use Rattle.checks.proofs.Promises.{tablePasses, entryPlain}
 use Rattle.meaning.specs.Table.{table, tableBy, byKind, operands, PVAR, PCON}
 use Rattle.meaning.proofs.Tests.{decided}
@@ -141,20 +141,30 @@ module _ (t : List ℕ) (c : tableChecked t ≡ checked 0 0) where
   inside : (e k : ℕ) → kindOf t e ≡ k → 0 < k → e < rows t
   inside e k q l = ⊎-elim (λ z. z) (λ z. absurd (omega (arith, past e 0 z))) (below-or-from e (rows t))
 
-  -- the operands begin at word 2
-  from-two : (k : ℕ) → operandsFromBy ours k ≡ 2
-  from-two k = decided (eqb k 16) (λ h. rw h) (λ h. rw h)
-
-  operand-two : (e i : ℕ) → operandBy ours t e i ≡ wordAt t e (2 + i)
-  operand-two e i = rw (from-two (kindOf t e))
-
-  facts-operand : (e i : ℕ) → i < 6 → wordAt t e (2 + i) < 4096
-  facts-operand e i l = ⊎-elim here (λ z. omega (arith, past e (2 + i) z)) (below-or-from e (rows t))
+  -- an operand, or a word after the last, is small
+  facts-operand : (e j : ℕ) → operandsFromBy ours (kindOf t e) ≤ j → j < 8 → wordAt t e j < 4096
+  facts-operand e j f l = ⊎-elim here (λ z. omega (arith, past e j z)) (below-or-from e (rows t))
     where
-      here : e < rows t → wordAt t e (2 + i) < 4096
+      here : e < rows t → wordAt t e j < 4096
       here z =
-          ⊎-elim (λ m. omega (arith, operand-two e i, plain e z .placed .inside i m, short))
-          (λ m. omega (arith, plain e z .unused .zero (2 + i) (omega (arith, from-two (kindOf t e))) (omega arith))) (below-or-from i (operandCount t e))
+          let s : operandsFromBy ours (kindOf t e) + (j - operandsFromBy ours (kindOf t e)) ≡ j = omega arith in
+          ⊎-elim
+          (λ m. let o : wordAt t e j < rows t = subst (λ (j : ℕ). wordAt t e j < rows t) s (plain e z .placed .inside _ m) in omega (arith, short))
+          (λ m. omega (arith, plain e z .unused .zero j (omega arith) l))
+          (below-or-from (j - operandsFromBy ours (kindOf t e)) (operandCount t e))
+
+  -- where the operands begin: at word 2, but a SCOPE's at word 3
+  from-two : (e k : ℕ) → kindOf t e ≡ k → k ≢ 16 → operandsFromBy ours (kindOf t e) ≡ 2
+  from-two e k q n = operands-word ours t e (λ z. n (sym q ∙ z))
+
+  from-three : (k : ℕ) → operandsFromBy ours k ≤ 3
+  from-three k = decided (eqb k 16) (λ h. rw h (omega arith)) (λ h. rw h (omega arith))
+
+  pub facts-second : (e k : ℕ) → kindOf t e ≡ k → k ≢ 16 → wordAt t e 2 < 4096
+  facts-second e k q n = facts-operand e 2 (omega (arith, from-two e k q n)) (omega arith)
+
+  pub facts-scope : (e : ℕ) → wordAt t e (1 + ours) < 4096
+  facts-scope e = facts-operand e 3 (from-three (kindOf t e)) (omega arith)
 
   facts-few : (e : ℕ) → operandCount t e ≤ 6
   facts-few e = ⊎-elim (λ z. operandCount-six ours t e (plain e z)) (λ z. omega (arith, past e 0 z)) (below-or-from e (rows t))
@@ -162,7 +172,7 @@ module _ (t : List ℕ) (c : tableChecked t ≡ checked 0 0) where
   facts-variable : (e : ℕ) → kindOf t e ≡ 18 → argumentOf t e < variables
   unfolding number kind lineOf lines
   facts-variable e q =
-      let h : argumentOf t e ≤ 31 = subst (λ k. number t e (argumentWordsBy ours k) 1 ≤ highestBy ours (kind k .argument)) q (plain e (inside e 18 q (omega arith)) .argued .high) in
+      let h : argumentOf t e ≤ variables - 1 = subst (λ k. number t e (argumentWordsBy ours k) 1 ≤ highestBy ours (kind k .argument)) q (plain e (inside e 18 q (omega arith)) .argued .high) in
       omega arith
 
   facts-constructor : (e : ℕ) → kindOf t e ≡ 19 → argumentOf t e ≤ 65535
@@ -170,53 +180,55 @@ module _ (t : List ℕ) (c : tableChecked t ≡ checked 0 0) where
   facts-constructor e q = subst (λ k. number t e (argumentWordsBy ours k) 1 ≤ highestBy ours (kind k .argument)) q (plain e (inside e 19 q (omega arith)) .argued .high)
 
   -- an operand of an entry that takes patterns
-  taken : (e k i : ℕ) → kindOf t e ≡ k → 8 < k → takes k ≡ Pattern → i < operandCount t e → visits.Pattern t (wordAt t e (2 + i))
-  taken e k i q l s m =
-      subst (λ o. visits.Pattern t o) (operand-two e i)
+  taken : (e k i : ℕ) → kindOf t e ≡ k → k ≢ 16 → 8 < k → takes k ≡ Pattern → i < operandCount t e → visits.Pattern t (wordAt t e (2 + i))
+  taken e k i q n l s m =
+      subst (λ o. visits.Pattern t o) (operand-word ours t e (λ z. n (sym q ∙ z)) i)
       (pattern-kind (kindOf t (operandBy ours t e i)) (plain e (inside e k q (omega arith)) .sorted .sorted (λ z. omega arith) i m ∙ ap takes q ∙ s))
 
   first : (e k : ℕ) → kindOf t e ≡ k → 0 < k → 1 ≤ kind k .least → 0 < operandCount t e
   first e k q l m = let h : kind k .least ≤ operandCount t e = subst (λ k. kind k .least ≤ operandCount t e) q (plain e (inside e k q l) .counted .least) in omega arith
 
   -- its first operand
-  facts-first : (e k : ℕ) → kindOf t e ≡ k → 8 < k → takes k ≡ Pattern → 1 ≤ kind k .least → visits.Pattern t (wordAt t e 2)
-  facts-first e k q l s m = taken e k 0 q l s (first e k q (omega arith) m)
+  facts-first : (e k : ℕ) → kindOf t e ≡ k → k ≢ 16 → 8 < k → takes k ≡ Pattern → 1 ≤ kind k .least → visits.Pattern t (wordAt t e 2)
+  facts-first e k q n l s m = taken e k 0 q n l s (first e k q (omega arith) m)
 
   -- an entry of at most two operands does not use word 5
-  pub five-unused : (e k : ℕ) → kindOf t e ≡ k → 0 < k → kind k .most ≤ 2 → wordAt t e 5 ≡ 0
-  five-unused e k q l m =
+  pub five-unused : (e k : ℕ) → kindOf t e ≡ k → k ≢ 16 → 0 < k → kind k .most ≤ 2 → wordAt t e 5 ≡ 0
+  five-unused e k q n l m =
       let g : operandCount t e ≤ kind k .most = subst (λ k. operandCount t e ≤ kind k .most) q (plain e (inside e k q l) .counted .most) in
-      plain e (inside e k q l) .unused .zero 5 (omega (arith, from-two (kindOf t e))) (omega arith)
+      plain e (inside e k q l) .unused .zero 5 (omega (arith, from-two e k q n)) (omega arith)
 
   -- what may be noted is small
   head-small : {p q n : ℕ} → HasHead t p q n → p < 4096
-  head-small (MATCH q h e g) = rw e (facts-operand q 0 (omega arith))
+  head-small (MATCH q h e g) = rw e (facts-second q 14 h (λ z. omega arith))
   head-small (SEQ q n h b) = head-small b
   head-small (SCOPE q n h b) = head-small b
 
   hints-small : {e x n : ℕ} → Hints t e x n → (x < 4096) × (n < 4096)
-  hints-small {e} (given p q) = (rw p (facts-operand e 2 (omega arith)), rw q (facts-operand e 3 (omega arith)))
+  hints-small {e} (given p q) =
+      let f = from-three (kindOf t e) in
+      (rw p (facts-operand e 4 (omega arith) (omega arith)), rw q (facts-operand e 5 (omega arith) (omega arith)))
   hints-small (choice k n b) = (head-small b, omega arith)
-  hints-small {e} (all k b) = (rw (b .body) (facts-operand (wordAt t (wordAt t e 2) 2) 0 (omega arith)), omega (arith, b .visits))
+  hints-small (all k b) = (rw (b .body) (facts-second _ 7 (b .called) (λ z. omega arith)), omega (arith, b .visits))
 
 module _ {t c : List ℕ} (h : tableChecked t ≡ checked 0 0) (l : Loaded t c) where
-  operand-small : (e i : ℕ) → i < 6 → wordAt c e (2 + i) < 4096
-  operand-small e i m =
+  operand-small : (e j : ℕ) → operandsFromBy ours (kindOf c e) ≤ j → j < 8 → wordAt c e j < 4096
+  operand-small e j f m =
       by-word (λ j. j < 8 → wordAt t e j < 4096 → wordAt c e j < 4096) (λ j b k z. rw (l .same e j k b) z)
       (λ k z. hints-small t h (l .hints e) .0)
       (λ k z. hints-small t h (l .hints e) .1)
-      (2 + i) (omega arith) (facts-operand t h e i m)
+      j m (facts-operand t h e j (rw (kind-same l e) at f) m)
 
   pub entries-loaded : Entries c
   unfolding kind lineOf lines takes
   entries-loaded = record {
     long = l .long;
-    operand = λ e i m n. operand-small e i n;
+    operand = λ e j m f n. operand-small e j f n;
     few = λ e m. rw (word-same l e 0 (omega arith)) (facts-few t h e);
     variable = λ e m q. rw (word-same l e 1 (omega arith)) (facts-variable t h e (sym (kind-same l e) ∙ q));
     constructor = λ e m q. rw (word-same l e 1 (omega arith)) (facts-constructor t h e (sym (kind-same l e) ∙ q));
-    matched = λ e m q. rw (kind-of-first l e) (facts-first t h e 14 (sym (kind-same l e) ∙ q) (omega arith) refl (omega arith));
-    built = λ e m q. rw (kind-of-first l e) (facts-first t h e 15 (sym (kind-same l e) ∙ q) (omega arith) refl (omega arith));
+    matched = λ e m q. rw (kind-of-first l e) (facts-first t h e 14 (sym (kind-same l e) ∙ q) (λ z. omega arith) (omega arith) refl (omega arith));
+    built = λ e m q. rw (kind-of-first l e) (facts-first t h e 15 (sym (kind-same l e) ∙ q) (λ z. omega arith) (omega arith) refl (omega arith));
     parts = λ e i m q n. part e i (sym (kind-same l e) ∙ q) (rw (word-same l e 0 (omega arith)) at n) (l .hints e);
   }
     where
@@ -224,7 +236,7 @@ module _ {t c : List ℕ} (h : tableChecked t ≡ checked 0 0) (l : Loaded t c) 
       part : (e i : ℕ) → kindOf t e ≡ 19 → i < operandCount t e → Hints t e (wordAt c e 4) (wordAt c e 5) → visits.Pattern c (wordAt c e (2 + i))
       part e i q n (given x y) =
           rw (all-same l e x y (2 + i) (omega (arith, facts-few t h e)), kind-same l (wordAt t e (2 + i)))
-          (taken t h e 19 i q (omega arith) refl n)
+          (taken t h e 19 i q (λ z. omega arith) (omega arith) refl n)
       part e i q n (choice (inl k) m b) = absurd (omega arith)
       part e i q n (choice (inr k) m b) = absurd (omega arith)
       part e i q n (all (inl k) b) = absurd (omega arith)

@@ -7,7 +7,7 @@ use Prim.Native.Nat.{ℕ, _+_, _-_, _≤_, _<_}
 use native.Mathlib.Omega.{arith}
 use Rattle.words.specs.Words.{wordAt}
 use Rattle.words.proofs.Tests.{below-or-from}
-use Rattle.checks.specs.Kinds.{lines, lineOf, kind}
+use Rattle.checks.specs.Kinds.{ours, lines, lineOf, kind}
 use Rattle.checks.specs.Good.{kindOf}
 use Rattle.checks.specs.Checked.{checked, tableChecked}
 use Rattle.meaning.specs.Rules.{apply}
@@ -17,7 +17,7 @@ use Rattle.leaves.proofs.Kind.{applied, no-units}
 use Rattle.cycle.proofs.Ruling.{ruled-rec, ruled-call}
 use Rattle.cycle.proofs.Failing.{match-fails, seq-fails, scope-fails}
 use Rattle.loading.specs.Loaded.{HasHead, MATCH, SEQ, SCOPE, Calls, Hints, given, choice, all, HeadFound, Loaded}
-use Rattle.loading.proofs.Fetching.{word-same, kind-same, kind-of-first, entries-loaded, five-unused}
+use Rattle.loading.proofs.Fetching.{word-same, kind-same, kind-of-first, entries-loaded, five-unused, facts-second, facts-scope}
 
 -- ---- in the given table
 
@@ -38,6 +38,7 @@ module _ {t : List ℕ} {q : ℕ} where
     pub found-seq : kindOf t q ≡ 4 → HeadFound t q (most + 1) p (n + 1)
     found-seq h = record { few = omega (arith, b .few); head = λ z. SEQ q n h (elsewhere e (b .head some)) }
 
+  module _ {x most p n : ℕ} (e : x ≡ wordAt t q (1 + ours)) (b : HeadFound t x most p n) (some : n ≡ 0 → ⊥) where
     pub found-scope : kindOf t q ≡ 16 → HeadFound t q (most + 1) p (n + 1)
     found-scope h = record { few = omega (arith, b .few); head = λ z. SCOPE q n h (elsewhere e (b .head some)) }
 
@@ -70,17 +71,17 @@ module _ {t c : List ℕ} (ch : tableChecked t ≡ checked 0 0) (l : Loaded t c)
   first-same : (e : ℕ) → wordAt t e 2 ≡ wordAt c e 2
   first-same e = sym (word-same l e 2 (omega arith))
 
-  first-inside : (e : ℕ) → e < 4096 → wordAt t e 2 < 4096
-  first-inside e i = rw (first-same e) (entries-loaded ch l .operand e 0 i (omega arith))
+  scope-same : (e : ℕ) → wordAt t e (1 + ours) ≡ wordAt c e (1 + ours)
+  scope-same e = sym (word-same l e 3 (omega arith))
 
   -- where constructor and count differ, a strategy fails in the visit of the PCON that it begins with
   head-fails : {p q n : ℕ} → HasHead t p q n → q < 4096 → (w : List ℕ) (k : ℕ) → agreeing c w p k ≡ false → VisitsToFailure c w q k p n n
   head-fails {p} (MATCH q h e g) i w k a =
       match-fails (entries-loaded ch l) i (kind-same l q ∙ h) (e ∙ first-same q) (kind-same l p ∙ g) a
   head-fails (SEQ q n h b) i w k a =
-      seq-fails (first-same q) (head-fails b (first-inside q i) w k a) (head-some b) (kind-same l q ∙ h)
+      seq-fails (head-fails b (facts-second t ch q 4 h (λ z. omega arith)) w k a) (head-some b) (first-same q) (kind-same l q ∙ h)
   head-fails (SCOPE q n h b) i w k a =
-      scope-fails (first-same q) (head-fails b (first-inside q i) w k a) (head-some b) (kind-same l q ∙ h)
+      scope-fails (head-fails b (facts-scope t ch q) w k a) (head-some b) (scope-same q) (kind-same l q ∙ h)
 
   -- a CALL and its REC take two visits
   calls-leads : {x q n : ℕ} → Calls t x q n → Leads c q x n
@@ -111,19 +112,23 @@ module _ {t c : List ℕ} (ch : tableChecked t ≡ checked 0 0) (l : Loaded t c)
     ahead = λ e i k s. ahead e (rw (kind-same l e) at k) s (l .hints e);
   }
     where
+      inside-choice : (e : ℕ) → (kindOf t e ≡ 5) ⊎ (kindOf t e ≡ 6) → wordAt t e 2 < 4096
+      inside-choice e (inl k) = facts-second t ch e 5 k (λ z. omega arith)
+      inside-choice e (inr k) = facts-second t ch e 6 k (λ z. omega arith)
+
       head : (e : ℕ) → e < 4096 → (kindOf t e ≡ 5) ⊎ (kindOf t e ≡ 6) → (wordAt c e 5 ≡ 0 → ⊥) → Hints t e (wordAt c e 4) (wordAt c e 5)
           → Heads c (wordAt c e 2) (wordAt c e 4) (wordAt c e 5)
-      head e i (inl k) s (given p q) = absurd (s (q ∙ five-unused t ch e 5 k (omega arith) (omega arith)))
-      head e i (inr k) s (given p q) = absurd (s (q ∙ five-unused t ch e 6 k (omega arith) (omega arith)))
+      head e i (inl k) s (given p q) = absurd (s (q ∙ five-unused t ch e 5 k (λ z. omega arith) (omega arith) (omega arith)))
+      head e i (inr k) s (given p q) = absurd (s (q ∙ five-unused t ch e 6 k (λ z. omega arith) (omega arith) (omega arith)))
       head e i k s (choice h n b) = record {
         few = n;
-        fails = λ w m a. rw (word-same l e 2 (omega arith)) (head-fails b (first-inside e i) w m a .fails s);
+        fails = λ w m a. rw (word-same l e 2 (omega arith)) (head-fails b (inside-choice e h) w m a .fails s);
       }
       head e i k s (all h b) = absurd (apart k h)
 
       ahead : (e : ℕ) → (kindOf t e ≡ 11) ⊎ (kindOf t e ≡ 13) → (wordAt c e 5 ≡ 0 → ⊥) → Hints t e (wordAt c e 4) (wordAt c e 5)
           → (wordAt c e 5 ≤ 2) × Leads c (wordAt c e 2) (wordAt c e 4) (wordAt c e 5)
-      ahead e (inl k) s (given p q) = absurd (s (q ∙ five-unused t ch e 11 k (omega arith) (omega arith)))
-      ahead e (inr k) s (given p q) = absurd (s (q ∙ five-unused t ch e 13 k (omega arith) (omega arith)))
+      ahead e (inl k) s (given p q) = absurd (s (q ∙ five-unused t ch e 11 k (λ z. omega arith) (omega arith) (omega arith)))
+      ahead e (inr k) s (given p q) = absurd (s (q ∙ five-unused t ch e 13 k (λ z. omega arith) (omega arith) (omega arith)))
       ahead e k s (choice h n b) = absurd (apart h k)
       ahead e k s (all h b) = (omega (arith, b .visits), rw (word-same l e 2 (omega arith)) (calls-leads b))

@@ -5,6 +5,7 @@ use mathlib.Core.List.{List}
 use Prim.Native.Nat.{ℕ, _+_, _≤_, _<_}
 use lib.ListN.{length}
 use Rattle.words.specs.Words.{wordAt}
+use Rattle.checks.specs.Kinds.{ours}
 use Rattle.checks.specs.Good.{kindOf}
 use Rattle.meaning.specs.Store.{bindings}
 use Rattle.leaves.specs.Record.{recordLong, markOf, held}
@@ -13,7 +14,7 @@ use Rattle.leaves.specs.Record.{recordLong, markOf, held}
 pub data HasHead (t : List ℕ) (p : ℕ) : ℕ → ℕ → Type 0 where
   MATCH : (q : ℕ) → kindOf t q ≡ 14 → p ≡ wordAt t q 2 → kindOf t p ≡ 19 → HasHead t p q 2
   SEQ : (q n : ℕ) → kindOf t q ≡ 4 → HasHead t p (wordAt t q 2) n → HasHead t p q (n + 1)
-  SCOPE : (q n : ℕ) → kindOf t q ≡ 16 → HasHead t p (wordAt t q 2) n → HasHead t p q (n + 1)
+  SCOPE : (q n : ℕ) → kindOf t q ≡ 16 → HasHead t p (wordAt t q (1 + ours)) n → HasHead t p q (n + 1)
 
 -- entry q is a CALL of a REC whose operand is x: n visits, the CALL's and the REC's, come before that of x
 pub record Calls (t : List ℕ) (x q n : ℕ) : Type 0 where

@@ -11,6 +11,7 @@ use checks::kinds::REC;
 use checks::kinds::SCOPE;
 use checks::kinds::SEQ;
 use checks::kinds::SOME;
+use checks::kinds::operands_from;
 use words::word;
 ghost use mathlib.Core.Path.{_≡_};
 ghost use Rattle.loading.specs.Loaded.{HeadFound, Calls, Hints};
@@ -53,7 +54,7 @@ fn scope_head(table: &[u32], q: u32) -> Hint
     if kind_of(table, q) != SCOPE {
         return seq_head(table, q);
     }
-    let h = seq_head(table, word(table, q, 2));
+    let h = seq_head(table, word(table, q, operands_from(SCOPE)));
     if h.1 == 0 {
         return h;
     }

@@ -3,7 +3,6 @@ use crate::hints::hint_for;
 use checks::kinds::VARIABLES;
 use leaves::record::Bindings;
 use leaves::record::MARK;
-use leaves::record::MASK;
 use leaves::record::RECORD;
 use leaves::record::bind;
 use leaves::record::bit;
@@ -66,11 +65,10 @@ pub fn closed(bindings: &mut [u32], st: [u32; RECORD])
     requires { ⌜ (length (now bindings) ≡ variables) × ((v k : ℕ) → held st v ≡ some k → k < 131072) ⌝ }
     ensures { λ _. ⌜ now (bindings .exit) ≡ bindingWords variables (held st) ⌝ }
 {
-    let mask = st[MASK];
     let mut v: u32 = 0;
     while (v as usize) < VARIABLES {
         let k = v as usize;
-        if bit(mask, v) == 1 {
+        if bit(&st, v) == 1 {
             bindings[k] = word_of(&st, v) + 1;
         } else {
             bindings[k] = 0;

@@ -144,13 +144,13 @@ pub extern "C" fn marshtrundle_collect(
     *numbers = [r.answer, r.place, r.subject, r.mark];
 }
 
-// The question of free variables: answer, place and mask.
+// The question of free variables: answer, place and mask, as numbers of 64 bits, for the mask has so many.
 #[no_mangle]
-pub extern "C" fn marshtrundle_free_variables(table: &[u32], entry: u32, numbers: &mut [u32; 3])
+pub extern "C" fn marshtrundle_free_variables(table: &[u32], entry: u32, numbers: &mut [u64; 3])
     ensures { λ _. ⌜ Answered (now (table .entry)) entry (three (now (numbers .exit))) ⌝ }
 {
     let r = free_variables(table, entry);
-    *numbers = [r.answer, r.place, r.mask];
+    *numbers = [r.answer as u64, r.place as u64, r.mask];
 }
 
 // The table check: answer and place.

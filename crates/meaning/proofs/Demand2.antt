@@ -49,7 +49,9 @@ module _ {size : ℕ} (v : Stored size) where
 -- Over the words and over values a run ends alike.
 pub over-the-words : Over-the-words
 unfolding ranBy bindings meant
-over-the-words W N Λ ν i a = alike-value start (together (rows (i .store)) Λ (tableBy W (i .table)) (table-makeable W (i .table) (a .table)) deepest start _ _ ν (i .units) (q-apply (record { below = a .subject; is = refl }) bound))
+over-the-words W N Λ ν i a =
+    alike-value start
+    (together (rows (i .store)) Λ (tableBy W (i .table)) (table-makeable W (i .table) (a .table)) deepest start _ _ ν (i .units) (q-apply (record { below = a .subject; is = refl }) bound))
   where
     start : Stored (rows (i .store))
     start = record { words = i .store; mark = i .mark; filled = store-filled (i .store) (i .mark) (a .store); long = refl }

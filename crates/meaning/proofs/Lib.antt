@@ -28,4 +28,5 @@ pub mod Above
 pub mod Twenty
 pub mod Small
 pub mod Ours
+pub mod Upper
 pub mod Uses

@@ -14,5 +14,9 @@ use Rattle.meaning.specs.Answer.{number, placeOf, bindingWord, bindingWo
 use Rattle.meaning.specs.Small.{wordsOf, entry, roomy, bound, three, four, given, gives, fails-at, swap, twice, matchX, cases, seen, expected, Small-runs}
 
 pub small-runs : Small-runs
-unfolding every rejected putRow clearedFrom lines lineOf kind sortOf takes word-number countFits argumentFitsBy operandPlacedBy operandSortedBy operandsFaultBy unusedZeroBy faultBy goodEntryBy goodNode tableLengthFits storeLengthFits tableCheckedBy storeChecked bind has masked byKind tableBy nth put zip agree when given-of again walk oneOf someOf strategy variable whenAt matching needed building comparing does roomFor settled after runPlan closed run row named bindings ranBy number placeOf bindingWord bindingWords returnedBy wordsOf entry roomy bound three four given gives fails-at swap twice matchX cases seen expected
+unfolding every rejected putRow clearedFrom lines lineOf kind sortOf takes word-number countFits argumentFitsBy operandPlacedBy
+    operandSortedBy operandsFaultBy unusedZeroBy faultBy goodEntryBy goodNode tableLengthFits storeLengthFits tableCheckedBy storeChecked bind has masked byKind
+    tableBy nth put zip agree when given-of again walk oneOf someOf strategy variable whenAt matching needed building comparing does
+    roomFor settled after runPlan closed run row named bindings ranBy number placeOf bindingWord bindingWords returnedBy wordsOf entry roomy bound
+    three four given gives fails-at swap twice matchX cases seen expected
 small-runs = record { with-32 = refl; with-64 = refl }

@@ -47,7 +47,8 @@ asGiven i a p w u = record { answer = a; place = p; subject = i .subject; mark =
 -- 0 with the new subject, mark and bindings; else as given, failed with the place that was noted. The units are those used, and
 -- from the mark on the store is zero
 unfoldable pub returnedBy : ℕ → Input → Ran ℕ → Returned
-returnedBy W i (ended k b s u) = record { answer = 0; place = 0; subject = k; mark = s .mark; units = i .units - u; store = clearedFrom (s .words) (8 * s .mark); bindings = bindingWords (variablesBy W) b }
+returnedBy W i (ended k b s u) =
+    record { answer = 0; place = 0; subject = k; mark = s .mark; units = i .units - u; store = clearedFrom (s .words) (8 * s .mark); bindings = bindingWords (variablesBy W) b }
 returnedBy W i (lost l u) = asGiven i 1 (l .notes) (l .words) u
 returnedBy W i (cut c l u) = asGiven i (number c) (placeOf c) (l .words) u
 

@@ -20,4 +20,5 @@ pub mod Above
 pub mod Orderings
 pub mod Small
 pub mod Ours
+pub mod Upper
 pub mod Uses

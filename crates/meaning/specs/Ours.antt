@@ -90,7 +90,8 @@ module _ (W : ℕ) where
       ∷ case 16 (given W (entry W 16 2 (1 ∷ []) ++ matchX W 1) three 8 2 99) (gives 0 2 3 3 three 8 (bound W 0 2))
       ∷ case 16 (given W scopes three 8 2 99) (gives 0 2 4 11 (four (row 5 (0 ∷ 1 ∷ []))) 8 (free W))
       -- WHERE in a LEFT: its node and its binding stay; after a failure neither does
-      ∷ case 17 (given W (entry W 6 0 (1 ∷ 7 ∷ []) ++ entry W 17 0 (2 ∷ []) ++ entry W 4 0 (3 ∷ 5 ∷ []) ++ build7 4 ++ matchX W 5 ++ entry W 0 0 []) three 8 2 99) (gives 0 2 4 7 (four (row 7 [])) 8 (bound W 0 3))
+      ∷ case 17 (given W (entry W 6 0 (1 ∷ 7 ∷ []) ++ entry W 17 0 (2 ∷ []) ++ entry W 4 0 (3 ∷ 5 ∷ []) ++ build7 4 ++ matchX W 5 ++ entry W 0 0 []) three 8 2 99)
+      (gives 0 2 4 7 (four (row 7 [])) 8 (bound W 0 3))
       ∷ case 17 (given W (entry W 6 0 (1 ∷ 6 ∷ []) ++ entry W 4 0 (2 ∷ 5 ∷ []) ++ entry W 17 0 (3 ∷ []) ++ build7 4 ++ entry W 1 0 [] ++ entry W 0 0 []) three 8 2 99) (gives 0 2 3 7 three 8 (free W))
       ∷ []
 

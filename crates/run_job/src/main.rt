@@ -43,7 +43,7 @@ fn read_text(text: &mut [u8]) -> usize
 
 // Writes the answer to a text, and says where it could not.
 fn answer_text(text: &[u8]) {
-    let mut out = [0u8; 81920];
+    let mut out = [0u8; 82944];
     let n = answer_job(text, &mut out);
     if !io::write_all(STDOUT_FILENO, &out[..n]) {
         io::write_all(STDERR_FILENO, b"run_job: the answer is not written whole\n");

@@ -35,7 +35,7 @@ use Rattle.leaves.specs.Noted.{State, Ran, on, leftOf, stored}
 use Rattle.leaves.specs.Record.{recordLong, markOf, missOf, standing, missing, held}
 use Rattle.leaves.specs.Visits.{visit, limitOf, meaning, out, Entries, Steady, Gives}
 use Rattle.cycle.specs.Cycle.{Hinted, Ready}
-use Rattle.leaves.proofs.Holding.{mark-missing, miss-missing, held-missing, framed-missing}
+use Rattle.leaves.proofs.Holding.{further, mark-missing, miss-missing, held-missing, framed-missing}
 use Rattle.leaves.proofs.AnswerWords.{node-packed, units-packed, out-answer}
 use Rattle.loading.specs.Loaded.{Loaded, Opened}
 use Rattle.calls.specs.Refused.{refusedWith}
@@ -100,10 +100,10 @@ pub ready-missing : {c w st : List ℕ} {e g : ℕ} (p : ℕ) → Ready c w st e
 ready-missing {st = st} p r = record {
   entries = r .entries;
   hints = r .hints;
-  long = framed-missing st p .long ∙ r .long;
+  long = framed-missing further st p .long ∙ r .long;
   inside = r .inside;
-  steady = rw (mark-missing st p, held-missing st p) (r .steady);
-  subject = rw (mark-missing st p) (r .subject);
+  steady = rw (mark-missing further st p, held-missing further st p) (r .steady);
+  subject = rw (mark-missing further st p) (r .subject);
 }
 
 -- What the engine answers, read, as a run's end: the numbers are those of the end, and the units left are at most those given. No
@@ -115,7 +115,7 @@ module _ (c w st : List ℕ) (e k u : ℕ) (long : length st ≡ recordLong) (fe
 
   ends-answer : ends ≡ meaning a st′ w′
   ends-answer =
-      (λ z. visit c 4096 (apply e (sym (ap nodeIn ge ∙ node-packed k u few) z) (sym (held-missing st nowhere) z)) w (at (sym (mark-missing st nowhere) z) (sym (miss-missing st nowhere long) z)) (sym (ap unitsIn ge ∙ units-packed k u few) z))
+      (λ z. visit c 4096 (apply e (sym (ap nodeIn ge ∙ node-packed k u few) z) (sym (held-missing further st nowhere) z)) w (at (sym (mark-missing further st nowhere) z) (sym (miss-missing further st nowhere long) z)) (sym (ap unitsIn ge ∙ units-packed k u few) z))
       ∙ sym (gives .is) ∙ out-answer st′ w′ got a read
 
   few-left : unitsLeft ends ≤ u

@@ -8,36 +8,36 @@ use native.Mathlib.Numerals.{add-one}
 use lib.ListN.{length, getD, set, take, drop, replicate, length-set, length-drop}
 use lib.Seq.{length-take-le, set-at, append-snoc, take-suc-set, drop-drop, getD-drop}
 use borrow.Author.Tests.{eq-eqb, ne-eqb}
-use Rattle.text.specs.Text.{parts, upTo, valued, numberOf, inFront, numbersOf, eight}
+use Rattle.text.specs.Text.{parts, upTo, oneWord, valued, numberOf, inFront, numbersOf, eight}
 use Rattle.text.specs.Held.{numbersHeld}
 use Rattle.text.specs.declared.Numbers.{Numbers}
 use Rattle.text.proofs.Parts.{parts-on, parts-end, parts-first, upTo-take, length-upTo, upTo-stops}
 
 -- An empty field is no number.
-pub number-none : (f : List ℕ) → length f ≡ 0 → numberOf f ≡ none
+pub number-none : (m : ℕ) (f : List ℕ) → length f ≡ 0 → numberOf m f ≡ none
 unfolding numberOf
-number-none [] e = refl
-number-none (b ∷ f) e = absurd (omega arith)
+number-none m [] e = refl
+number-none m (b ∷ f) e = absurd (omega arith)
 
 -- A first digit that is no zero begins a number.
-pub number-digits : (f : List ℕ) → (length f ≡ 0 → ⊥) → (getD f 0 0 ≡ 48 → ⊥) → numberOf f ≡ valued 0 f
+pub number-digits : (m : ℕ) (f : List ℕ) → (length f ≡ 0 → ⊥) → (getD f 0 0 ≡ 48 → ⊥) → numberOf m f ≡ valued m 0 f
 unfolding numberOf
-number-digits [] n d = absurd (n refl)
-number-digits (b ∷ f) n d = rw (ne-eqb _ _ d)
+number-digits m [] n d = absurd (n refl)
+number-digits m (b ∷ f) n d = rw (ne-eqb _ _ d)
 
 -- A zero alone is zero.
-pub number-zero : (f : List ℕ) → getD f 0 0 ≡ 48 → length f ≡ 1 → numberOf f ≡ some 0
+pub number-zero : (m : ℕ) (f : List ℕ) → getD f 0 0 ≡ 48 → length f ≡ 1 → numberOf m f ≡ some 0
 unfolding numberOf
-number-zero [] d e = absurd (omega arith)
-number-zero (b ∷ []) d e = rw (eq-eqb _ _ d)
-number-zero (b ∷ c ∷ f) d e = absurd (omega arith)
+number-zero m [] d e = absurd (omega arith)
+number-zero m (b ∷ []) d e = rw (eq-eqb _ _ d)
+number-zero m (b ∷ c ∷ f) d e = absurd (omega arith)
 
 -- A leading zero is refused.
-pub number-leading : (f : List ℕ) → (length f ≡ 0 → ⊥) → getD f 0 0 ≡ 48 → (length f ≡ 1 → ⊥) → numberOf f ≡ none
+pub number-leading : (m : ℕ) (f : List ℕ) → (length f ≡ 0 → ⊥) → getD f 0 0 ≡ 48 → (length f ≡ 1 → ⊥) → numberOf m f ≡ none
 unfolding numberOf
-number-leading [] n d m = absurd (n refl)
-number-leading (b ∷ []) n d m = absurd (m refl)
-number-leading (b ∷ c ∷ f) n d m = rw (eq-eqb _ _ d)
+number-leading m [] n d o = absurd (n refl)
+number-leading m (b ∷ []) n d o = absurd (o refl)
+number-leading m (b ∷ c ∷ f) n d o = rw (eq-eqb _ _ d)
 
 -- The first n of eight places hold numbers, and the others zeros.
 pub record Filled (at : List ℕ) (n : ℕ) : Type 0 where
@@ -126,7 +126,7 @@ module _ (line : List ℕ) (i : ℕ) (l : i < length line) (tab : getD line i 0 
         rw (fields-next e z, k)
 
     -- A field that is no number.
-    pub numbers-bad : n < 8 → none ≡ numberOf (take (e - (i + 1)) (drop (i + 1) line)) → after vs (numbersOf (8 - n) (tail (parts 9 (drop i line)))) ≡ none
+    pub numbers-bad : n < 8 → none ≡ numberOf oneWord (take (e - (i + 1)) (drop (i + 1) line)) → after vs (numbersOf (8 - n) (tail (parts 9 (drop i line)))) ≡ none
     unfolding numbersOf
     numbers-bad m p =
         let k : 8 - n ≡ suc (8 - (n + 1)) = omega arith in
@@ -135,7 +135,7 @@ module _ (line : List ℕ) (i : ℕ) (l : i < length line) (tab : getD line i 0 
     -- A number more.
     pub numbers-on : n < 8
         → (v : ℕ)
-        → some v ≡ numberOf (take (e - (i + 1)) (drop (i + 1) line))
+        → some v ≡ numberOf oneWord (take (e - (i + 1)) (drop (i + 1) line))
         → after (vs ++ (v ∷ [])) (numbersOf (8 - (n + 1)) (tail (parts 9 (drop e line)))) ≡ after vs (numbersOf (8 - n) (tail (parts 9 (drop i line))))
     unfolding numbersOf
     numbers-on m v p =

@@ -94,27 +94,27 @@ module _ (c : ℕ) where
       go true e h l = eqb-true b c e
       go false e h l = h (omega arith)
 
-module _ (f : List ℕ) (i v : ℕ) (l : i < length f) where
+module _ (m : ℕ) (f : List ℕ) (i v : ℕ) (l : i < length f) where
   -- No digit: no number.
-  pub valued-low : getD f i 0 < 48 → valued v (drop i f) ≡ none
+  pub valued-low : getD f i 0 < 48 → valued m v (drop i f) ≡ none
   unfolding valued
-  valued-low m = rw (from-here f i l, lt-ltb _ _ m)
+  valued-low h = rw (from-here f i l, lt-ltb _ _ h)
 
-  pub valued-high : 48 ≤ getD f i 0 → 57 < getD f i 0 → valued v (drop i f) ≡ none
+  pub valued-high : 48 ≤ getD f i 0 → 57 < getD f i 0 → valued m v (drop i f) ≡ none
   unfolding valued
-  valued-high m n = rw (from-here f i l, le-ltb _ _ m, lt-ltb _ _ n)
+  valued-high h n = rw (from-here f i l, le-ltb _ _ h, lt-ltb _ _ n)
 
   -- A digit: the number so far and the rest decide, within the limit.
-  pub valued-over : 48 ≤ getD f i 0 → getD f i 0 ≤ 57 → 4294967295 < v * 10 + (getD f i 0 - 48) → valued v (drop i f) ≡ none
+  pub valued-over : 48 ≤ getD f i 0 → getD f i 0 ≤ 57 → m < v * 10 + (getD f i 0 - 48) → valued m v (drop i f) ≡ none
   unfolding valued
-  valued-over m n o = rw (from-here f i l, le-ltb _ _ m, le-ltb _ _ n, lt-ltb _ _ o)
+  valued-over h n o = rw (from-here f i l, le-ltb _ _ h, le-ltb _ _ n, lt-ltb _ _ o)
 
-  pub valued-on : 48 ≤ getD f i 0 → getD f i 0 ≤ 57 → v * 10 + (getD f i 0 - 48) ≤ 4294967295
-      → valued v (drop i f) ≡ valued (v * 10 + (getD f i 0 - 48)) (drop (i + 1) f)
+  pub valued-on : 48 ≤ getD f i 0 → getD f i 0 ≤ 57 → v * 10 + (getD f i 0 - 48) ≤ m
+      → valued m v (drop i f) ≡ valued m (v * 10 + (getD f i 0 - 48)) (drop (i + 1) f)
   unfolding valued
-  valued-on m n o = rw (from-here f i l, le-ltb _ _ m, le-ltb _ _ n, le-ltb _ _ o)
+  valued-on h n o = rw (from-here f i l, le-ltb _ _ h, le-ltb _ _ n, le-ltb _ _ o)
 
 -- Nothing more: the number so far.
-pub valued-end : (f : List ℕ) (i v : ℕ) → length f ≤ i → valued v (drop i f) ≡ some v
+pub valued-end : (m : ℕ) (f : List ℕ) (i v : ℕ) → length f ≤ i → valued m v (drop i f) ≡ some v
 unfolding valued
-valued-end f i v l = rw (drop-of-length-le f l)
+valued-end m f i v l = rw (drop-of-length-le f l)

@@ -11,7 +11,7 @@ use lib.ListN.{length, getD, set, take, drop, length-append, length-take, length
 use lib.Seq.{set-split, take-at, drop-append-add, drop-drop, length-take-le, take-suc}
 use borrow.Author.Tests.{lt-ltb, le-ltb, ltb-false}
 use Rattle.words.specs.Tests.{if_then_else_}
-use Rattle.text.specs.Text.{digits, decimal}
+use Rattle.text.specs.Text.{oneWord, twoWords, digits, decimal}
 use Rattle.text.specs.Written.{numbersText, putText, Put}
 
 -- Nothing put leaves the buffer.
@@ -62,9 +62,12 @@ length-digits (suc k) n = go (ltb n 10) (length-digits k (n / 10))
     go false h = omega (arith, length-append (digits k (n / 10)) ((48 + n % 10) ∷ []))
 
 -- One digit.
-pub decimal-one : (n : ℕ) → n < 10 → decimal n ≡ (48 + n) ∷ []
+pub digits-one : (k n : ℕ) → n < 10 → digits (suc k) n ≡ (48 + n) ∷ []
 unfolding digits
-decimal-one n l = rw (lt-ltb n 10 l)
+digits-one k n l = rw (lt-ltb n 10 l)
+
+pub decimal-one : (n : ℕ) → n < 10 → decimal n ≡ (48 + n) ∷ []
+decimal-one n l = digits-one 9 n l
 
 -- n is below the k-th power of ten.
 pub data Below : ℕ → ℕ → Type 0 where
@@ -83,13 +86,35 @@ digits-more (suc k) n p (tenth j m b) = go (ltb n 10) refl (digits-more k (n / 1
     go true e h = refl
     go false e h = ap (λ (d : List ℕ). d ++ ((48 + n % 10) ∷ [])) (h (omega (arith, ltb-false n 10 e)) b)
 
--- A number within the limit has at most ten digits, and a tenth of it nine.
-pub below-nine : (n : ℕ) → n ≤ 4294967295 → Below 9 (n / 10)
-below-nine n l = tenth _ _ (tenth _ _ (tenth _ _ (tenth _ _ (tenth _ _ (tenth _ _ (tenth _ _ (tenth _ _ (tenth _ _ (least (n / 10 / 10 / 10 / 10 / 10 / 10 / 10 / 10 / 10 / 10) (omega arith))))))))))
+-- One power of ten more.
+step : (k b : ℕ) → ((m : ℕ) → m < b → Below k m) → (n : ℕ) → n < 10 * b → Below (suc k) n
+step k b f n l = tenth k n (f (n / 10) (omega arith))
+
+-- A number of one word has at most ten digits, and a tenth of it nine; of two words twenty, and nineteen.
+nine : (n : ℕ) → n < 1000000000 → Below 9 n
+nine = step 8 100000000 (step 7 10000000 (step 6 1000000 (step 5 100000 (step 4 10000 (step 3 1000 (step 2 100 (step 1 10 (step 0 1 least))))))))
+
+nineteen : (n : ℕ) → n < 10000000000000000000 → Below 19 n
+nineteen =
+    step 18 1000000000000000000 (step 17 100000000000000000 (step 16 10000000000000000 (step 15 1000000000000000 (step 14 100000000000000
+    (step 13 10000000000000 (step 12 1000000000000 (step 11 100000000000 (step 10 10000000000 (step 9 1000000000 nine)))))))))
+
+-- k digits are enough for a tenth of a number that is at most m
+abbrev pub Enough : ℕ → ℕ → Type 0
+Enough k m = (n : ℕ) → n ≤ m → Below k (n / 10)
+
+pub for-one : Enough 9 oneWord
+for-one n l = nine (n / 10) (omega arith)
+
+pub for-two : Enough 19 twoWords
+for-two n l = nineteen (n / 10) (omega arith)
+
+pub digits-last : {k m : ℕ} → Enough k m → (n : ℕ) → 10 ≤ n → n ≤ m → digits (suc k) n ≡ digits (suc k) (n / 10) ++ ((48 + n % 10) ∷ [])
+unfolding digits
+digits-last {k} b n l h = rw (le-ltb n 10 l) (ap (λ (d : List ℕ). d ++ ((48 + n % 10) ∷ [])) (digits-more k (n / 10) (omega arith) (b n h)))
 
 pub decimal-more : (n : ℕ) → 10 ≤ n → n ≤ 4294967295 → decimal n ≡ decimal (n / 10) ++ ((48 + n % 10) ∷ [])
-unfolding digits
-decimal-more n l m = rw (le-ltb n 10 l) (ap (λ (d : List ℕ). d ++ ((48 + n % 10) ∷ [])) (digits-more 9 (n / 10) (omega arith) (below-nine n m)))
+decimal-more n l m = digits-last for-one n l m
 
 -- So the last digit is one byte more.
 pub length-one : (n : ℕ) → n < 10 → length (decimal n) ≡ 1

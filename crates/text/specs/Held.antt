@@ -5,13 +5,19 @@ use Prim.Native.Nat.{ℕ}
 use lib.ListN.{length, replicate}
 use Rattle.text.specs.Text.{eight}
 use Rattle.text.specs.declared.field.Field.{Field}
-use Rattle.text.specs.declared.field.Field.the-variants.{Number, Other}
+use Rattle.text.specs.declared.field.Field.the-variants as field
+use Rattle.text.specs.declared.field.Value.{Value}
+use Rattle.text.specs.declared.field.Value.the-variants as value
 use Rattle.text.specs.declared.Numbers.{Numbers}
 
 -- the number that was read
 abbrev pub valueOf : Field → Option ℕ
-valueOf (Number v) = some v
-valueOf Other = none
+valueOf (field.Number v) = some v
+valueOf field.Other = none
+
+abbrev pub wideOf : Value → Option ℕ
+wideOf (value.Wide v) = some v
+wideOf value.None = none
 
 -- numbers: their count, 9 for fields that are not numbers or too many, and eight places
 abbrev pub numbersHeld : Option (List ℕ) → Numbers

@@ -3,14 +3,19 @@ ghost use mathlib.Core.Path.{_≡_};
 ghost use mathlib.Core.List.{tail};
 ghost use Prim.Native.Nat.{_+_, _≤_, _<_};
 ghost use lib.ListN.{length, drop, getD};
-ghost use Rattle.text.specs.Text.{upTo, parts, valued, numberOf, numbersOf};
-ghost use Rattle.text.specs.Held.{valueOf, numbersHeld};
+ghost use Rattle.text.specs.Text.{upTo, parts, oneWord, valued, numberOf, numbersOf};
+ghost use Rattle.text.specs.Held.{valueOf, wideOf, numbersHeld};
 use crate::Numbers;
 
-// The number of a field, or none.
+// The number of a field, or none: of 32 bits, and of 64.
 pub enum Field {
     Number(u32),
     Other,
+}
+
+pub enum Value {
+    Wide(u64),
+    None,
 }
 
 // Where the next c stands, from a place on; the end where there is none.
@@ -29,42 +34,56 @@ pub fn next_at(s: &[u8], from: usize, c: u8) -> usize
 }
 
 // The number of digits, the first of which is no zero.
-fn digits(field: &[u8]) -> Field
-    ensures { λ r. ⌜ valueOf r ≡ valued 0 (now (field .entry)) ⌝ }
+fn digits(field: &[u8], most: u64) -> Value
+    requires { ⌜ 9 ≤ most ⌝ }
+    ensures { λ r. ⌜ wideOf r ≡ valued most 0 (now (field .entry)) ⌝ }
 {
     let mut value: u64 = 0;
     let mut i = 0;
     while i < field.len() {
         let b = field[i];
         if b < 48 {
-            return Field::Other;
+            return Value::None;
         }
         if 57 < b {
-            return Field::Other;
+            return Value::None;
         }
-        value = value * 10 + ((b - 48) as u64);
-        if 4294967295 < value {
-            return Field::Other;
+        let digit = (b - 48) as u64;
+        if (most - digit) / 10 < value {
+            return Value::None;
         }
+        value = value * 10 + digit;
         i += 1;
     }
-    Field::Number(value as u32)
+    Value::Wide(value)
 }
 
-// The number of a field.
-pub fn number(field: &[u8]) -> Field
-    ensures { λ r. ⌜ valueOf r ≡ numberOf (now (field .entry)) ⌝ }
+// The number of a field, at most a limit.
+pub fn number_within(field: &[u8], most: u64) -> Value
+    requires { ⌜ 9 ≤ most ⌝ }
+    ensures { λ r. ⌜ wideOf r ≡ numberOf most (now (field .entry)) ⌝ }
 {
     if field.len() == 0 {
-        return Field::Other;
+        return Value::None;
     }
     if field[0] != 48 {
-        return digits(field);
+        return digits(field, most);
     }
     if field.len() == 1 {
-        return Field::Number(0);
+        return Value::Wide(0);
     }
-    Field::Other
+    Value::None
+}
+
+// The number of a field, of one word.
+pub fn number(field: &[u8]) -> Field
+    ensures { λ r. ⌜ valueOf r ≡ numberOf oneWord (now (field .entry)) ⌝ }
+{
+    let value = number_within(field, 4294967295);
+    let Value::Wide(v) = value else {
+        return Field::Other;
+    };
+    Field::Number(v as u32)
 }
 
 // The numbers of a line from a tab, or the end, on.

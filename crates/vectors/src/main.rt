@@ -97,7 +97,7 @@ fn answer_all(
     text: &mut [u8; 131072],
     table: &mut [u32; 98320],
     store: &mut [u32; 1048584],
-    bindings: &mut [u32; 40],
+    bindings: &mut [u32; 80],
 ) {
     let mut turns = u64::MAX;
     while turns > 0 && next_case(text, table, store, bindings) {
@@ -109,6 +109,6 @@ fn main() {
     let mut text = [0u8; 131072];
     let mut table = [0u32; 98320];
     let mut store = [0u32; 1048584];
-    let mut bindings = [0u32; 40];
+    let mut bindings = [0u32; 80];
     answer_all(&mut text, &mut table, &mut store, &mut bindings);
 }

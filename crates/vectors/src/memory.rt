@@ -18,6 +18,7 @@
 ghost use Prim.Native.Nat.{_+_, _*_, _≤_};
 ghost use lib.ListN.{length};
 use crate::numbers::number;
+use checks::kinds::SCOPE;
 use words::put_row;
 
 // The twelve numbers that a case begins with, and the place after them.
@@ -40,13 +41,21 @@ pub fn heads(text: &[u8]) -> Given {
     Given { words, next: at }
 }
 
+// An entry whose first operand is given; a scope has its operand after both words of its mask, of which the second is given too.
+fn entry_of(head: u32, argument: u32, operand: u32, second: u32) -> [u32; 8] {
+    if head / 16 == SCOPE {
+        return [head, argument, second, operand, 0, 0, 0, 0];
+    }
+    [head, argument, operand, second, 0, 0, 0, 0]
+}
+
 // The n entries of which each but the last has these words and the next entry as its first operand.
 fn fill_entries(table: &mut [u32], n: u32, head: u32, argument: u32, second: u32)
     requires { ⌜ 8 * n ≤ length (now table) ⌝ }
 {
     let mut e: u32 = 1;
     while e < n {
-        put_row(table, e - 1, [head, argument, e, second, 0, 0, 0, 0]);
+        put_row(table, e - 1, entry_of(head, argument, e, second));
         e += 1;
     }
 }

@@ -279,7 +279,7 @@ fn answer_lent(
 
 // Answers a job: a line `# LENGTH`, then the answer's text.
 fn answer_text(text: &[u8]) -> bool {
-    let mut out = [0u8; 81920];
+    let mut out = [0u8; 82944];
     let n = answer_job(text, &mut out);
     io::write_all(STDOUT_FILENO, b"# ");
     io::print_decimal(STDOUT_FILENO, n as u64);

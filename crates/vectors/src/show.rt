@@ -71,7 +71,7 @@ pub fn show_checked(r: Checked) {
 pub fn show_free(r: FreeVariables) {
     show_number(r.answer as u64);
     show_number(r.place as u64);
-    show_number(r.mask as u64);
+    show_number(r.mask);
 }
 
 // Prints what a collection returns, and the memory that it leaves, the work list last.

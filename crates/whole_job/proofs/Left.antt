@@ -10,6 +10,7 @@ use native.Mathlib.Omega.{arith}
 use lib.Dec.{eqb}
 use lib.ListN.{length, getD, List·getD-eq-default}
 use borrow.Author.Tests.{le-leb, lt-leb, ne-eqb}
+use Rattle.checks.specs.Kinds.{variables}
 use Rattle.words.specs.Words.{wordAt, rows, clearedFrom}
 use Rattle.words.proofs.Tests.{below-or-from}
 use Rattle.words.proofs.Rows.{length-clearedFrom, take-clearedFrom, getD-clearedFrom-from}
@@ -138,11 +139,11 @@ unfolding bindingWord
 word-below none m h = omega arith
 word-below (some j) m h = h j refl
 
-words-below : (b : Bindings ℕ) (m : ℕ) → ((v j : ℕ) → b v ≡ some j → j < m) → (v : ℕ) → getD (bindingWords 32 b) v 0 ≤ m
+words-below : (b : Bindings ℕ) (m : ℕ) → ((v j : ℕ) → b v ≡ some j → j < m) → (v : ℕ) → getD (bindingWords variables b) v 0 ≤ m
 words-below b m h v =
-    ⊎-elim (λ l. omega (arith, word-of 32 b v l, word-below (b v) m (h v)))
-    (λ l. omega (arith, List·getD-eq-default (bindingWords 32 b) 0 {n = v} (omega (arith, length-words 32 b))))
-    (below-or-from v 32)
+    ⊎-elim (λ l. omega (arith, word-of variables b v l, word-below (b v) m (h v)))
+    (λ l. omega (arith, List·getD-eq-default (bindingWords variables b) 0 {n = v} (omega (arith, length-words variables b))))
+    (below-or-from v variables)
 
 module _ (i : Input) (a : Accepted i) where
   bound-returned : (r : Ran) → Leaves (i .store) (i .mark) r → (v : ℕ) → getD (returned i r .bindings) v 0 ≤ returned i r .mark
@@ -151,9 +152,9 @@ module _ (i : Input) (a : Accepted i) where
   bound-returned (lost w u) l v = a .bound v
   bound-returned (cut c w u) l v = a .bound v
 
-  variables-returned : (r : Ran) → length (returned i r .bindings) ≡ 32
+  variables-returned : (r : Ran) → length (returned i r .bindings) ≡ variables
   unfolding returnedBy
-  variables-returned (ended k b s u) = length-words 32 b
+  variables-returned (ended k b s u) = length-words variables b
   variables-returned (lost w u) = a .bindings
   variables-returned (cut c w u) = a .bindings
 

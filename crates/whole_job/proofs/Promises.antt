@@ -9,6 +9,7 @@ use lib.Dec.{eqb}
 use lib.ListN.{length, take, drop}
 use lib.Seq.{take-at, length-take-le}
 use borrow.Author.Tests.{lt-ltb, lt-leb, eqb-false}
+use Rattle.checks.specs.Kinds.{variables}
 use Rattle.words.specs.Tests.{if_then_else_}
 use Rattle.words.specs.Words.{rows}
 use Rattle.checks.specs.declared.Checked.{Checked}
@@ -18,7 +19,7 @@ use Rattle.meaning.specs.Store.{Input}
 use Rattle.meaning.specs.Answer.{Returned}
 use Rattle.calls.specs.Run.{runWithBy}
 use Rattle.job.specs.declared.Heading.{Heading}
-use Rattle.job.specs.Lines.{Line}
+use Rattle.job.specs.Lines.{Line, words}
 use Rattle.job.specs.Job.{Reading, headed, with, Meant, bad, good, meant}
 use Rattle.job.specs.Written.{written, Follow, end, next}
 use Rattle.text.specs.Written.{putText}
@@ -56,20 +57,20 @@ module _ (s : List ℕ) (g : Reading) (e : meant s ≡ good g) where
   unfolding answerTo meantText runText
   answer-good = rw e
 
-  short-good : length (answerTo s) ≤ 81726
+  short-good : length (answerTo s) ≤ 80958 + 24 * variables
   short-good =
       let z : Sized g = sized s g e in
       rw answer-good (answerFits _ _ _ _ _ _ _ (mark-most (handed g) 1024 (z .nodes) (omega (arith, z .room, nodes-handed))))
 
 -- A bad line's answer is one line.
-short-bad : (s : List ℕ) (n : ℕ) → meant s ≡ bad n → length (answerTo s) ≤ 81726
+short-bad : (s : List ℕ) (n : ℕ) → meant s ≡ bad n → length (answerTo s) ≤ 80958 + 24 * variables
 unfolding answerTo meantText badText
 short-bad s n e = rw e (answerFits 9 n 0 0 0 [] [] (omega arith))
 
 pub shortEnough : promises.ShortEnough
 shortEnough s = go (meant s) refl
   where
-    go : (m : Meant) → meant s ≡ m → length (answerTo s) ≤ 81726
+    go : (m : Meant) → meant s ≡ m → length (answerTo s) ≤ 80958 + 24 * variables
     go (bad n) e = short-bad s n e
     go (good g) e = short-good s g e
 
@@ -83,7 +84,7 @@ tooLong s l = rw (lt-ltb 60000 (length s) l)
 refused-sizes : (t s b : List ℕ) (mark start subject : ℕ) → rows s < mark → refused t s b mark start subject ≡ checked 2 0
 unfolding refusedWithBy wordsRefusedBy sizesFitBy
 refused-sizes t s b mark start subject l =
-    rw (lt-leb mark (rows s) l) (go (tableLengthFits (length t)) (storeLengthFits (length s)) (eqb (length b) 32) _ _)
+    rw (lt-leb mark (rows s) l) (go (tableLengthFits (length t)) (storeLengthFits (length s)) (eqb (length b) variables) _ _)
   where
     go : (x y z : Bool) (c d : Checked) → orElse (if (x && (y && (z && false))) && true then c else checked 2 0) d ≡ checked 2 0
     go true true true c d = refl
@@ -130,14 +131,14 @@ begun-with h k vs =
 begun-follow : {g h : Reading} {xs : List Line} → Follow g xs h → 1 ≤ g .heading .section → 1 ≤ h .heading .section
 unfolding with
 begun-follow end l = l
-begun-follow (next {g} {x} f w a r) l = begun-follow r (begun-with (g .heading) (x .name) (x .numbers))
+begun-follow (next {g} {x} f w a r) l = begun-follow r (begun-with (g .heading) (x .name) (words (x .name) (x .numbers)))
 
 pub runsOn : promises.RunsOn
 runsOn s g h xs e q f y =
     let o : Returned = runOfJob g in
     let t : Back h (o .store) (o .bindings) (o .mark) = readsBack s g h e q y in
     let ns : List Line = nodeLines (o .store) (o .mark) in
-    let bs : List Line = bindingLines (o .bindings) 32 in
+    let bs : List Line = bindingLines (o .bindings) variables in
     record {
       rest = written (ns ++ bs);
       text =

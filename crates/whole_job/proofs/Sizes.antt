@@ -7,11 +7,12 @@ use native.Mathlib.Omega.{arith}
 use lib.Dec.{eqb}
 use lib.ListN.{length, getD, length-set, length-replicate}
 use borrow.Author.Tests.{leb-true, eqb-true}
+use Rattle.checks.specs.Kinds.{variables}
 use Rattle.words.specs.Tests.{if_then_else_}
 use Rattle.words.proofs.Tests.{and-true}
 use Rattle.words.proofs.Rows.{length-putRow}
 use Rattle.job.specs.declared.Heading.{Heading}
-use Rattle.job.specs.Lines.{Line, jobFits, fits, entryRow, nodeRow}
+use Rattle.job.specs.Lines.{Line, jobFits, fits, entryRow, nodeRow, words, upper}
 use Rattle.job.specs.Job.{Reading, unread, zeros, admitted, headed, tableWith, storeWith, bindingsWith, with, taken, good, meant}
 use Rattle.job.specs.Written.{Follow, end, next}
 use Rattle.job.proofs.Readings.{entry-room, node-room, rows-kept}
@@ -24,7 +25,7 @@ pub record Sized (g : Reading) : Type 0 where
   pub room : g .heading .room ≤ 1024
   pub table : length (g .table) ≡ 4096
   pub store : length (g .store) ≡ 8192
-  pub bindings : length (g .bindings) ≡ 32
+  pub bindings : length (g .bindings) ≡ variables
 
 sized-unread : Sized unread
 unfolding zeros
@@ -34,7 +35,7 @@ sized-unread = record {
   room = omega arith;
   table = length-replicate {A = ℕ} 4096 0;
   store = length-replicate {A = ℕ} 8192 0;
-  bindings = length-replicate {A = ℕ} 32 0;
+  bindings = length-replicate {A = ℕ} variables 0;
 }
 
 -- The room is that of line 1.
@@ -64,36 +65,44 @@ pick-length : (x : Bool) (a b : List ℕ) (n : ℕ) → (x ≡ true → length a
 pick-length true a b n p q = p refl
 pick-length false a b n p q = q
 
-table-kept : (w : List ℕ) (e k n : ℕ) (vs : List ℕ) → (k ≡ 1 → e < 512) → length w ≡ 4096 → length (tableWith w e k n vs) ≡ 4096
-unfolding tableWith entryRow
-table-kept w e k n vs f l =
-    pick-length (eqb k 1) _ w 4096 (λ q. length-putRow w e _ (omega (arith, f (eqb-true k 1 q))) refl ∙ l) l
+length-entryRow : (n : ℕ) (vs : List ℕ) (h : ℕ) → length (entryRow n vs h) ≡ 8
+unfolding entryRow
+length-entryRow n vs h = pick-length (eqb (getD vs 0 0) 16) _ _ 8 (λ q. refl) refl
+
+table-kept : (w : List ℕ) (e k n : ℕ) (vs : List ℕ) (h : ℕ) → (k ≡ 1 → e < 512) → length w ≡ 4096 → length (tableWith w e k n vs h) ≡ 4096
+unfolding tableWith
+table-kept w e k n vs h f l =
+    pick-length (eqb k 1) _ w 4096 (λ q. length-putRow w e _ (omega (arith, f (eqb-true k 1 q))) (length-entryRow n vs h) ∙ l) l
 
 store-kept : (w : List ℕ) (m k n : ℕ) (vs : List ℕ) → (k ≡ 2 → m < 1024) → length w ≡ 8192 → length (storeWith w m k n vs) ≡ 8192
 unfolding storeWith nodeRow
 store-kept w m k n vs f l =
     pick-length (eqb k 2) _ w 8192 (λ q. length-putRow w m _ (omega (arith, f (eqb-true k 2 q))) refl ∙ l) l
 
-bindings-kept : (w : List ℕ) (k : ℕ) (vs : List ℕ) → length w ≡ 32 → length (bindingsWith w k vs) ≡ 32
+bindings-kept : (w : List ℕ) (k : ℕ) (vs : List ℕ) → length w ≡ variables → length (bindingsWith w k vs) ≡ variables
 unfolding bindingsWith
-bindings-kept w k vs l = pick-length (eqb k 3) _ w 32 (λ q. length-set w (getD vs 0 0) (getD vs 1 0 + 1) ∙ l) l
+bindings-kept w k vs l = pick-length (eqb k 3) _ w variables (λ q. length-set w (getD vs 0 0) (getD vs 1 0 + 1) ∙ l) l
+
+-- The words of line 1 are its numbers.
+words-of-job : (k : ℕ) (vs : List ℕ) → k ≡ 0 → words k vs ≡ vs
+words-of-job k vs e = rw e
 
 sized-with : (g : Reading) (x : Line) → fits (x .name) (length (x .numbers)) (x .numbers) ≡ true
     → admitted (g .heading) (x .name) (getD (x .numbers) 0 0) ≡ true → Sized g → Sized (taken g x)
 unfolding with
 sized-with g x f a s =
-    let r = rows-kept (g .heading) (x .name) (getD (x .numbers) 0 0) a (x .numbers) (s .entries) (s .nodes) in
+    let r = rows-kept (g .heading) (x .name) (getD (x .numbers) 0 0) a (words (x .name) (x .numbers)) (s .entries) (s .nodes) in
     record {
       entries = r .0;
       nodes = r .1;
-      room = room-kept (g .heading) (x .name) (x .numbers) (job-fit (x .name) (length (x .numbers)) (x .numbers) f) (s .room);
+      room = room-kept (g .heading) (x .name) (words (x .name) (x .numbers)) (λ e. rw (words-of-job (x .name) (x .numbers) e) (job-fit (x .name) (length (x .numbers)) (x .numbers) f e)) (s .room);
       table =
-          table-kept (g .table) (g .heading .entries) (x .name) (length (x .numbers)) (x .numbers)
+          table-kept (g .table) (g .heading .entries) (x .name) (length (x .numbers)) (words (x .name) (x .numbers)) (upper (x .name) (x .numbers))
           (entry-room (g .heading) (x .name) (getD (x .numbers) 0 0) a) (s .table);
       store =
-          store-kept (g .store) (g .heading .nodes) (x .name) (length (x .numbers)) (x .numbers)
+          store-kept (g .store) (g .heading .nodes) (x .name) (length (x .numbers)) (words (x .name) (x .numbers))
           (node-room (g .heading) (x .name) (getD (x .numbers) 0 0) a) (s .store);
-      bindings = bindings-kept (g .bindings) (x .name) (x .numbers) (s .bindings);
+      bindings = bindings-kept (g .bindings) (x .name) (words (x .name) (x .numbers)) (s .bindings);
     }
 
 sized-follow : {g h : Reading} {xs : List Line} → Follow g xs h → Sized g → Sized h

@@ -4,8 +4,9 @@ use mathlib.Core.Path.{_≡_}
 use mathlib.Core.Logic.{_≢_}
 use mathlib.Core.Bool.{true}
 use mathlib.Core.List.{List, [], _∷_, _++_}
-use Prim.Native.Nat.{ℕ, _*_, _≤_, _<_}
+use Prim.Native.Nat.{ℕ, _+_, _*_, _≤_, _<_}
 use lib.ListN.{length, take}
+use Rattle.checks.specs.Kinds.{variables}
 use Rattle.meaning.specs.Answer.{Returned}
 use Rattle.calls.specs.Run.{runOf}
 use Rattle.job.specs.Lines.{Line}
@@ -23,9 +24,9 @@ OneAnswer = (s b b′ b″ : List ℕ) (r r′ : ℕ) → JobAnswered s b b′ r
 abbrev pub AllOfIt : Type 0
 AllOfIt = (s b b′ : List ℕ) (r : ℕ) → JobAnswered s b b′ r → take r b′ ≡ answerTo s
 
--- An answer is at most 81,726 bytes, so that a buffer of 81,920 is never too short.
+-- An answer is at most 82,494 bytes, so that a buffer of 82,944 is never too short.
 abbrev pub ShortEnough : Type 0
-ShortEnough = (s : List ℕ) → length (answerTo s) ≤ 81726
+ShortEnough = (s : List ℕ) → length (answerTo s) ≤ 80958 + 24 * variables
 
 -- More than 60,000 bytes: answer 9 with place 0, before all else.
 abbrev pub TooLong : Type 0

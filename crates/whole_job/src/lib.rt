@@ -1,4 +1,5 @@
 // A job's text in, its answer's text out: the text is read, run, and what comes back is written.
+use checks::kinds::VARIABLES;
 use job::Heading;
 use job::Parsed;
 use job::answer::answer;
@@ -7,6 +8,7 @@ use running::run;
 ghost use mathlib.Core.Path.{_≡_};
 ghost use Prim.Native.Nat.{_≤_};
 ghost use lib.ListN.{length};
+ghost use Rattle.checks.specs.Kinds.{variables};
 ghost use Rattle.text.specs.Written.{Put};
 ghost use Rattle.whole_job.specs.Whole.{inputOf, runText, answerTo, JobAnswered};
 
@@ -18,7 +20,7 @@ fn answer_run(
     h: Heading,
     out: &mut [u8],
 ) -> usize
-    requires { ⌜ (length (now out) ≡ 81920) × (length (now store) ≤ 8192) × (length (now bindings) ≡ 32) × (h .nodes ≤ 1024) ⌝ }
+    requires { ⌜ (length (now out) ≡ 82944) × (length (now store) ≤ 8192) × (length (now bindings) ≡ variables) × (h .nodes ≤ 1024) ⌝ }
     ensures { λ r. ⌜ Put (now (out .entry)) 0 (runText (inputOf h (now (table .entry)) (now (store .entry)) (now (bindings .entry)))) (now (out .exit)) r ⌝ }
 {
     let r = run(table, store, bindings, h.nodes, h.start, h.subject, h.units);
@@ -42,7 +44,7 @@ fn answer_in(
     bindings: &mut [u32],
     out: &mut [u8],
 ) -> usize
-    requires { ⌜ (length (now table) ≡ 4096) × (length (now store) ≡ 8192) × (length (now bindings) ≡ 32) × (length (now out) ≡ 81920) ⌝ }
+    requires { ⌜ (length (now table) ≡ 4096) × (length (now store) ≡ 8192) × (length (now bindings) ≡ variables) × (length (now out) ≡ 82944) ⌝ }
     ensures { λ r. ⌜ Put (now (out .entry)) 0 (answerTo (now (text .entry))) (now (out .exit)) r ⌝ }
 {
     let o = read(text, table, store, bindings);
@@ -57,11 +59,11 @@ fn answer_in(
 }
 
 // The answer to a text, of any length and of any bytes. A buffer of this length is never too short: `ShortEnough`.
-pub fn answer_job(text: &[u8], out: &mut [u8; 81920]) -> usize
+pub fn answer_job(text: &[u8], out: &mut [u8; 82944]) -> usize
     ensures { λ r. ⌜ JobAnswered (now (text .entry)) (now (out .entry)) (now (out .exit)) r ⌝ }
 {
     let mut table = [0u32; 4096];
     let mut store = [0u32; 8192];
-    let mut bindings = [0u32; 32];
+    let mut bindings = [0u32; VARIABLES];
     answer_in(text, &mut table, &mut store, &mut bindings, out)
 }

@@ -79,7 +79,7 @@ pub type Left = ([u32; 5], Vec<u32>, Vec<u32>);
 /// Runs a task once on fresh copies of its words.
 pub fn outcome(run: Run, task: &Task) -> Left {
     let mut store = task.store.clone();
-    let mut bindings = vec![0; 32];
+    let mut bindings = vec![0; 64];
     let numbers = run(
         &task.table,
         &mut store,

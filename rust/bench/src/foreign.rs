@@ -84,7 +84,7 @@ extern "C" {
         table: *const u32,
         table_words: usize,
         entry: u32,
-        numbers: *mut u32,
+        numbers: *mut u64,
     );
     fn marshtrundle_check_table(table: *const u32, table_words: usize, numbers: *mut u32);
     fn marshtrundle_check_store(
@@ -264,7 +264,7 @@ pub fn collect(
 }
 
 /// The question of free variables: answer, place and mask.
-pub fn free_variables(table: &[u32], entry: u32) -> [u32; 3] {
+pub fn free_variables(table: &[u32], entry: u32) -> [u64; 3] {
     let mut numbers = [0; 3];
     // The slice is borrowed for the call; `numbers` is a local of three words.
     unsafe {

@@ -436,7 +436,7 @@ fn expected(task: &Task, keeps: bool) -> (String, String) {
     let numbers = (ENGINES[0].run)(
         &task.table,
         &mut store,
-        &mut [0; 32],
+        &mut [0; 64],
         task.mark,
         ONCE,
         task.subject,

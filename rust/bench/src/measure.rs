@@ -70,7 +70,7 @@ pub struct All {
 /// The time of one run, with its words copied before the clock starts.
 fn time(run: Run, task: &Task, store: &mut [u32]) -> f64 {
     store.copy_from_slice(&task.store);
-    let mut bindings = [0; 32];
+    let mut bindings = [0; 64];
     let begin = processor_time();
     let numbers = run(
         &task.table,
@@ -139,7 +139,7 @@ fn costs(rounds: usize) -> Vec<Cost> {
     let subject = terms.balanced(5, 65_536);
     let mark = terms.mark() as u32;
     let mut store = terms.store(crate::tasks::ROOM);
-    let mut bindings = [0; 32];
+    let mut bindings = [0; 64];
     let mut all = vec![
         cost("table check, 4,096 entries", rounds, |engine| {
             assert_eq!((ENGINES[engine].check_table)(table), [0, 0]);

@@ -26,7 +26,7 @@ const ENTRIES: usize = 4_096;
 /// The most nodes of a store.
 const NODES: usize = 131_072;
 /// The number of variables.
-const VARIABLES: usize = 32;
+const VARIABLES: usize = 64;
 /// The deepest nesting.
 const NESTING: u32 = 4_096;
 
@@ -94,7 +94,7 @@ const ARGUMENTS: [(u32, u32); 20] = [
     (0, 0),
     (0, u32::MAX),
     (0, 0),
-    (0, 31),
+    (0, 63),
     (0, 65_535),
 ];
 
@@ -105,8 +105,8 @@ const FAILED: u64 = 0xffff_ffff;
 const NO_UNITS: u64 = 0xffff_fffe;
 const NO_ROOM: u64 = 0xffff_fffd;
 const NO_NESTING: u64 = 0xffff_fffc;
-/// The first of 32, one for each variable that BUILD may find unbound.
-const UNBOUND: u64 = NO_NESTING - 32;
+/// The first of 64, one for each variable that BUILD may find unbound.
+const UNBOUND: u64 = NO_NESTING - 64;
 
 #[inline(always)]
 fn done(term: u32, left: u32) -> u64 {
@@ -171,7 +171,8 @@ struct Entry {
     argument: u32,
     /// The operands as links: visits × 65,536 + entry. For patterns the visits
     /// are 1. For LEFT and CHOICE the third is the pattern at which the first
-    /// operand gives up, or 0 where it tests its head by a CONG.
+    /// operand gives up, or 0 where it tests its head by a CONG. For SCOPE the
+    /// sixth is the upper word of the mask.
     links: [u32; 6],
 }
 
@@ -230,12 +231,29 @@ fn guard(words: &[u32], strategy: u32) -> Option<(u32, u32, u32)> {
                 let head = head(pattern[1], pattern[0] % 16);
                 return Some((visits + 1, head, here[2]));
             }
-            SEQ | SCOPE | TEST | WHERE | REC | CALL => at = here[2],
+            SCOPE => at = here[3],
+            SEQ | TEST | WHERE | REC | CALL => at = here[2],
             _ => return None,
         }
         visits += 1;
     }
     None
+}
+
+/// The word at which the operands of a kind begin: a scope's mask has two words.
+#[inline(always)]
+fn operands_from(kind: u8) -> usize {
+    if kind == SCOPE {
+        3
+    } else {
+        2
+    }
+}
+
+/// A scope's mask.
+#[inline(always)]
+fn mask_in(e: &Entry) -> u64 {
+    u64::from(e.links[5]) << 32 | u64::from(e.argument)
 }
 
 /// The entries of a table that has passed its check.
@@ -250,10 +268,16 @@ fn decode(words: &[u32], skipping: bool) -> Box<Table> {
         new.kind = (here[0] / 16) as u8;
         new.count = (here[0] % 16) as u8;
         new.argument = here[1];
-        for (to, &operand) in new.links.iter_mut().zip(&here[2..2 + new.count as usize]) {
+        let from = operands_from(new.kind);
+        for (to, &operand) in new
+            .links
+            .iter_mut()
+            .zip(&here[from..from + new.count as usize])
+        {
             *to = link(words, operand);
         }
         match new.kind {
+            SCOPE => new.links[5] = here[2],
             CONG | PCON => new.argument = head(here[1], here[0] % 16),
             MATCH if kind_in(words, here[2]) == PCON => {
                 let pattern = row(words, here[2]);
@@ -281,7 +305,7 @@ struct Machine<'a> {
     /// The mark in nodes.
     mark: u32,
     /// Bit v where variable v is bound.
-    mask: u32,
+    mask: u64,
     /// The node of each bound variable; the others mean nothing.
     bound: [u32; VARIABLES],
     /// The pattern at which the last match that failed gave up.
@@ -433,12 +457,12 @@ fn apply(table: &Table, m: &mut Machine, link: u32, state: u64, deep: u32) -> u6
             }
             BUILD => return build(table, m, e.links[0], left_of(state), deep),
             SCOPE => {
-                let hidden = m.mask & e.argument;
-                if hidden != 0 {
+                let mask = mask_in(e);
+                if m.mask & mask != 0 {
                     return hiding(table, m, e, state, deep);
                 }
                 let got = apply(table, m, e.links[0], state, deep);
-                m.mask &= !e.argument;
+                m.mask &= !mask;
                 return got;
             }
             ONE => {
@@ -567,9 +591,10 @@ fn walk(table: &Table, m: &mut Machine, e: &Entry, state: u64, deep: u32) -> u64
 /// too.
 #[inline(never)]
 fn hiding(table: &Table, m: &mut Machine, e: &Entry, state: u64, deep: u32) -> u64 {
-    let hidden = m.mask & e.argument;
+    let mask = mask_in(e);
+    let hidden = m.mask & mask;
     let outer = m.bound;
-    m.mask &= !e.argument;
+    m.mask &= !mask;
     let got = apply(table, m, e.links[0], state, deep);
     let mut rest = hidden;
     while rest != 0 {
@@ -577,7 +602,7 @@ fn hiding(table: &Table, m: &mut Machine, e: &Entry, state: u64, deep: u32) -> u
         m.bound[variable] = outer[variable];
         rest &= rest - 1;
     }
-    m.mask = m.mask & !e.argument | hidden;
+    m.mask = m.mask & !mask | hidden;
     got
 }
 
@@ -586,7 +611,7 @@ fn hiding(table: &Table, m: &mut Machine, e: &Entry, state: u64, deep: u32) -> u
 #[inline(always)]
 fn meet(m: &mut Machine, variable: u32, term: u32, result: u32, left: u32, deep: u32) -> u64 {
     let place = variable as usize % VARIABLES;
-    let bit = 1u32 << (variable % 32);
+    let bit = 1u64 << (variable % 64);
     if m.mask & bit == 0 {
         m.bound[place] = term;
         m.mask |= bit;
@@ -720,8 +745,8 @@ fn built(table: &Table, m: &mut Machine, pattern: u32, left: u32, deep: u32) -> 
 /// The node of a variable, after its visit.
 #[inline(always)]
 fn held(m: &Machine, variable: u32, left: u32) -> u64 {
-    if m.mask >> (variable % 32) & 1 == 0 {
-        return (UNBOUND + u64::from(variable % 32)) << 32 | u64::from(left);
+    if m.mask >> (variable % 64) & 1 == 0 {
+        return (UNBOUND + u64::from(variable % 64)) << 32 | u64::from(left);
     }
     done(m.bound[variable as usize % VARIABLES], left)
 }
@@ -766,7 +791,8 @@ fn entry_fault(words: &[u32], number: usize) -> u32 {
     let kind = kind as u8;
     let patterns = matches!(kind, MATCH | BUILD | PCON);
     let mut sorted = true;
-    for &operand in &here[2..2 + count as usize] {
+    let from = operands_from(kind);
+    for &operand in &here[from..from + count as usize] {
         if operand as usize >= entries || kind != CALL && operand as usize <= number {
             return 15;
         }
@@ -782,7 +808,7 @@ fn entry_fault(words: &[u32], number: usize) -> u32 {
     if !sorted {
         return 16;
     }
-    if here[2 + count as usize..].iter().any(|&word| word != 0) {
+    if here[from + count as usize..].iter().any(|&word| word != 0) {
         return 17;
     }
     0

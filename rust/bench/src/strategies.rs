@@ -11,7 +11,7 @@ const WIDTH: usize = 8;
 #[derive(Clone, Debug)]
 pub enum Tree {
     /// Kind, argument and operands.
-    Entry(u32, u32, Vec<Tree>),
+    Entry(u32, u64, Vec<Tree>),
     /// REC with its name and its body.
     Rec(&'static str, Box<Tree>),
     /// CALL of the REC with this name.
@@ -63,7 +63,7 @@ pub fn call(name: &'static str) -> Tree {
 
 /// PATH to a child, counted from 1.
 pub fn path(position: u32, of: Tree) -> Tree {
-    Entry(kind::PATH, position, vec![of])
+    Entry(kind::PATH, position.into(), vec![of])
 }
 
 /// ALL of a strategy.
@@ -83,12 +83,12 @@ pub fn matching(pattern: Tree) -> Tree {
 
 /// A variable.
 pub fn var(number: u32) -> Tree {
-    Entry(kind::PVAR, number, vec![])
+    Entry(kind::PVAR, number.into(), vec![])
 }
 
 /// A constructor with patterns.
 pub fn con(constructor: u32, of: Vec<Tree>) -> Tree {
-    Entry(kind::PCON, constructor, of)
+    Entry(kind::PCON, constructor.into(), of)
 }
 
 /// A rewrite rule: SCOPE of its variables, MATCH, BUILD.
@@ -99,7 +99,7 @@ pub fn rule(from: Tree, to: Tree) -> Tree {
     Entry(kind::SCOPE, mask, vec![seq(vec![matching(from), build])])
 }
 
-fn variables(pattern: &Tree, mask: &mut u32) {
+fn variables(pattern: &Tree, mask: &mut u64) {
     if let Entry(of_kind, argument, operands) = pattern {
         if *of_kind == kind::PVAR {
             *mask |= 1 << argument;
@@ -146,9 +146,14 @@ fn place(
     match tree {
         Entry(kind, argument, operands) => {
             words[first] = 16 * kind + operands.len() as u32;
-            words[first + 1] = *argument;
+            words[first + 1] = *argument as u32;
+            let mut from = first + 2;
+            if *kind == kind::SCOPE {
+                words[from] = (argument >> 32) as u32;
+                from += 1;
+            }
             for (position, operand) in operands.iter().enumerate() {
-                words[first + 2 + position] = place(operand, words, names, calls);
+                words[from + position] = place(operand, words, names, calls);
             }
         }
         Rec(name, body) => {

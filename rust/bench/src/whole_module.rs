@@ -113,7 +113,7 @@ fn together(table: &[u32], module: &Module, store: &mut [u32], results: &mut [u3
     let numbers = run_many(
         table,
         store,
-        &[0; 32],
+        &[0; 64],
         module.mark,
         0,
         subjects,
@@ -131,7 +131,7 @@ fn one_by_one(table: &[u32], module: &Module, store: &mut [u32], results: &mut [
     let mut mark = module.mark;
     let begin = processor_time();
     for (&subject, five) in module.functions.iter().zip(results.chunks_mut(5)) {
-        let numbers = run(table, store, &mut [0; 32], mark, 0, subject, UNITS);
+        let numbers = run(table, store, &mut [0; 64], mark, 0, subject, UNITS);
         mark = numbers[3];
         five.copy_from_slice(&numbers);
     }

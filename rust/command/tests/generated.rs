@@ -23,8 +23,16 @@ fn the_command_answers_as_the_second_implementation() {
             std::fs::write(file, &text).expect("a file");
             let wanted = String::from_utf8(twin::job(&text)).expect("text");
             let run = said(&["run"], file);
-            // What breaks only the limits of the job program is a job here.
-            if wanted.starts_with("answer\t9\t") && run.status != 9 {
+            // What breaks only the limits of the job program is good here: a job, or a text whose first bad line comes later.
+            let line = |answer: &str| {
+                answer
+                    .split('\t')
+                    .nth(2)
+                    .and_then(|line| line.parse::<u32>().ok())
+            };
+            if wanted.starts_with("answer\t9\t")
+                && (run.status != 9 || line(&run.output) > line(&wanted))
+            {
                 texts += 1;
                 continue;
             }

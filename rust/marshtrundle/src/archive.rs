@@ -81,7 +81,7 @@ extern "C" {
         table: *const u32,
         table_words: usize,
         entry: u32,
-        numbers: *mut u32,
+        numbers: *mut u64,
     );
     fn marshtrundle_check_table(table: *const u32, words: usize, numbers: *mut u32);
     fn marshtrundle_check_store(store: *const u32, words: usize, mark: u32, numbers: *mut u32);
@@ -257,7 +257,7 @@ pub fn collect(
 }
 
 /// The question of free variables: answer, place and mask.
-pub fn free_variables(table: &[u32], entry: u32) -> [u32; 3] {
+pub fn free_variables(table: &[u32], entry: u32) -> [u64; 3] {
     let mut numbers = [0; 3];
     // SAFETY: as in `run`. The table is only read, and `numbers` has the three words that are written.
     unsafe {

@@ -2,33 +2,36 @@
 use crate::store::Node;
 use std::fmt;
 
-/// A variable: one of 32. They are got from [`VARS`], or by number from [`Var::new`].
+/// A variable: one of 64. They are got from [`VARS`], or by number from [`Var::new`].
 #[derive(Clone, Copy, Debug, PartialEq, Eq, Hash, PartialOrd, Ord)]
 pub struct Var(u8);
 
 impl Var {
-    /// Variable `number`, if it is below 32.
+    /// Variable `number`, if it is below 64.
     pub fn new(number: u32) -> Option<Var> {
         VARS.get(usize::try_from(number).ok()?).copied()
     }
 
-    /// The variable's number, 0 to 31.
+    /// The variable's number, 0 to 63.
     pub fn number(self) -> u32 {
         u32::from(self.0)
     }
 }
 
-/// All 32 variables. Name the ones that you use by taking the array apart:
+/// How many variables there are.
+pub const VARIABLES: usize = 64;
+
+/// All 64 variables. Name the ones that you use by taking the array apart:
 ///
 /// ```
 /// use marshtrundle::VARS;
 /// let [x, y, ..] = VARS;
 /// assert_eq!((x.number(), y.number()), (0, 1));
 /// ```
-pub const VARS: [Var; 32] = {
-    let mut vars = [Var(0); 32];
+pub const VARS: [Var; VARIABLES] = {
+    let mut vars = [Var(0); VARIABLES];
     let mut v = 0;
-    while v < 32 {
+    while v < VARIABLES {
         vars[v] = Var(v as u8);
         v += 1;
     }
@@ -37,16 +40,16 @@ pub const VARS: [Var; 32] = {
 
 /// A set of variables: bit v of its mask is set where variable v is in it.
 #[derive(Clone, Copy, Default, PartialEq, Eq, Hash)]
-pub struct VarSet(u32);
+pub struct VarSet(u64);
 
 impl VarSet {
     /// The set with this mask. Every mask is a set.
-    pub fn from_mask(mask: u32) -> VarSet {
+    pub fn from_mask(mask: u64) -> VarSet {
         VarSet(mask)
     }
 
     /// The set's mask.
-    pub fn mask(self) -> u32 {
+    pub fn mask(self) -> u64 {
         self.0
     }
 
@@ -83,29 +86,37 @@ impl fmt::Debug for VarSet {
     }
 }
 
-/// What each of the 32 variables is bound to: nothing, or a node of the store.
-#[derive(Clone, Debug, Default, PartialEq, Eq)]
+/// What each of the 64 variables is bound to: nothing, or a node of the store.
+#[derive(Clone, Debug, PartialEq, Eq)]
 pub struct Bindings {
-    words: [u32; 32],
+    words: [u32; VARIABLES],
+}
+
+impl Default for Bindings {
+    fn default() -> Bindings {
+        Bindings::new()
+    }
 }
 
 impl Bindings {
     /// Bindings in which nothing is bound.
     pub fn new() -> Bindings {
-        Bindings::default()
+        Bindings {
+            words: [0; VARIABLES],
+        }
     }
 
     /// The bindings with these words: 0 is unbound, and any other word is a node number plus one.
-    pub fn from_words(words: [u32; 32]) -> Bindings {
+    pub fn from_words(words: [u32; VARIABLES]) -> Bindings {
         Bindings { words }
     }
 
-    /// The 32 words.
-    pub fn words(&self) -> &[u32; 32] {
+    /// The 64 words.
+    pub fn words(&self) -> &[u32; VARIABLES] {
         &self.words
     }
 
-    pub(crate) fn words_mut(&mut self) -> &mut [u32; 32] {
+    pub(crate) fn words_mut(&mut self) -> &mut [u32; VARIABLES] {
         &mut self.words
     }
 

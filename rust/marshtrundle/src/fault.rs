@@ -1,5 +1,5 @@
 //! What is wrong with a bad entry: which word, and what was expected there.
-use crate::kind::{BUILD, CALL, MATCH, PCON, REC};
+use crate::kind::{operands_from, BUILD, CALL, MATCH, PCON, REC};
 use std::fmt;
 
 /// What is wrong with an entry. Of several faults the first in this order is given, and each is looked for in the whole entry
@@ -112,7 +112,7 @@ const KINDS: [Line; 20] = [
     ("BUILD", 1, 1, 0, 0),
     ("SCOPE", 1, 1, 0, u32::MAX),
     ("WHERE", 1, 1, 0, 0),
-    ("PVAR", 0, 0, 0, 31),
+    ("PVAR", 0, 0, 0, 63),
     ("PCON", 0, 6, 0, 65_535),
 ];
 
@@ -152,7 +152,8 @@ pub(crate) fn explain(words: &[u32], entry: u32, fault: Fault) -> Option<EntryFa
         None if fault == Fault::Kind => return at(0, "16 × a kind of 0 to 19".to_string()),
         None => return None,
     };
-    let operands = 2..2 + count.min(6) as usize;
+    let from = operands_from(kind);
+    let operands = from..(from + count as usize).min(8);
     match fault {
         Fault::Kind if (least..=most).contains(&count) => None,
         Fault::Kind => at(

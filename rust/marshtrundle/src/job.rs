@@ -15,7 +15,8 @@
 //! assert_eq!(fault.to_string(), "line 2: '12 0' is no number: fields are parted by one tab, and there is a space");
 //! ```
 use crate::answer::Outcome;
-use crate::bindings::{Bindings, Var};
+use crate::bindings::{Bindings, Var, VARIABLES};
+use crate::kind;
 use crate::store::{Node, Store};
 use crate::table::{Entry, Table};
 use crate::NODES;
@@ -107,7 +108,7 @@ impl Job {
             end.mark,
             end.units,
         ];
-        let mut text = line_of("answer", numbers);
+        let mut text = line_of("answer", numbers.map(u64::from));
         if !end.answer.is_refusal() {
             self.write_store(&mut text);
         }
@@ -118,10 +119,13 @@ impl Job {
         let rows = self.store.words().chunks_exact(8);
         for row in rows.take(self.store.mark() as usize) {
             let children = &row[2..2 + (row[1] as usize).min(6)];
-            text.push_str(&line_of("n", [row[0]].iter().chain(children).copied()));
+            text.push_str(&line_of(
+                "n",
+                [row[0]].iter().chain(children).map(|&word| word.into()),
+            ));
         }
         for (var, node) in self.bindings.iter() {
-            text.push_str(&line_of("b", [var.number(), node.number()]));
+            text.push_str(&line_of("b", [var.number(), node.number()].map(u64::from)));
         }
     }
 }
@@ -135,11 +139,11 @@ impl fmt::Display for Job {
             self.subject.number(),
             self.store.capacity() as u32,
         ];
-        let mut text = line_of("job", head);
+        let mut text = line_of("job", head.map(u64::from));
         for row in self.table.words().chunks_exact(8) {
-            let operands = &row[2..2 + (row[0] as usize % 16).min(6)];
-            let numbers = [row[0] / 16, row[1]];
-            text.push_str(&line_of("e", numbers.iter().chain(operands).copied()));
+            let numbers = [u64::from(row[0] / 16), kind::argument(row)];
+            let operands = kind::operands(row).iter().map(|&operand| operand.into());
+            text.push_str(&line_of("e", numbers.into_iter().chain(operands)));
         }
         self.write_store(&mut text);
         f.write_str(&text)
@@ -147,7 +151,7 @@ impl fmt::Display for Job {
 }
 
 /// A line: a name, then numbers, parted by tabs.
-fn line_of(name: &str, numbers: impl IntoIterator<Item = u32>) -> String {
+fn line_of(name: &str, numbers: impl IntoIterator<Item = u64>) -> String {
     let mut line = name.to_owned();
     for number in numbers {
         line.push('\t');
@@ -188,9 +192,11 @@ impl Reader {
                     "it begins with '{name}', and the first line with 'job'"
                 ));
             }
-            let room = NODES as u32;
-            let head = numbers(&fields, 4, &[u32::MAX, u32::MAX, u32::MAX, room])?;
-            self.head.copy_from_slice(&head);
+            let any = u64::from(u32::MAX);
+            let head = numbers(&fields, 4, &[any, any, any, NODES as u64])?;
+            for (word, number) in self.head.iter_mut().zip(head) {
+                *word = number as u32;
+            }
             return Ok(());
         }
         let group = GROUPS.iter().position(|&group| group == name);
@@ -200,31 +206,45 @@ impl Reader {
             return Err(format!("'{name}' stands after '{}'", GROUPS[self.group]));
         }
         self.group = group;
-        let any = u32::MAX;
+        let any = u64::from(u32::MAX);
         match group {
             0 => {
-                let numbers = numbers(&fields, 2, &[255, any, any, any, any, any, any, any])?;
+                let scope = fields.first() == Some(&"16");
+                let most = if scope { u64::MAX } else { any };
+                let numbers = numbers(&fields, 2, &[255, most, any, any, any, any, any, any])?;
+                let kind = numbers[0] as u32;
                 let mut row = [0; 8];
-                row[0] = 16 * numbers[0] + (numbers.len() as u32 - 2);
-                row[1..numbers.len()].copy_from_slice(&numbers[1..]);
+                row[0] = 16 * kind + (numbers.len() as u32 - 2);
+                row[1] = numbers[1] as u32;
+                if scope {
+                    row[2] = (numbers[1] >> 32) as u32;
+                }
+                // A scope with six operands is no good one; the sixth has no word.
+                let words = row[kind::operands_from(kind)..].iter_mut();
+                for (word, &operand) in words.zip(&numbers[2..]) {
+                    *word = operand as u32;
+                }
                 self.table.extend(row);
             }
             1 => {
                 let numbers = numbers(&fields, 1, &[any; 7])?;
                 let mut row = [0; 8];
-                row[0] = numbers[0];
+                row[0] = numbers[0] as u32;
                 row[1] = numbers.len() as u32 - 1;
-                row[2..1 + numbers.len()].copy_from_slice(&numbers[1..]);
+                for (word, &child) in row[2..].iter_mut().zip(&numbers[1..]) {
+                    *word = child as u32;
+                }
                 self.nodes.extend(row);
             }
             _ => {
-                let numbers = numbers(&fields, 2, &[31, NODES as u32 - 1])?;
-                if numbers[0] < self.next_variable {
-                    return Err(format!("variable {} does not rise", numbers[0]));
+                let numbers = numbers(&fields, 2, &[VARIABLES as u64 - 1, NODES as u64 - 1])?;
+                let (variable, node) = (numbers[0] as u32, numbers[1] as u32);
+                if variable < self.next_variable {
+                    return Err(format!("variable {variable} does not rise"));
                 }
-                self.next_variable = numbers[0] + 1;
-                if let Some(var) = Var::new(numbers[0]) {
-                    self.bindings.bind(var, Node::from_number(numbers[1]));
+                self.next_variable = variable + 1;
+                if let Some(var) = Var::new(variable) {
+                    self.bindings.bind(var, Node::from_number(node));
                 }
             }
         }
@@ -248,11 +268,11 @@ impl Reader {
 }
 
 /// The numbers of a line: at least so many, and each at most what its place allows.
-fn numbers(fields: &[&str], least: usize, most: &[u32]) -> Result<Vec<u32>, String> {
+fn numbers(fields: &[&str], least: usize, most: &[u64]) -> Result<Vec<u64>, String> {
     let numbers = fields
         .iter()
         .map(|field| number(field))
-        .collect::<Result<Vec<u32>, String>>()?;
+        .collect::<Result<Vec<u64>, String>>()?;
     if numbers.len() < least || numbers.len() > most.len() {
         let wanted = if least == most.len() {
             least.to_string()
@@ -274,7 +294,7 @@ fn numbers(fields: &[&str], least: usize, most: &[u32]) -> Result<Vec<u32>, Stri
     }
 }
 
-fn number(field: &str) -> Result<u32, String> {
+fn number(field: &str) -> Result<u64, String> {
     if field.is_empty() {
         return Err("a field is empty: fields are parted by one tab".to_owned());
     }
@@ -290,5 +310,5 @@ fn number(field: &str) -> Result<u32, String> {
         return Err(format!("'{field}' has a leading zero"));
     }
     let number = field.parse();
-    number.map_err(|_| format!("{field} is above {}", u32::MAX))
+    number.map_err(|_| format!("{field} is above {}", u64::MAX))
 }

@@ -28,6 +28,30 @@ pub const NAMES: [&str; 20] = [
     "ONE", "SOME", "MATCH", "BUILD", "SCOPE", "WHERE", "PVAR", "PCON",
 ];
 
+/// The word at which the operands of an entry of this kind begin. Word 1 is the argument; a scope's takes words 1 and 2.
+pub fn operands_from(kind: u32) -> usize {
+    if kind == SCOPE {
+        3
+    } else {
+        2
+    }
+}
+
+/// The operands of an entry's row, as far as the row has words for them.
+pub(crate) fn operands(row: &[u32]) -> &[u32] {
+    let from = operands_from(row[0] / 16);
+    &row[from..(from + row[0] as usize % 16).min(8)]
+}
+
+/// The argument of an entry's row: of a scope all 64 bits of its mask.
+pub(crate) fn argument(row: &[u32]) -> u64 {
+    if operands_from(row[0] / 16) == 3 {
+        u64::from(row[2]) << 32 | u64::from(row[1])
+    } else {
+        u64::from(row[1])
+    }
+}
+
 /// A kind's name, or `?` where there is no such kind.
 pub fn name(kind: u32) -> &'static str {
     NAMES.get(kind as usize).copied().unwrap_or("?")

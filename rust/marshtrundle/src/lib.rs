@@ -104,7 +104,7 @@
 //! - [`Table`] is laid out from one strategy, and [`TableBuilder`] makes one of several with names.
 //! - [`Store`] holds terms, eight words to a node. [`Store::node`] makes a node, [`Store::room`] makes room for a run,
 //!   [`Store::term`] reads a term back, [`Store::collect`] gives room back between runs.
-//! - [`Bindings`] says what each of the 32 variables is bound to.
+//! - [`Bindings`] says what each of the 64 variables is bound to.
 //! - [`run`] runs, [`Table::missed`] says in which rule a failed run stopped matching, [`free_variables`] answers which variables
 //!   a strategy leaves free.
 //! - [`run_many`] runs one strategy on many subjects in one call, and gives an iterator of their outcomes.
@@ -155,7 +155,7 @@ mod table;
 mod traversals;
 
 pub use answer::{Answer, BuildError, Outcome};
-pub use bindings::{Bindings, Var, VarSet, VARS};
+pub use bindings::{Bindings, Var, VarSet, VARIABLES, VARS};
 pub use fault::{EntryFault, Fault};
 pub use many::{run_many, run_many_signed, Outcomes};
 pub use miss::Miss;
@@ -176,7 +176,7 @@ mod readme {}
 /// ```
 /// use marshtrundle::words;
 /// assert_eq!(words::check_table(&[]), [2, 0]);
-/// assert_eq!(words::run(&[0; 8], &mut [0; 8], &mut [0; 32], 1, 0, 0, 1), [0, 0, 0, 1, 1]);
+/// assert_eq!(words::run(&[0; 8], &mut [0; 8], &mut [0; 64], 1, 0, 0, 1), [0, 0, 0, 1, 1]);
 /// ```
 pub mod words {
     pub use crate::archive::{
@@ -275,7 +275,7 @@ fn ended(numbers: [u32; 5], mark: &mut u32) -> Outcome {
 /// [`Answer::BadEntry`] or [`Answer::BadStart`].
 pub fn free_variables(table: &Table, entry: Entry) -> Result<VarSet, Answer> {
     let [answer, place, mask] = archive::free_variables(table.words(), entry.number());
-    Answer::checked([answer, place])?;
+    Answer::checked([answer as u32, place as u32])?;
     Ok(VarSet::from_mask(mask))
 }
 

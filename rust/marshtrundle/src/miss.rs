@@ -1,6 +1,6 @@
 //! Where the last match of a failed run gave up: from an entry's number back to the rule's own pattern.
 use crate::answer::Answer;
-use crate::kind::MATCH;
+use crate::kind::{self, MATCH};
 use crate::table::{Entry, Table};
 
 /// The pattern at which the last match of a failed run gave up, and where it stands.
@@ -74,8 +74,7 @@ impl Table {
     fn operands(&self, entry: Entry) -> Vec<Entry> {
         let at = 8 * entry.number() as usize;
         let row = self.words().get(at..at + 8).unwrap_or(&[0; 8]);
-        let count = (row[0] % 16).min(6) as usize;
-        row[2..2 + count]
+        kind::operands(row)
             .iter()
             .map(|&o| Entry::from_number(o))
             .collect()

@@ -1,4 +1,5 @@
 //! Names for constructors, variables and entries, and the file that gives them.
+use crate::bindings::VARIABLES;
 use crate::store::{Node, Store};
 use crate::table::Table;
 use std::borrow::Cow;
@@ -88,7 +89,7 @@ impl Names {
     fn add(&mut self, what: &str, number: u32, name: &str) -> Result<(), String> {
         let (group, most) = match what {
             "constructor" => (&mut self.constructors, 65_535),
-            "variable" => (&mut self.variables, 31),
+            "variable" => (&mut self.variables, VARIABLES as u32 - 1),
             "entry" => (&mut self.entries, 4_095),
             _ => {
                 return Err(format!(

@@ -202,7 +202,7 @@ impl<'n> Show<'n> {
         let mut text = String::new();
         for (entry, row) in (0_u32..).zip(table.words().chunks_exact(8)) {
             let kind = kind::name(row[0] / 16);
-            let operands: Vec<String> = operands(row).iter().map(u32::to_string).collect();
+            let operands: Vec<String> = kind::operands(row).iter().map(u32::to_string).collect();
             let _ = writeln!(
                 text,
                 "{entry}\t{kind}\t{}\t{}",
@@ -257,7 +257,7 @@ impl<'n> Show<'n> {
                     Piece::Text(format!("<{operand}>"))
                 }
             };
-            let list = operands(row);
+            let list = kind::operands(row);
             let one = |open: &mut Vec<_>, before: String, after: &str| {
                 open.push(Piece::Text(after.to_owned()));
                 open.extend(list.first().map(lower));
@@ -288,7 +288,11 @@ impl<'n> Show<'n> {
                 kind::SOME => one(&mut open, "some(".to_owned(), ")"),
                 kind::MATCH => one(&mut open, "?".to_owned(), ""),
                 kind::BUILD => one(&mut open, "!".to_owned(), ""),
-                kind::SCOPE => one(&mut open, format!("{{{}: ", self.variables(row[1])), "}"),
+                kind::SCOPE => one(
+                    &mut open,
+                    format!("{{{}: ", self.variables(kind::argument(row))),
+                    "}",
+                ),
                 kind::WHERE => one(&mut open, "where(".to_owned(), ")"),
                 kind::PVAR => text.push_str(&self.names.variable(row[1])),
                 kind::CONG | kind::PCON => {
@@ -309,7 +313,7 @@ impl<'n> Show<'n> {
         text
     }
 
-    fn variables(&self, mask: u32) -> String {
+    fn variables(&self, mask: u64) -> String {
         let vars = VarSet::from_mask(mask);
         let names = vars.iter().map(|var| self.names.variable(var.number()));
         names.collect::<Vec<_>>().join(", ")
@@ -356,7 +360,7 @@ impl<'n> Show<'n> {
                     kind::name(kind),
                     self.names.constructor(row[1])
                 ),
-                kind::SCOPE => write!(label, "SCOPE {}", self.variables(row[1])),
+                kind::SCOPE => write!(label, "SCOPE {}", self.variables(kind::argument(row))),
                 kind::PVAR => write!(label, "PVAR {}", self.names.variable(row[1])),
                 _ => write!(label, "{}", kind::name(kind)),
             };
@@ -366,7 +370,7 @@ impl<'n> Show<'n> {
             } else {
                 "solid"
             };
-            for (position, &operand) in (1..).zip(operands(row)) {
+            for (position, &operand) in (1..).zip(kind::operands(row)) {
                 graph.arrow(entry, operand, position, style);
             }
         }
@@ -448,11 +452,6 @@ impl fmt::Display for Place<'_> {
     }
 }
 
-/// The operands of an entry's row.
-fn operands(row: &[u32]) -> &[u32] {
-    &row[2..2 + (row[0] as usize % 16).min(6)]
-}
-
 /// Pushes things in brackets with commas between.
 fn push_list<T: Copy>(open: &mut Vec<Piece<T>>, things: &[T], level: usize) {
     if things.is_empty() {
@@ -481,7 +480,7 @@ impl Uses {
         for row in table.words().chunks_exact(8) {
             uses.kinds.push(row[0] / 16);
             if row[0] / 16 != kind::CALL {
-                for &operand in operands(row) {
+                for &operand in kind::operands(row) {
                     if let Some(count) = uses.of.get_mut(operand as usize) {
                         *count += 1;
                     }

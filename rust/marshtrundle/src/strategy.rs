@@ -30,7 +30,7 @@ pub(crate) enum Tie {
 /// One operator with its operands.
 pub(crate) struct Tree {
     pub(crate) kind: u32,
-    pub(crate) argument: u32,
+    pub(crate) argument: u64,
     pub(crate) operands: Vec<Arc<Tree>>,
     pub(crate) tie: Option<Tie>,
     pub(crate) mistake: Option<BuildError>,
@@ -60,7 +60,7 @@ pub struct Pattern {
 }
 
 impl Strategy {
-    fn new(kind: u32, argument: u32, operands: Vec<Arc<Tree>>) -> Strategy {
+    fn new(kind: u32, argument: u64, operands: Vec<Arc<Tree>>) -> Strategy {
         Strategy(Arc::new(Tree {
             kind,
             argument,
@@ -171,7 +171,7 @@ pub fn path(position: u32, s: Strategy) -> Strategy {
     let mistake = (!(1..=6).contains(&position)).then_some(BuildError::NoSuchPosition(position));
     Strategy(Arc::new(Tree {
         kind: kind::PATH,
-        argument: position,
+        argument: position.into(),
         operands: vec![s.0],
         tie: None,
         mistake,
@@ -227,7 +227,7 @@ pub fn where_(s: Strategy) -> Strategy {
 /// PVAR: the pattern that is a variable.
 pub fn var(var: Var) -> Pattern {
     Pattern {
-        tree: Strategy::new(kind::PVAR, var.number(), vec![]).0,
+        tree: Strategy::new(kind::PVAR, var.number().into(), vec![]).0,
         vars: [var].into_iter().collect(),
     }
 }
@@ -250,7 +250,7 @@ fn many(kind: u32, constructor: u16, operands: Vec<Arc<Tree>>) -> Arc<Tree> {
     let mistake = (operands.len() > 6).then_some(BuildError::TooManyOperands(operands.len()));
     Arc::new(Tree {
         kind,
-        argument: u32::from(constructor),
+        argument: u64::from(constructor),
         operands,
         tie: None,
         mistake,

@@ -2,6 +2,7 @@
 use crate::answer::{Answer, BuildError};
 use crate::archive;
 use crate::fault::{self, EntryFault};
+use crate::kind;
 use crate::signature::Signature;
 use crate::strategy::{Strategy, Tie, Tree, CALL, CONG, PCON, REC};
 use crate::ENTRIES;
@@ -153,7 +154,7 @@ impl TableBuilder {
 #[derive(Clone, PartialEq, Eq, Hash)]
 struct Shape {
     kind: u32,
-    argument: u32,
+    argument: u64,
     operands: Vec<usize>,
     tie: Option<Knot>,
 }
@@ -296,10 +297,15 @@ fn layout(
                 (None, Knot::Token(_)) => return Err(BuildError::CallOutsideRec),
             });
         }
-        words.push(16 * shape.kind + operands.len() as u32);
-        words.push(shape.argument);
-        words.extend(&operands);
-        words.resize(words.len() + 6 - operands.len(), 0);
+        let mut row = [0; 8];
+        let from = kind::operands_from(shape.kind);
+        row[0] = 16 * shape.kind + operands.len() as u32;
+        row[1] = shape.argument as u32;
+        if from == 3 {
+            row[2] = (shape.argument >> 32) as u32;
+        }
+        row[from..from + operands.len()].copy_from_slice(&operands);
+        words.extend(row);
     }
     Ok(Table { words, names })
 }

@@ -11,7 +11,7 @@ fn operands_stand_after_their_entry_and_equal_ones_are_shared() {
     let swap = rule(con(5, [var(x), var(y)]), con(5, [var(y), var(x)]));
     let table = Table::of(&swap).unwrap();
     assert_eq!(table.entries(), 8);
-    assert_eq!(table.words()[..8], [257, 3, 1, 0, 0, 0, 0, 0]);
+    assert_eq!(table.words()[..8], [257, 3, 0, 1, 0, 0, 0, 0]);
     let twice = Table::of(&seq(swap.clone(), swap.clone())).unwrap();
     assert_eq!(twice.entries(), 9);
     assert_eq!(twice.check(), Ok(()));
@@ -125,7 +125,7 @@ fn mistakes_are_values() {
     let seven = || (0..7).map(|_| id());
     assert_eq!(table(all(cong(1, seven()))), BuildError::TooManyOperands(7));
     let wide = con(1, VARS.into_iter().map(var));
-    assert_eq!(table(match_(wide)), BuildError::TooManyOperands(32));
+    assert_eq!(table(match_(wide)), BuildError::TooManyOperands(64));
     assert_eq!(
         table(call("nobody")),
         BuildError::UnknownName("nobody".into())
@@ -199,7 +199,10 @@ fn some_strategy(r: &mut u64, deep: u32, calls: &[Strategy]) -> Strategy {
         13 => some(s(calls)),
         14 => match_(some_pattern(r, 3)),
         15 => build(some_pattern(r, 3)),
-        16 => scope(VarSet::from_mask(mask).iter(), s(calls)),
+        16 => scope(
+            VarSet::from_mask(u64::from(mask) << (mask % 33)).iter(),
+            s(calls),
+        ),
         _ => where_(s(calls)),
     }
 }
@@ -286,8 +289,11 @@ fn terms_are_compared_as_terms() {
 
 #[test]
 fn variables_and_sets() {
-    assert_eq!(Var::new(31), Some(VARS[31]));
-    assert_eq!(Var::new(32), None);
+    assert_eq!(Var::new(63), Some(VARS[63]));
+    assert_eq!(Var::new(64), None);
+    let both: VarSet = [VARS[32], VARS[63]].into_iter().collect();
+    assert_eq!(both.mask(), 1 << 32 | 1 << 63);
+    assert!(!both.contains(VARS[0]) && !both.contains(VARS[31]));
     let set: VarSet = [VARS[0], VARS[31]].into_iter().collect();
     assert_eq!(set.mask(), 0x8000_0001);
     assert_eq!(set.iter().collect::<Vec<_>>(), [VARS[0], VARS[31]]);

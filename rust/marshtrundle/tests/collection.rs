@@ -96,7 +96,7 @@ fn lent() -> Lent {
     let mut store = vec![1, 0, 0, 0, 0, 0, 0, 0, 2, 0, 0, 0, 0, 0, 0, 0];
     store.extend([4, 1, 0, 0, 0, 0, 0, 0, 5, 2, 1, 0, 0, 0, 0, 0]);
     store.extend([77; 8]);
-    let mut bindings = vec![0; 32];
+    let mut bindings = vec![0; 64];
     bindings[31] = 1;
     Lent {
         store,
@@ -181,7 +181,7 @@ fn refusals_in_their_order() {
     Lent {
         mark: 0,
         subject: 0,
-        bindings: vec![0; 32],
+        bindings: vec![0; 64],
         ..lent()
     }
     .gives(5, 0);

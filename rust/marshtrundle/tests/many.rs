@@ -211,7 +211,7 @@ fn a_refused_call_runs_nothing() -> Result<(), Box<dyn std::error::Error>> {
 
 #[test]
 fn over_words() {
-    let (table, bindings) = ([0; 8], [0; 32]);
+    let (table, bindings) = ([0; 8], [0; 64]);
     let mut store = [0, 0, 0, 0, 0, 0, 0, 0, 9, 9, 9, 9, 9, 9, 9, 9];
     let mut results = [4; 11];
     for words in [0, 1, 4, 5, 9, 11] {

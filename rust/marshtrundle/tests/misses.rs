@@ -123,7 +123,7 @@ fn the_place_is_the_archives_own() {
         let five = words::run(
             table.words(),
             &mut words,
-            &mut [0; 32],
+            &mut [0; 64],
             mark,
             0,
             pair.number(),

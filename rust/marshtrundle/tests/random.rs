@@ -50,10 +50,14 @@ fn table(r: &mut Random, entries: u32, damage: bool) -> Vec<u32> {
             9 => 1 + r.below(6),
             10 | 19 => r.below(4),
             16 => r.next() as u32,
-            18 => r.below(32),
+            18 => [r.below(4), 30 + r.below(4), r.below(64)][r.below(3) as usize],
             _ => 0,
         };
-        for word in &mut row[2..2 + count as usize] {
+        let from = if kind == 16 { 3 } else { 2 };
+        if kind == 16 {
+            row[2] = r.next() as u32;
+        }
+        for word in &mut row[from..from + count as usize] {
             *word = match kind {
                 8 => rec,
                 14 | 15 => later(r, first_pattern, entries),
@@ -120,7 +124,7 @@ fn tried(table: &[u32], given: &[u32], bound: &[u32], numbers: [u32; 4]) -> usiz
             .chunks(8)
             .any(|entry| entry[0] == 16 * 18 && entry[1] == v)
     };
-    assert!(answer != 12 || place < 32 && named(place));
+    assert!(answer != 12 || place < 64 && named(place));
     if answer != 0 {
         assert_eq!((new_subject, new_mark), (subject, mark));
         assert_eq!(bindings, bound);
@@ -176,10 +180,10 @@ fn words_in_good_form_and_damaged_ones() {
             let table = table(&mut r, entries, case % 5 == 0);
             let (nodes, room) = (1 + r.below(12), r.below(30));
             let store = store(&mut r, nodes, room, case % 7 == 0);
-            let mut bindings = vec![0; 32];
+            let mut bindings = vec![0; 64];
             for _ in 0..r.below(6) {
                 let limit = if case % 11 == 0 { nodes + 2 } else { nodes + 1 };
-                bindings[r.below(32) as usize] = r.below(u64::from(limit));
+                bindings[r.below(64) as usize] = r.below(u64::from(limit));
             }
             let units = [r.below(30), r.below(3_000), 40_000][r.below(3) as usize];
             let start = r.below(u64::from(entries / 2));

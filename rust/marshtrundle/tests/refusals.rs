@@ -24,7 +24,7 @@ fn input() -> Input {
     Input {
         table: ID.to_vec(),
         store,
-        bindings: vec![0; 32],
+        bindings: vec![0; 64],
         mark: 1,
         start: 0,
         subject: 0,
@@ -76,7 +76,7 @@ fn two_lengths_and_the_mark() {
         }
         .gives(2, 0);
     }
-    for length in [0, 1, 31, 33, 64] {
+    for length in [0, 1, 32, 63, 65, 128] {
         let bindings = vec![0; length];
         Input {
             bindings,
@@ -106,7 +106,7 @@ fn two_of_everything_empty() {
     );
     // A store without nodes is well formed, but it has no subject.
     assert_eq!(
-        words::run(&ID, &mut [], &mut [0; 32], 0, 0, 0, 9),
+        words::run(&ID, &mut [], &mut [0; 64], 0, 0, 0, 9),
         [5, 0, 0, 0, 0]
     );
 }
@@ -150,7 +150,10 @@ fn thirteen_to_seventeen_every_way_in_which_an_entry_is_bad() {
         ([9 * 16 + 1, 0, 2, 0, 0, 0, 0, 0], Argument, 1), // PATH 0
         ([9 * 16 + 1, 7, 2, 0, 0, 0, 0, 0], Argument, 1), // PATH 7
         ([10 * 16, 65_536, 0, 0, 0, 0, 0, 0], Argument, 1), // CONG of no constructor
-        ([18 * 16, 32, 0, 0, 0, 0, 0, 0], Argument, 1), // PVAR of no variable
+        ([18 * 16, 64, 0, 0, 0, 0, 0, 0], Argument, 1), // PVAR of no variable
+        ([16 * 16 + 1, 3, 2, 0, 0, 0, 0, 0], Operand, 3), // SCOPE with its operand in word 2
+        ([16 * 16 + 1, 3, 9, 6, 0, 0, 0, 0], Sort, 3), // SCOPE of a pattern
+        ([16 * 16 + 1, 3, 9, 2, 0, 0, 0, 1], Word, 7), // SCOPE with an unused word
         ([19 * 16, 65_536, 0, 0, 0, 0, 0, 0], Argument, 1), // PCON of no constructor
         ([2 * 16 + 1, 0, 1, 0, 0, 0, 0, 0], Operand, 2), // an operand that is the entry itself
         ([2 * 16 + 1, 0, 0, 0, 0, 0, 0, 0], Operand, 2), // an operand below it
@@ -175,7 +178,7 @@ fn thirteen_to_seventeen_every_way_in_which_an_entry_is_bad() {
         assert_eq!(words::check_table(&table), [answer, 1], "{entry:?}");
         assert_eq!(
             words::free_variables(&table, 0),
-            [answer, 1, 0],
+            [answer.into(), 1, 0],
             "{entry:?}"
         );
         let whole = Table::from_words(table.clone());
@@ -185,10 +188,10 @@ fn thirteen_to_seventeen_every_way_in_which_an_entry_is_bad() {
         Input { table, ..input() }.gives(answer, 1);
     }
     let good: &[[u32; 8]] = &[
-        [8 * 16 + 1, 0, 4, 0, 0, 0, 0, 0],         // CALL of the REC
-        [16 * 16 + 1, u32::MAX, 2, 0, 0, 0, 0, 0], // SCOPE of all variables
-        [10 * 16 + 6, 65_535, 2, 2, 3, 3, 4, 5],   // CONG of six
-        [19 * 16 + 2, 65_535, 6, 7, 0, 0, 0, 0],   // PCON of patterns
+        [8 * 16 + 1, 0, 4, 0, 0, 0, 0, 0],                // CALL of the REC
+        [16 * 16 + 1, u32::MAX, u32::MAX, 2, 0, 0, 0, 0], // SCOPE of all variables
+        [10 * 16 + 6, 65_535, 2, 2, 3, 3, 4, 5],          // CONG of six
+        [19 * 16 + 2, 65_535, 6, 7, 0, 0, 0, 0],          // PCON of patterns
     ];
     for &entry in good {
         assert_eq!(words::check_table(&with_entry(entry)), [0, 0], "{entry:?}");
@@ -238,7 +241,7 @@ fn five_start_subject_and_bindings() {
     }
     for word in [2, 3, u32::MAX] {
         for variable in [0, 31] {
-            let mut bindings = vec![0; 32];
+            let mut bindings = vec![0; 64];
             bindings[variable] = word;
             Input {
                 bindings,
@@ -247,7 +250,7 @@ fn five_start_subject_and_bindings() {
             .gives(5, 0);
         }
     }
-    let bindings = vec![1; 32];
+    let bindings = vec![1; 64];
     Input {
         bindings,
         ..input()
@@ -260,7 +263,7 @@ fn the_order_is_2_then_13_to_17_then_4_and_5() {
     let worst = || Input {
         table: [u32::MAX; 8].to_vec(),
         store: vec![u32::MAX; 8],
-        bindings: vec![u32::MAX; 32],
+        bindings: vec![u32::MAX; 64],
         mark: 1,
         start: 9,
         subject: 9,

@@ -116,7 +116,7 @@ fn bad_text_is_named_by_line() {
             "line 2: '01' has a leading zero",
         ),
         ("job\t1\t0\t0\t1\nn\t-1\n", "line 2: '-1' is no number"),
-        ("job\t1\t0\t0\t1\nb\t32\t0\n", "line 2: 32 is above 31"),
+        ("job\t1\t0\t0\t1\nb\t64\t0\n", "line 2: 64 is above 63"),
         (
             "job\t1\t0\t0\t1\nb\t0\t131072\n",
             "line 2: 131072 is above 131071",
@@ -413,7 +413,7 @@ fn names_say_what_is_wrong() {
             "constructor 65536 A",
             "line 1: constructor 65536 is above 65535",
         ),
-        ("variable 32 x", "line 1: variable 32 is above 31"),
+        ("variable 64 x", "line 1: variable 64 is above 63"),
         ("entry 4096 x", "line 1: entry 4096 is above 4095"),
         (
             "variable 1 (x)",

@@ -112,11 +112,11 @@ fn refusals_and_their_order() -> Result<(), Box<dyn std::error::Error>> {
     );
     assert_eq!(end.answer, Answer::DisobeyingNode(0));
     assert_eq!(
-        words::run_signed(&[0; 8], &mut [0; 8], &mut [0; 32], 1, 0, 0, 1, &[0]),
+        words::run_signed(&[0; 8], &mut [0; 8], &mut [0; 64], 1, 0, 0, 1, &[0]),
         [0, 0, 0, 1, 1]
     );
     assert_eq!(
-        words::run_signed(&[0; 8], &mut [0; 8], &mut [0; 32], 1, 0, 0, 1, &[]),
+        words::run_signed(&[0; 8], &mut [0; 8], &mut [0; 64], 1, 0, 0, 1, &[]),
         [11, 0, 0, 1, 0]
     );
     Ok(())

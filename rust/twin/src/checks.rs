@@ -15,8 +15,8 @@ pub const TABLE_WORDS: usize = 32_768;
 /// The most words of a store. 01: "over 1,048,576 words".
 pub const STORE_WORDS: usize = 1_048_576;
 
-/// The number of variables. 01: "The bindings are 32 words".
-pub const VARIABLES: usize = 32;
+/// The number of variables. 02, wish 9: "The bindings become 64 words".
+pub const VARIABLES: usize = 64;
 
 /// The most children of a node. 01: "the child count n (0 to 6)".
 pub const CHILDREN: u32 = 6;
@@ -132,6 +132,46 @@ pub fn kind_of(table: &[u32], entry: u32) -> u32 {
     table[WIDTH * entry as usize] / 16
 }
 
+/// The word of an entry in which the operands of its kind begin.
+///
+/// 01: "word 1 the argument, words 2 to 7 the operands." 02, wish 9: "the scope's
+/// mask takes words 1 (low) and 2 of its entry, and its operand moves to word 3."
+pub fn first_operand(kind: u32) -> usize {
+    if kind == kind::SCOPE {
+        3
+    } else {
+        2
+    }
+}
+
+/// The mask of a scope's entry, from its eight words.
+pub fn mask_of(row: &[u32]) -> u64 {
+    u64::from(row[1]) | u64::from(row[2]) << 32
+}
+
+/// The operands of a good entry, from its eight words.
+pub fn operands_of(row: &[u32]) -> &[u32] {
+    let first = first_operand(row[0] / 16);
+    &row[first..first + (row[0] % 16) as usize]
+}
+
+/// The eight words of an entry from its parts, with at most six operands.
+///
+/// Six operands of a scope would not fit; the last is left out. Such an entry has
+/// the wrong count, so none of its other words is looked at.
+pub fn row_of(kind: u32, argument: u64, operands: &[u32]) -> [u32; WIDTH] {
+    let mut row = [0; WIDTH];
+    row[0] = 16 * kind + operands.len() as u32;
+    row[1] = argument as u32;
+    if kind == kind::SCOPE {
+        row[2] = (argument >> 32) as u32;
+    }
+    for (word, &operand) in row[first_operand(kind)..].iter_mut().zip(operands) {
+        *word = operand;
+    }
+    row
+}
+
 /// The least and the most operands of each kind, by 01's table.
 const OPERANDS: [(u32, u32); 20] = [
     (0, 0), // ID
@@ -156,9 +196,11 @@ const OPERANDS: [(u32, u32); 20] = [
     (0, 6), // PCON
 ];
 
-/// The least and the greatest argument of a kind.
+/// The least and the greatest argument of a kind, as far as word 1 goes.
 ///
-/// 01's table, and "the argument is zero where none is named."
+/// 01's table, and "the argument is zero where none is named." A scope's mask is
+/// any 64 bits, so neither of its words is out of range. 02, wish 9: "variables
+/// 64 and up are out of range."
 fn argument_limits(kind: u32) -> (u32, u32) {
     match kind {
         kind::PATH => (1, CHILDREN),
@@ -219,7 +261,7 @@ fn fault(table: &[u32], entry: u32) -> Option<u32> {
     if row[1] < low || row[1] > high {
         return Some(BAD_ARGUMENT);
     }
-    let (operands, unused) = row[2..].split_at(count as usize);
+    let (operands, unused) = row[first_operand(kind)..].split_at(count as usize);
     if operands
         .iter()
         .any(|&operand| bad_operand(entries, entry, kind, operand))

@@ -6,7 +6,8 @@
 //! bindings and the mark back, and that happens in one function, `attempt`.
 
 use crate::checks::{
-    kind, kind_of, DONE, FAILED, NO_NESTING, NO_ROOM, NO_UNITS, UNBOUND, VARIABLES, WIDTH,
+    first_operand, kind, kind_of, mask_of, DONE, FAILED, NO_NESTING, NO_ROOM, NO_UNITS, UNBOUND,
+    VARIABLES, WIDTH,
 };
 use crate::refusals::{refusal, Input};
 
@@ -229,10 +230,10 @@ impl<'a, W: Watcher> Machine<'a, W> {
         // 01: "a visit asked for by another is one deeper."
         let deeper = nesting + 1;
         let row = self.entry(entry);
-        let argument = row[1];
-        let first = row[2];
-        let second = row[3];
         let kind = row[0] / 16;
+        let argument = row[1];
+        let first = row[first_operand(kind)];
+        let second = row[3];
         match kind {
             // 01: "ID gives the state back. FAIL fails."
             kind::ID => Ok(term),
@@ -298,14 +299,15 @@ impl<'a, W: Watcher> Machine<'a, W> {
             // bindings stay."
             kind::SCOPE => {
                 let outer = self.bindings;
+                let mask = mask_of(row);
                 for (variable, word) in self.bindings.iter_mut().enumerate() {
-                    if argument >> variable & 1 == 1 {
+                    if mask >> variable & 1 == 1 {
                         *word = 0;
                     }
                 }
                 let new = self.apply(first, term, deeper)?;
                 for (variable, word) in self.bindings.iter_mut().enumerate() {
-                    if argument >> variable & 1 == 1 {
+                    if mask >> variable & 1 == 1 {
                         *word = outer[variable];
                     }
                 }

@@ -1,20 +1,21 @@
 //! The question of free variables.
 
-use crate::checks::{check_table, kind, kind_of, sort_of, Sort, BAD_START, DONE, WIDTH};
+use crate::checks::{
+    check_table, kind, kind_of, mask_of, operands_of, sort_of, Sort, BAD_START, DONE, WIDTH,
+};
 
 /// The free variables of one entry, read from the sets found so far.
 ///
 /// 01: "those of a MATCH or BUILD are its pattern's; SCOPE removes its mask;
 /// CALL has those of its REC; every other strategy has its operands'."
-fn by_the_rules(table: &[u32], sets: &[u32], entry: usize) -> u32 {
+fn by_the_rules(table: &[u32], sets: &[u64], entry: usize) -> u64 {
     let row = &table[WIDTH * entry..WIDTH * entry + WIDTH];
-    let count = (row[0] % 16) as usize;
-    let operands = row[2..2 + count]
+    let operands = operands_of(row)
         .iter()
         .fold(0, |set, &operand| set | sets[operand as usize]);
     match row[0] / 16 {
         kind::PVAR => 1 << row[1],
-        kind::SCOPE => operands & !row[1],
+        kind::SCOPE => operands & !mask_of(row),
         _ => operands,
     }
 }
@@ -23,8 +24,9 @@ fn by_the_rules(table: &[u32], sets: &[u32], entry: usize) -> u32 {
 ///
 /// 01: "The question takes a table and a strategy entry and returns answer,
 /// place and mask: 0, 0 and the mask; or 2 (table length only), 3 with its
-/// place, or 5, with mask 0." By 02's wish 4 it is 13 to 17 where 3 stood.
-pub fn free_variables(table: &[u32], entry: u32) -> (u32, u32, u32) {
+/// place, or 5, with mask 0." By 02's wish 4 it is 13 to 17 where 3 stood. Wish 9:
+/// "Free-variable masks become 64 bits."
+pub fn free_variables(table: &[u32], entry: u32) -> (u32, u32, u64) {
     let (answer, place) = check_table(table);
     if answer != DONE {
         return (answer, place, 0);

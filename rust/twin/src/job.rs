@@ -1,6 +1,6 @@
 //! The job program: one job's text in, one answer's text out.
 
-use crate::checks::{ran, BAD_TEXT, VARIABLES, WIDTH};
+use crate::checks::{kind, ran, row_of, BAD_TEXT, VARIABLES, WIDTH};
 use crate::engine::{run, Outcome};
 
 /// 01: "for more than 60,000 bytes".
@@ -10,9 +10,9 @@ pub const NODES: usize = 1_024;
 /// 01: "`e` lines ([..] at most 512)".
 pub const ENTRIES: usize = 512;
 /// 01: "kind 0 to 255".
-const KIND: u32 = 255;
+const KIND: u64 = 255;
 /// 01: "a node below 131,072".
-const NODE: u32 = 131_071;
+const NODE: u64 = 131_071;
 
 /// A job as its text says it, before any check of table or store.
 struct Job {
@@ -47,30 +47,33 @@ impl<'a> Reader<'a> {
     }
 }
 
+/// The greatest number of 32 bits.
+const ANY: u64 = u32::MAX as u64;
+
 /// 01: "Other numbers go up to 4,294,967,295; all are decimal, without leading
 /// zeros."
-fn number(field: &[u8], most: u32) -> Result<u32, ()> {
+fn number(field: &[u8], most: u64) -> Result<u64, ()> {
     if field.is_empty() || (field.len() > 1 && field[0] == b'0') {
         return Err(());
     }
-    let mut value: u64 = 0;
+    let mut value: u128 = 0;
     for &byte in field {
         if !byte.is_ascii_digit() {
             return Err(());
         }
-        value = 10 * value + u64::from(byte - b'0');
-        if value > u64::from(most) {
+        value = 10 * value + u128::from(byte - b'0');
+        if value > u128::from(most) {
             return Err(());
         }
     }
-    Ok(value as u32)
+    Ok(value as u64)
 }
 
 /// The fields after a line's first, as numbers: field i is at most `most[i]`.
 /// There must be `least` of them or more, and no more than `most` names.
 ///
 /// 01: "fields parted by one tab".
-fn numbers(line: &[u8], least: usize, most: &[u32]) -> Result<Vec<u32>, ()> {
+fn numbers(line: &[u8], least: usize, most: &[u64]) -> Result<Vec<u64>, ()> {
     let mut values = Vec::new();
     for (index, field) in line.split(|&byte| byte == b'\t').skip(1).enumerate() {
         let limit = *most.get(index).ok_or(())?;
@@ -97,11 +100,11 @@ fn first_line(line: &[u8]) -> Result<Job, ()> {
     if line.split(|&byte| byte == b'\t').next() != Some(b"job") {
         return Err(());
     }
-    let values = numbers(line, 4, &[u32::MAX, u32::MAX, u32::MAX, NODES as u32])?;
+    let values = numbers(line, 4, &[ANY, ANY, ANY, NODES as u64])?;
     Ok(Job {
-        units: values[0],
-        start: values[1],
-        subject: values[2],
+        units: values[0] as u32,
+        start: values[1] as u32,
+        subject: values[2] as u32,
         room: values[3] as usize,
         table: Vec::new(),
         nodes: Vec::new(),
@@ -111,8 +114,7 @@ fn first_line(line: &[u8]) -> Result<Job, ()> {
 
 /// Takes a later line, given the group reached and the least variable that a
 /// `b` line may still name.
-fn later_line(job: &mut Job, group: &mut Group, least: &mut u32, line: &[u8]) -> Result<(), ()> {
-    let any = u32::MAX;
+fn later_line(job: &mut Job, group: &mut Group, least: &mut u64, line: &[u8]) -> Result<(), ()> {
     let name = line.split(|&byte| byte == b'\t').next();
     let own = match name {
         Some(b"e") => Group::Entries,
@@ -127,38 +129,41 @@ fn later_line(job: &mut Job, group: &mut Group, least: &mut u32, line: &[u8]) ->
     *group = own;
     match own {
         // 01: "`e` lines (kind 0 to 255, argument, up to six operands; at most
-        // 512)".
+        // 512)". 02, wish 9: "In a job a scope's argument may have 64 bits"; no
+        // other kind's may.
         Group::Entries => {
-            let values = numbers(line, 2, &[KIND, any, any, any, any, any, any, any])?;
-            if job.table.len() == WIDTH * ENTRIES {
+            let values = numbers(line, 2, &[KIND, u64::MAX, ANY, ANY, ANY, ANY, ANY, ANY])?;
+            let kind = values[0] as u32;
+            if job.table.len() == WIDTH * ENTRIES || (values[1] > ANY && kind != kind::SCOPE) {
                 return Err(());
             }
-            let mut row = [0; WIDTH];
-            row[0] = 16 * values[0] + (values.len() as u32 - 2);
-            row[1..values.len()].copy_from_slice(&values[1..]);
-            job.table.extend_from_slice(&row);
+            let operands: Vec<u32> = values[2..].iter().map(|&value| value as u32).collect();
+            job.table
+                .extend_from_slice(&row_of(kind, values[1], &operands));
         }
         // 01: "`n` lines (constructor, up to six children; at most 1,024)".
         Group::Nodes => {
-            let values = numbers(line, 1, &[any; 7])?;
+            let values = numbers(line, 1, &[ANY; 7])?;
             if job.nodes.len() == WIDTH * NODES {
                 return Err(());
             }
             let mut row = [0; WIDTH];
-            row[0] = values[0];
+            row[0] = values[0] as u32;
             row[1] = values.len() as u32 - 1;
-            row[2..1 + values.len()].copy_from_slice(&values[1..]);
+            for (word, &child) in row[2..].iter_mut().zip(&values[1..]) {
+                *word = child as u32;
+            }
             job.nodes.extend_from_slice(&row);
         }
         // 01: "`b` lines (variable below 32, strictly rising, then a node below
-        // 131,072)."
+        // 131,072)." 02, wish 9: "a `b` line a variable below 64."
         Group::Bindings => {
-            let values = numbers(line, 2, &[VARIABLES as u32 - 1, NODE])?;
+            let values = numbers(line, 2, &[VARIABLES as u64 - 1, NODE])?;
             if values[0] < *least {
                 return Err(());
             }
             *least = values[0] + 1;
-            job.bindings[values[0] as usize] = values[1] + 1;
+            job.bindings[values[0] as usize] = values[1] as u32 + 1;
         }
     }
     Ok(())

@@ -31,7 +31,7 @@ pub struct Input<'a> {
 
 /// Whether a length, the mark or a count word of the signature is bad.
 ///
-/// 01: "the bindings aren't 32 words". 02: the result list comes "after 01's
+/// 02, wish 9: "2 for bindings that aren't 64 words". 02: the result list comes "after 01's
 /// sizes" (wish 1) and the signature is "last among the sizes" (wish 2). The
 /// order among the sizes cannot be seen: all of them give 2 and 0.
 fn bad_sizes(input: &Input) -> bool {

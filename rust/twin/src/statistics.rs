@@ -305,18 +305,28 @@ pub fn of_runs(seed: u64, count: u64) -> String {
 pub fn of_frees(seed: u64, count: u64) -> String {
     let mut answers = Answers::new();
     let mut sizes: BTreeMap<u32, u64> = BTreeMap::new();
+    let mut halves = [0u64; 2];
     for index in 0..count {
         let case = free_case(seed, index);
         let (answer, _, mask) = free_variables(&case.table, case.entry);
         *answers.entry(answer).or_default() += 1;
         if answer == DONE {
             *sizes.entry(mask.count_ones()).or_default() += 1;
+            halves[0] += u64::from(mask as u32 != 0);
+            halves[1] += u64::from(mask >> 32 != 0);
         }
     }
     let mut report = String::new();
     let text = &mut report;
     say(text, format_args!("questions {}, seed {}", count, seed));
     say_answers(text, &answers, count);
+    say(
+        text,
+        format_args!(
+            "masks with a variable below 32: {}, from 32 on: {}",
+            halves[0], halves[1]
+        ),
+    );
     say(text, format_args!("free variables: number of questions"));
     for (size, number) in sizes {
         say(text, format_args!("  {}: {}", size, number));

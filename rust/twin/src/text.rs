@@ -26,7 +26,7 @@ pub const CASE_TABLE_WORDS: usize = 32_776;
 /// The longest store of a case, in words.
 pub const CASE_STORE_WORDS: usize = 1_048_584;
 /// The longest bindings of a case, in words.
-pub const CASE_BINDINGS_WORDS: usize = 40;
+pub const CASE_BINDINGS_WORDS: usize = 72;
 /// The longest store that an answer shows word by word.
 pub const SHOWN_STORE_WORDS: usize = 512;
 

@@ -38,7 +38,8 @@ fn in_order(words: &[u32], tasks: &[Task]) -> Vec<u32> {
     for row in words.chunks(8) {
         let mut row = row.to_vec();
         let count = (row[0] % 16) as usize;
-        for operand in &mut row[2..2 + count] {
+        let first = twin::checks::first_operand(row[0] / 16);
+        for operand in &mut row[first..first + count] {
             *operand += before;
         }
         all.extend(row);
@@ -106,7 +107,7 @@ fn rules() -> Vec<u32> {
 
 /// Runs the tasks in every order; the endings.
 fn endings(words: &[u32], tasks: &[Task]) -> Vec<(u32, String, Vec<u32>)> {
-    let mut bindings = vec![0; 32];
+    let mut bindings = vec![0; 64];
     bindings[0] = 2;
     orderings(tasks)
         .iter()
@@ -123,7 +124,7 @@ fn three_places_in_all_six_orders() {
     for entry in [0, 5, 12] {
         assert_eq!(free_variables(&rules(), entry), (0, 0, 0));
     }
-    let mut start = vec![0; 32];
+    let mut start = vec![0; 64];
     start[0] = 2;
     // At the first child, inside the second, and at the third.
     let tasks = [(vec![1], 0), (vec![2, 2], 5), (vec![3], 5)];
@@ -152,7 +153,7 @@ fn three_places_in_all_six_orders() {
 
 #[test]
 fn none_one_and_two_places() {
-    let mut start = vec![0; 32];
+    let mut start = vec![0; 64];
     start[0] = 2;
     let whole = written(&terms(), 3);
     assert_eq!(endings(&rules(), &[]), [(0, whole, start.clone())]);
@@ -178,7 +179,7 @@ fn a_place_inside_another_or_a_free_variable_can_tell() {
         .iter()
         .map(|order| {
             let words = in_order(&rules(), order);
-            run_with(&words, same.clone(), vec![0; 32], 4, 0, 3, 1_000)
+            run_with(&words, same.clone(), vec![0; 64], 4, 0, 3, 1_000)
         })
         .collect();
     assert_eq!((ends[0].outcome.answer, ends[1].outcome.answer), (0, 0));

@@ -49,7 +49,7 @@ fn input() -> Input {
     words[48..].fill(77);
     Input {
         store: words,
-        bindings: vec![0; 32],
+        bindings: vec![0; 64],
         mark: 6,
         subject: 4,
         work: vec![9; 12],
@@ -71,7 +71,7 @@ fn it_keeps_just_the_reachable_nodes_in_their_old_order() {
     let rows: [(u32, &[u32]); 3] = [(1, &[]), (3, &[0, 0]), (4, &[1, 0, 1])];
     // Everything from the new mark on is zero, what was garbage included.
     assert_eq!(after.store, store(&rows, 10));
-    assert_eq!(after.bindings, vec![0; 32]);
+    assert_eq!(after.bindings, vec![0; 64]);
     // The whole work list is zero, also beyond the store's nodes.
     assert_eq!(after.work, vec![0; 12]);
 }
@@ -80,7 +80,7 @@ fn it_keeps_just_the_reachable_nodes_in_their_old_order() {
 fn bound_variables_are_roots_and_are_moved() {
     let mut after = input();
     after.bindings[0] = 3;
-    after.bindings[31] = 5;
+    after.bindings[63] = 5;
     assert_eq!(call(&mut after), collected(0, 0, 4, 5));
     let rows: [(u32, &[u32]); 5] = [
         (7, &[]),
@@ -90,7 +90,7 @@ fn bound_variables_are_roots_and_are_moved() {
         (4, &[3, 1, 3]),
     ];
     assert_eq!(after.store, store(&rows, 10));
-    assert_eq!((after.bindings[0], after.bindings[31]), (3, 5));
+    assert_eq!((after.bindings[0], after.bindings[63]), (3, 5));
     // The greatest word is the mark.
     let mut after = input();
     after.subject = 1;
@@ -116,7 +116,7 @@ fn equal_terms_at_different_numbers_both_stay() {
     let rows: [(u32, &[u32]); 4] = [(1, &[]), (9, &[]), (1, &[]), (5, &[0, 2])];
     let mut after = Input {
         store: store(&rows, 4),
-        bindings: vec![0; 32],
+        bindings: vec![0; 64],
         mark: 4,
         subject: 3,
         work: vec![0; 4],
@@ -148,7 +148,7 @@ fn refusals_and_their_order() {
     }
     for word in [7, u32::MAX] {
         let mut bad = input();
-        bad.bindings[31] = word;
+        bad.bindings[63] = word;
         refused(&bad, 5, 0);
     }
     refused(
@@ -184,7 +184,7 @@ fn refusals_and_their_order() {
         2,
         0,
     );
-    for length in [0, 31, 33] {
+    for length in [0, 32, 63, 65] {
         let mut other = bad.clone();
         other.bindings.resize(length, 0);
         refused(&other, 2, 0);

@@ -39,7 +39,7 @@ fn what_comes_back() {
                 continue;
             }
             match outcome.answer {
-                12 => assert!(outcome.place < 32, "{}", case.label),
+                12 => assert!(outcome.place < 64, "{}", case.label),
                 // 02, wish 10: a pattern entry, or 4,096.
                 1 if outcome.place < 4_096 => {
                     let kind = case.table[8 * outcome.place as usize] / 16;
@@ -157,7 +157,7 @@ fn the_same_seed_gives_the_same_cases() {
 #[test]
 fn a_run_line_and_its_answer() {
     // WHERE(MATCH x) on 1(), with garbage above the mark.
-    let line = "24 16 32 1 0 0 9 1 0 0 0 7 0 0 273 0 2 1 0 8 225 0 10 2 0 16 288 1 0 1 1 9 4 r7";
+    let line = "24 16 64 1 0 0 9 1 0 0 0 7 0 0 273 0 2 1 0 8 225 0 10 2 0 16 288 1 0 1 1 9 4 r7";
     let case = RunCase::parse(line).unwrap();
     assert_eq!(case.store[8], u32::MAX);
     assert_eq!(case.store[9], 4);
@@ -168,14 +168,14 @@ fn a_run_line_and_its_answer() {
     let expected = format!("r8 2 0 0 0 0 :{}", words.concat());
     assert_eq!(RunCase::parse(line).unwrap().answer(), expected);
     // A long store is shown by its sum.
-    let line = "8 520 32 1 0 0 9 0 0 0 0 1 1 0 2 r9";
+    let line = "8 520 64 1 0 0 9 0 0 0 0 1 1 0 2 r9";
     let mut words = vec![0; 520];
     words[0] = 2;
     let expected = format!("r9 0 0 0 1 1 : {}", sum(&words));
     assert_eq!(RunCase::parse(line).unwrap().answer(), expected);
     assert_eq!(sum(&[1, 2, u32::MAX]), 31 * 31 + 62 - 1);
     // Lines that say nothing sound.
-    for line in ["", "8", "8 8 32 1 0 0 9 0 0 0 0 1 3 0 0 r1", "x"] {
+    for line in ["", "8", "8 8 64 1 0 0 9 0 0 0 0 1 3 0 0 r1", "x"] {
         assert!(RunCase::parse(line).is_err());
     }
 }
@@ -184,6 +184,9 @@ fn a_run_line_and_its_answer() {
 fn a_free_line_and_its_answer() {
     let line = "t 16 0 4 0 225 2 1 8 288 9 5 f1";
     assert_eq!(FreeCase::parse(line).unwrap().answer(), "f1 0 0 32");
+    let line = "t 16 0 4 0 225 2 1 8 288 9 63 f1";
+    let answer = FreeCase::parse(line).unwrap().answer();
+    assert_eq!(answer, "f1 0 0 9223372036854775808");
     assert_eq!(FreeCase::parse("t 0 0 0 f2").unwrap().answer(), "f2 2 0 0");
 }
 
@@ -250,7 +253,8 @@ fn in_order(table: &[u32], (i, s): (u32, u32), (j, t): (u32, u32)) -> Vec<u32> {
     for row in table.chunks(8) {
         let mut row = row.to_vec();
         let count = (row[0] % 16) as usize;
-        for operand in &mut row[2..2 + count] {
+        let first = twin::checks::first_operand(row[0] / 16);
+        for operand in &mut row[first..first + count] {
             *operand += 3;
         }
         words.extend(row);

@@ -66,8 +66,8 @@ fn refused_jobs_print_one_line() {
 fn runs_print_nodes_and_bindings() {
     // Failed, cut off by units, by room and by nesting: as given.
     assert_eq!(
-        job_spaced("job 9 0 1 2\ne 1 0\nn 1\nn 3 0 0\nb 0 1\nb 31 0\n"),
-        "answer 1 4096 1 2 1\nn 1\nn 3 0 0\nb 0 1\nb 31 0\n"
+        job_spaced("job 9 0 1 2\ne 1 0\nn 1\nn 3 0 0\nb 0 1\nb 63 0\n"),
+        "answer 1 4096 1 2 1\nn 1\nn 3 0 0\nb 0 1\nb 63 0\n"
     );
     assert_eq!(
         job_spaced("job 0 0 0 1\ne 0 0\nn 1\n"),
@@ -201,15 +201,15 @@ fn numbers_at_and_past_their_limits() {
     begins("job 1 0 0 1\ne 0 0\nn 1 4294967295\n", "answer 4 0 0 1 0");
     bad("job 1 0 0 1\ne 0 0\nn 1 99999999999999999999999999\n", 3);
     bad("job 1 0 0 1\ne 0 0\nn 1 18446744073709551616\n", 3);
-    begins("job 1 0 0 1\ne 0 0\nn 1\nb 31 131071\n", "answer 5 0 0 1 0");
-    bad("job 1 0 0 1\ne 0 0\nn 1\nb 31 131072\n", 4);
-    bad("job 1 0 0 1\ne 0 0\nn 1\nb 32 0\n", 4);
+    begins("job 1 0 0 1\ne 0 0\nn 1\nb 63 131071\n", "answer 5 0 0 1 0");
+    bad("job 1 0 0 1\ne 0 0\nn 1\nb 63 131072\n", 4);
+    bad("job 1 0 0 1\ne 0 0\nn 1\nb 64 0\n", 4);
 }
 
 #[test]
 fn bindings_rise() {
     begins(
-        "job 1 0 0 1\ne 0 0\nn 1\nb 0 0\nb 1 0\nb 31 0\n",
+        "job 1 0 0 1\ne 0 0\nn 1\nb 0 0\nb 1 0\nb 32 0\nb 63 0\n",
         "answer 0 0 0 1 1",
     );
     bad("job 1 0 0 1\ne 0 0\nn 1\nb 0 0\nb 0 0\n", 5);

@@ -5,12 +5,12 @@ mod common;
 use common::*;
 
 /// The place of a failed run on the small store.
-fn failed_at(rows: &[(u32, u32, &[u32])], units: u32) -> u32 {
+fn failed_at(rows: &[(u32, u64, &[u32])], units: u32) -> u32 {
     let after = run_small(&table(rows), small_store(), 2, 1_000);
     let expected = outcome(1, after.outcome.place, 2, 3, units);
     assert_eq!(after.outcome, expected);
     assert_eq!(after.store, small_store());
-    assert_eq!(after.bindings, vec![0; 32]);
+    assert_eq!(after.bindings, vec![0; 64]);
     after.outcome.place
 }
 
@@ -21,7 +21,7 @@ fn none_failed() {
     assert_eq!(failed_at(&[(CONG, 9, &[])], 1), 4_096);
     assert_eq!(failed_at(&[(NOT, 0, &[1]), (ID, 0, &[])], 2), 4_096);
     // A match that was done is none that failed.
-    let rows: [(u32, u32, &[u32]); 4] = [
+    let rows: [(u32, u64, &[u32]); 4] = [
         (SEQ, 0, &[1, 2]),
         (MATCH, 0, &[3]),
         (FAIL, 0, &[]),
@@ -34,10 +34,10 @@ fn none_failed() {
 fn the_pattern_that_differs_however_deep() {
     // The head: another constructor, another count.
     assert_eq!(failed_at(&[(MATCH, 0, &[1]), (PCON, 6, &[])], 2), 1);
-    let short: [(u32, u32, &[u32]); 3] = [(MATCH, 0, &[1]), (PCON, 5, &[2]), (PVAR, 0, &[])];
+    let short: [(u32, u64, &[u32]); 3] = [(MATCH, 0, &[1]), (PCON, 5, &[2]), (PVAR, 0, &[])];
     assert_eq!(failed_at(&short, 2), 1);
     // 5(x, 3()): the second child.
-    let second: [(u32, u32, &[u32]); 4] = [
+    let second: [(u32, u64, &[u32]); 4] = [
         (MATCH, 0, &[1]),
         (PCON, 5, &[2, 3]),
         (PVAR, 0, &[]),
@@ -45,7 +45,7 @@ fn the_pattern_that_differs_however_deep() {
     ];
     assert_eq!(failed_at(&second, 4), 3);
     // 5(3(), 4()): the first that differs, not the second.
-    let first: [(u32, u32, &[u32]); 4] = [
+    let first: [(u32, u64, &[u32]); 4] = [
         (MATCH, 0, &[1]),
         (PCON, 5, &[3, 2]),
         (PCON, 4, &[]),
@@ -57,7 +57,7 @@ fn the_pattern_that_differs_however_deep() {
 #[test]
 fn a_repeated_variable_at_its_own_entry() {
     // S4 with an entry for each x: the second of them.
-    let twice: [(u32, u32, &[u32]); 4] = [
+    let twice: [(u32, u64, &[u32]); 4] = [
         (MATCH, 0, &[1]),
         (PCON, 5, &[2, 3]),
         (PVAR, 0, &[]),
@@ -69,10 +69,10 @@ fn a_repeated_variable_at_its_own_entry() {
         &[(1, &[]), (2, &[]), (4, &[0]), (4, &[1]), (5, &[2, 3])],
         64,
     );
-    let after = run_with(&table(&twice), terms, vec![0; 32], 5, 0, 4, 99);
+    let after = run_with(&table(&twice), terms, vec![0; 64], 5, 0, 4, 99);
     assert_eq!(after.outcome, outcome(1, 3, 4, 5, 6));
     // A variable bound before the run.
-    let mut bindings = vec![0; 32];
+    let mut bindings = vec![0; 64];
     bindings[8] = 1;
     let bound = table(&[(MATCH, 0, &[1]), (PVAR, 8, &[])]);
     let after = run_with(&bound, small_store(), bindings, 3, 0, 2, 99);
@@ -82,7 +82,7 @@ fn a_repeated_variable_at_its_own_entry() {
 #[test]
 fn the_last_in_time_and_not_the_first() {
     // LEFT(MATCH 6(), MATCH 7()).
-    let rows: [(u32, u32, &[u32]); 5] = [
+    let rows: [(u32, u64, &[u32]); 5] = [
         (LEFT, 0, &[1, 2]),
         (MATCH, 0, &[3]),
         (MATCH, 0, &[4]),
@@ -91,7 +91,7 @@ fn the_last_in_time_and_not_the_first() {
     ];
     assert_eq!(failed_at(&rows, 5), 4);
     // The same with the entries the other way round.
-    let rows: [(u32, u32, &[u32]); 5] = [
+    let rows: [(u32, u64, &[u32]); 5] = [
         (LEFT, 0, &[2, 1]),
         (MATCH, 0, &[3]),
         (MATCH, 0, &[4]),
@@ -100,7 +100,7 @@ fn the_last_in_time_and_not_the_first() {
     ];
     assert_eq!(failed_at(&rows, 5), 3);
     // A miss deep inside, then one at a head: the head's.
-    let rows: [(u32, u32, &[u32]); 8] = [
+    let rows: [(u32, u64, &[u32]); 8] = [
         (CHOICE, 0, &[1, 2]),
         (MATCH, 0, &[3]),
         (MATCH, 0, &[6]),
@@ -120,7 +120,7 @@ fn a_caught_failure_keeps_its_place() {
     let catchers: [(u32, &[u32], u32); 3] =
         [(NOT, &[3], 5), (LEFT, &[3, 5], 6), (CHOICE, &[3, 5], 6)];
     for (kind, operands, units) in catchers {
-        let rows: [(u32, u32, &[u32]); 6] = [
+        let rows: [(u32, u64, &[u32]); 6] = [
             (SEQ, 0, &[1, 2]),
             (kind, 0, operands),
             (FAIL, 0, &[]),
@@ -133,7 +133,7 @@ fn a_caught_failure_keeps_its_place() {
     // ONE and SOME of MATCH 2() on 5(1(), 2()): the first child misses, the
     // second does not; then FAIL.
     for kind in [ONE, SOME] {
-        let rows: [(u32, u32, &[u32]); 5] = [
+        let rows: [(u32, u64, &[u32]); 5] = [
             (SEQ, 0, &[1, 2]),
             (kind, 0, &[3]),
             (FAIL, 0, &[]),
@@ -143,7 +143,7 @@ fn a_caught_failure_keeps_its_place() {
         assert_eq!(failed_at(&rows, 7), 4);
     }
     // TEST of NOT of a miss, then FAIL: restoring takes nothing back.
-    let rows: [(u32, u32, &[u32]); 6] = [
+    let rows: [(u32, u64, &[u32]); 6] = [
         (SEQ, 0, &[1, 2]),
         (TEST, 0, &[3]),
         (FAIL, 0, &[]),
@@ -157,7 +157,7 @@ fn a_caught_failure_keeps_its_place() {
 #[test]
 fn a_success_after_a_miss_keeps_its_place() {
     // LEFT(MATCH 6(), SEQ(MATCH x, FAIL)): the second match is done.
-    let rows: [(u32, u32, &[u32]); 7] = [
+    let rows: [(u32, u64, &[u32]); 7] = [
         (LEFT, 0, &[1, 2]),
         (MATCH, 0, &[5]),
         (SEQ, 0, &[3, 4]),
@@ -173,8 +173,8 @@ fn a_success_after_a_miss_keeps_its_place() {
 fn other_answers_keep_their_places() {
     // LEFT(MATCH 6(), s): done 0, cut off by units 0, by room 0, by nesting 0,
     // an unbound variable its number.
-    let with = |rest: &[(u32, u32, &[u32])]| {
-        let rows: [(u32, u32, &[u32]); 3] = [(LEFT, 0, &[1, 3]), (MATCH, 0, &[2]), (PCON, 6, &[])];
+    let with = |rest: &[(u32, u64, &[u32])]| {
+        let rows: [(u32, u64, &[u32]); 3] = [(LEFT, 0, &[1, 3]), (MATCH, 0, &[2]), (PCON, 6, &[])];
         table(&[&rows[..], rest].concat())
     };
     let full = || store(&[(1, &[]), (2, &[]), (5, &[0, 1])], 3);

@@ -78,7 +78,7 @@ fn on_small(table: Vec<u32>, subjects: &[u32]) -> Input {
     Input {
         table,
         store,
-        bindings: vec![0; 32],
+        bindings: vec![0; 64],
         mark: 3,
         start: 0,
         subjects: subjects.to_vec(),
@@ -247,7 +247,7 @@ fn with_no_subjects_it_writes_nothing() {
         0,
     );
     let mut other = input.clone();
-    other.bindings[31] = 4;
+    other.bindings[63] = 4;
     refused(&other, 5, 0);
     refused(
         &Input {
@@ -391,12 +391,12 @@ fn generated_the_outcome_of_single_calls_in_turn() {
 #[test]
 fn a_line_and_its_answer() {
     // MATCH x on 1() twice, results of garbage.
-    let line = "m 1 0 0 9 5 0 16 0 1 8 0 2 32 0 4 2 0 5 10 4 4 0 0 225 0 2 1 0 8 288 1 0 1 m1";
+    let line = "m 1 0 0 9 5 0 16 0 1 8 0 2 64 0 4 2 0 5 10 4 4 0 0 225 0 2 1 0 8 288 1 0 1 m1";
     assert_eq!(
         CallCase::parse(line).unwrap().answer(),
         "m1 0 0 : 0=1 : 3=1 4=2 8=1 9=2"
     );
-    let line = "m 1 0 0 9 5 0 16 0 1 8 0 2 32 0 4 1 1 5 5 4 4 0 0 225 0 2 1 0 8 288 1 0 1 m2";
+    let line = "m 1 0 0 9 5 0 16 0 1 8 0 2 64 0 4 1 1 5 5 4 4 0 0 225 0 2 1 0 8 288 1 0 1 m2";
     assert_eq!(
         CallCase::parse(line).unwrap().answer(),
         "m2 5 0 : 0=1 : 0=4 1=4 2=4 3=4 4=4"

@@ -18,7 +18,7 @@ fn every_kind() -> Vec<u32> {
         (PATH, 6, &[11]),             // 7
         (CONG, 65_535, &[11, 12, 9]), // 8
         (CALL, 0, &[5]),              // 9
-        (SCOPE, u32::MAX, &[13]),     // 10
+        (SCOPE, u64::MAX, &[13]),     // 10
         (ALL, 0, &[16]),              // 11
         (ONE, 0, &[17]),              // 12
         (SOME, 0, &[14]),             // 13
@@ -27,7 +27,7 @@ fn every_kind() -> Vec<u32> {
         (ID, 0, &[]),                 // 16
         (FAIL, 0, &[]),               // 17
         (PCON, 65_535, &[19, 19]),    // 18
-        (PVAR, 31, &[]),              // 19
+        (PVAR, 63, &[]),              // 19
     ])
 }
 
@@ -80,10 +80,10 @@ fn kinds_and_counts() {
 
 #[test]
 fn arguments() {
-    // PATH takes 1 to 6, PVAR 0 to 31, CONG and PCON 0 to 65,535.
+    // PATH takes 1 to 6, PVAR 0 to 63, CONG and PCON 0 to 65,535.
     for (entry, good, bad) in [
         (7, vec![1, 6], vec![0, 7]),
-        (19, vec![0, 31], vec![32, u32::MAX]),
+        (19, vec![0, 31, 32, 63], vec![64, u32::MAX]),
         (8, vec![0, 65_535], vec![65_536, u32::MAX]),
         (18, vec![0, 65_535], vec![65_536]),
         (10, vec![0, 1, u32::MAX], vec![]),
@@ -105,8 +105,10 @@ fn arguments() {
 fn unused_words() {
     let words = every_kind();
     for entry in 0..20 {
+        // A scope's mask has words 1 and 2, and its operand is word 3.
         let count = (words[8 * entry] % 16) as usize;
-        for word in 2 + count..8 {
+        let first = if entry == 10 { 3 } else { 2 };
+        for word in first + count..8 {
             assert_eq!(with(&[(8 * entry + word, 1)]), (17, entry as u32));
         }
     }
@@ -127,7 +129,7 @@ fn operands() {
     // Of a kind above 19: the user is the lowest bad entry.
     assert_eq!(with(&[(8 * 19, 16 * 20)]), (16, 15));
     // Of the right kind but bad otherwise: the operand itself is bad.
-    assert_eq!(with(&[(8 * 19 + 1, 32)]), (14, 19));
+    assert_eq!(with(&[(8 * 19 + 1, 64)]), (14, 19));
 }
 
 #[test]
@@ -277,7 +279,7 @@ fn good() -> Input {
     Input {
         table: every_kind(),
         store: words,
-        bindings: vec![3; 32],
+        bindings: vec![3; 64],
         mark: 3,
         start: 16,
         subject: 2,
@@ -305,7 +307,7 @@ fn runs_refused_by_number_and_in_order() {
     for subject in [3, 4, u32::MAX] {
         refused(&Input { subject, ..good() }, 5, 0);
     }
-    for (variable, value) in [(0, 4), (31, 4), (7, u32::MAX)] {
+    for (variable, value) in [(0, 4), (32, 4), (63, 4), (7, u32::MAX)] {
         let mut other = good();
         other.bindings[variable] = value;
         refused(&other, 5, 0);
@@ -314,7 +316,7 @@ fn runs_refused_by_number_and_in_order() {
     refused(
         &Input {
             store: vec![],
-            bindings: vec![0; 32],
+            bindings: vec![0; 64],
             mark: 0,
             subject: 0,
             ..good()
@@ -331,7 +333,7 @@ fn runs_refused_by_number_and_in_order() {
     input.store[8 + 2] = 1;
     refused(&input, 4, 1);
     // 13 to 17 before 4.
-    input.table[8 * 19 + 1] = 32;
+    input.table[8 * 19 + 1] = 64;
     refused(&input, 14, 19);
     input.table[8 * 18 + 2] = 18;
     refused(&input, 15, 18);
@@ -356,7 +358,7 @@ fn runs_refused_by_number_and_in_order() {
         2,
         0,
     );
-    for length in [0, 31, 33, 40] {
+    for length in [0, 32, 63, 65, 72] {
         let mut other = input.clone();
         other.bindings.resize(length, 0);
         refused(&other, 2, 0);
@@ -376,10 +378,10 @@ fn runs_refused_by_number_and_in_order() {
 #[test]
 fn free_variables_of_strategies() {
     let words = every_kind();
-    assert_eq!(free_variables(&words, 14), (0, 0, 1 << 31));
-    assert_eq!(free_variables(&words, 13), (0, 0, 1 << 31));
+    assert_eq!(free_variables(&words, 14), (0, 0, 1 << 63));
+    assert_eq!(free_variables(&words, 13), (0, 0, 1 << 63));
     assert_eq!(free_variables(&words, 10), (0, 0, 0));
-    assert_eq!(free_variables(&words, 15), (0, 0, 1 << 31));
+    assert_eq!(free_variables(&words, 15), (0, 0, 1 << 63));
     assert_eq!(free_variables(&words, 16), (0, 0, 0));
     // 2, 13 to 17 and 5, with mask 0.
     assert_eq!(free_variables(&[], 0), (2, 0, 0));

@@ -18,7 +18,7 @@ fn signed(table: &[u32], signature: &[u32]) -> After {
 /// Runs with a signature.
 fn signed_on(table: &[u32], store: Vec<u32>, mark: u32, subject: u32, signature: &[u32]) -> After {
     let mut store = store;
-    let mut bindings = vec![0; 32];
+    let mut bindings = vec![0; 64];
     let lent = Lent {
         signature: Some(signature),
     };
@@ -49,7 +49,7 @@ fn refused(table: &[u32], signature: &[u32], answer: u32, place: u32) {
     let after = signed_on(table, soiled.clone(), 3, 2, signature);
     assert_eq!(after.outcome, outcome(answer, place, 2, 3, 0));
     assert_eq!(after.store, soiled);
-    assert_eq!(after.bindings, vec![0; 32]);
+    assert_eq!(after.bindings, vec![0; 64]);
 }
 
 /// The signature of the small store: 1 and 2 without children, 5 with two.
@@ -85,7 +85,7 @@ fn an_entry_that_disagrees() {
     for kind in [CONG, PCON] {
         // Below a FAIL that never asks for it: used or not, it counts.
         let sort = if kind == CONG { FAIL } else { ID };
-        let two = |constructor: u32, operands: &[u32]| {
+        let two = |constructor: u64, operands: &[u32]| {
             let operand = if kind == CONG { (ID, 0) } else { (PVAR, 0) };
             table(&[
                 (sort, 0, &[]),
@@ -254,18 +254,18 @@ fn generated_every_node_of_a_done_run_obeys() {
 #[test]
 fn a_line_and_its_answer() {
     // ID on 1(): without a signature slice none is lent; slice 3 of length 0 is.
-    let line = "l 1 0 0 9 3 0 8 0 1 16 5 2 32 0 1 1 0 1 s1";
+    let line = "l 1 0 0 9 3 0 8 0 1 16 5 2 64 0 1 1 0 1 s1";
     assert_eq!(
         CallCase::parse(line).unwrap().answer(),
         "s1 0 0 0 1 1 : 0=1"
     );
-    let line = "l 1 0 0 9 4 0 8 0 1 16 5 2 32 0 3 0 0 1 1 0 1 s2";
+    let line = "l 1 0 0 9 4 0 8 0 1 16 5 2 64 0 3 0 0 1 1 0 1 s2";
     let words: Vec<String> = (8..16).map(|word| format!(" {}=5", word)).collect();
     assert_eq!(
         CallCase::parse(line).unwrap().answer(),
         format!("s2 11 0 0 1 0 : 0=1{}", words.concat())
     );
-    let line = "l 1 0 0 9 4 0 8 0 1 16 5 2 32 0 3 2 7 2 1 0 1 3 1 0 s3";
+    let line = "l 1 0 0 9 4 0 8 0 1 16 5 2 64 0 3 2 7 2 1 0 1 3 1 0 s3";
     assert_eq!(
         CallCase::parse(line).unwrap().answer(),
         "s3 0 0 0 1 1 : 0=1"

@@ -32,7 +32,7 @@ fn unchanged(after: &After, before: &[u32], answer: u32, units: u32, subject: u3
 fn unchanged_at(after: &After, before: &[u32], how: (u32, u32), units: u32, subject: u32) {
     assert_eq!(after.outcome, outcome(how.0, how.1, subject, 3, units));
     assert_eq!(after.store, before);
-    assert_eq!(after.bindings, vec![0; 32]);
+    assert_eq!(after.bindings, vec![0; 64]);
 }
 
 #[test]
@@ -51,7 +51,7 @@ fn s1_the_job_uses_ten_units() {
         after.store,
         store(&[(1, &[]), (2, &[]), (5, &[0, 1]), (5, &[1, 0])], 4)
     );
-    assert_eq!(after.bindings, vec![0; 32]);
+    assert_eq!(after.bindings, vec![0; 64]);
 }
 
 #[test]
@@ -115,7 +115,7 @@ fn s8_some_keeps_the_child_that_failed() {
     assert_eq!(after.outcome, outcome(0, 0, 3, 4, 5));
     let expected = store(&[(1, &[]), (2, &[]), (5, &[0, 1]), (5, &[0, 1])], 64);
     assert_eq!(after.store, expected);
-    assert_eq!(after.bindings, vec![0; 32]);
+    assert_eq!(after.bindings, vec![0; 64]);
 }
 
 #[test]
@@ -246,7 +246,7 @@ fn a_call_inside_a_scope_runs_inside_it() {
 }
 
 /// A table of 4,096 entries: some rows, then a chain of patterns to the end.
-fn chain_after(rows: &[(u32, u32, &[u32])]) -> Vec<u32> {
+fn chain_after(rows: &[(u32, u64, &[u32])]) -> Vec<u32> {
     let mut words = table(rows);
     let first = rows.len() as u32;
     for entry in first..4_095 {
@@ -259,7 +259,7 @@ fn chain_after(rows: &[(u32, u32, &[u32])]) -> Vec<u32> {
 #[test]
 fn the_deepest_nesting_is_reached() {
     let one = || store(&[(1, &[])], 4_096);
-    let none = vec![0; 32];
+    let none = vec![0; 64];
     // BUILD of a chain of 4,095 patterns: the last is at nesting 4,096.
     let fits = chain_after(&[(BUILD, 0, &[1])]);
     let after = run_with(&fits, one(), none.clone(), 1, 0, 0, u32::MAX);
@@ -297,7 +297,7 @@ fn pairs_are_visits_at_their_own_nesting() {
         }
         let top = &mut words[8 * length as usize..8 * length as usize + 8];
         top[..4].copy_from_slice(&[5, 2, length - 1, length - 1]);
-        let after = run_with(&twice, words, vec![0; 32], length + 1, 0, length, 9_999);
+        let after = run_with(&twice, words, vec![0; 64], length + 1, 0, length, 9_999);
         // Four visits of MATCH and its pattern, then 4,093 pairs.
         let expected = outcome(answer, 0, length, length + 1, 4 + 4_093);
         assert_eq!(after.outcome, expected);

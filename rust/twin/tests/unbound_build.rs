@@ -5,7 +5,7 @@ use common::*;
 
 /// BUILD of variable 7 as the entries 1 and 2 of a table, a wrapping as entry
 /// 0, and ID as entry 3.
-fn wrapped(kind: u32, argument: u32, operands: &[u32]) -> Vec<u32> {
+fn wrapped(kind: u32, argument: u64, operands: &[u32]) -> Vec<u32> {
     table(&[
         (kind, argument, operands),
         (BUILD, 0, &[2]),
@@ -19,14 +19,14 @@ fn ends_in_12(table: &[u32], place: u32, units: u32) {
     let after = run_small(table, small_store(), 2, 1_000);
     assert_eq!(after.outcome, outcome(12, place, 2, 3, units));
     assert_eq!(after.store, small_store());
-    assert_eq!(after.bindings, vec![0; 32]);
+    assert_eq!(after.bindings, vec![0; 64]);
 }
 
 #[test]
 fn the_place_is_the_variable() {
-    for variable in [0, 1, 7, 31] {
+    for variable in [0, 1, 7, 31, 32, 63] {
         let build = table(&[(BUILD, 0, &[1]), (PVAR, variable, &[])]);
-        ends_in_12(&build, variable, 2);
+        ends_in_12(&build, variable as u32, 2);
     }
     // The place is not the entry: entry 3 names variable 9.
     let deep = table(&[
@@ -58,7 +58,7 @@ fn nothing_catches_it() {
 #[test]
 fn a_scope_hides_a_bound_variable() {
     let hidden = wrapped(SCOPE, 1 << 7, &[1]);
-    let mut bindings = vec![0; 32];
+    let mut bindings = vec![0; 64];
     bindings[7] = 1;
     let after = run_with(&hidden, small_store(), bindings.clone(), 3, 0, 2, 9);
     assert_eq!(after.outcome, outcome(12, 7, 2, 3, 3));
@@ -93,7 +93,7 @@ fn the_limits_of_its_visit_come_first() {
         chain[8 * node + 2] = node as u32 - 1;
     }
     for (start, answer, place) in [(1, 12, 3), (0, 8, 0)] {
-        let none = vec![0; 32];
+        let none = vec![0; 64];
         let after = run_with(&descent, chain.clone(), none, 1_024, start, 1_023, 9_999);
         assert_eq!(after.outcome, outcome(answer, place, 1_023, 1_024, 4_097));
         assert_eq!(after.store, chain);
@@ -142,7 +142,7 @@ fn it_leaves_the_memory_of_a_cut_off() {
     for word in &mut soiled[24..] {
         *word = 77;
     }
-    let mut bindings = vec![0; 32];
+    let mut bindings = vec![0; 64];
     bindings[30] = 2;
     let after = run_with(&words, soiled, bindings.clone(), 3, 0, 2, 100);
     assert_eq!(after.outcome, outcome(12, 1, 2, 3, 9));
@@ -164,7 +164,7 @@ fn a_job_prints_it_like_a_cut_off() {
         "answer 12 0 1 2 2\nn 1\nn 3 0 0\nb 4 1\n"
     );
     assert_eq!(
-        job_spaced("job 9 0 1 4\ne 15 0 1\ne 18 31\nn 1\nn 3 0 0\n"),
-        "answer 12 31 1 2 2\nn 1\nn 3 0 0\n"
+        job_spaced("job 9 0 1 4\ne 15 0 1\ne 18 63\nn 1\nn 3 0 0\n"),
+        "answer 12 63 1 2 2\nn 1\nn 3 0 0\n"
     );
 }

@@ -1,5 +1,6 @@
 //! What a watcher sees of the visits that apply an entry: in which order they begin and end, on which term, and with which bindings.
 
+use twin::checks::VARIABLES;
 use twin::engine::{run_watched, Sight, Watcher, Way};
 
 /// What was seen, a line for each event.
@@ -30,7 +31,7 @@ fn seen(table: &[[u32; 8]], nodes: usize, units: u32) -> Vec<String> {
     run_watched(
         &table.concat(),
         &mut store,
-        &mut [0; 32],
+        &mut [0; VARIABLES],
         3,
         0,
         2,

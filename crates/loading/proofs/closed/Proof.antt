@@ -6,7 +6,7 @@ use borrow.Author.Needs.{needs}
 use native.Mathlib.Omega.{arith}
 use Rattle.checks.specs.Kinds.{variables}
 use Rattle.leaves.specs.Record.{held}
-use Rattle.leaves.proofs.Holding.{held-some}
+use Rattle.leaves.proofs.Holding.{further, held-some}
 use Rattle.loading.proofs.Copying.{Written, written-none, written-more, written-all, word-some, word-none}
 use Rattle.loading.proofs.closed.Statement.{statement}
 use Rattle.loading.proofs.closed.Tie as tie
@@ -15,10 +15,10 @@ use Rattle.loading.proofs.closed.Lts as lts
 use Rattle.leaves.proofs.record.bit.Reads as bit-reads
 
 abbrev Inv-loop : tie.InvT-loop
-Inv-loop bindings₀ st mask v₀ bindings v = (v ≤ variables) × Written (held st) bindings v
+Inv-loop bindings₀ st v₀ bindings v = (v ≤ variables) × Written (held st) bindings v
 
 abbrev μ-loop : tie.MeasureT-loop
-μ-loop bindings₀ st mask v₀ bindings v = variables - v
+μ-loop bindings₀ st v₀ bindings v = variables - v
 
 loop-holds : tie.Need-loop-holds Inv-loop μ-loop
 loop-holds c = (omega arith, written-none (held (c .before .args .t2)) (c .before .args .bindings .now) (c .before .pre .0))
@@ -30,19 +30,19 @@ add-bindings : tie.Need-add-bindings Inv-loop μ-loop
 add-bindings c =
     let at-if = c .before .before in
     let at-bit = at-if .before in
-    let at-loop = at-bit .before .before in
+    let at-loop = at-bit .before .before .before in
     let start = at-loop .before .before in
     omega (
       arith,
       c .word-of .ensures,
       start .pre .1 _ _
-          (held-some (start .args .t2) (at-loop .loop .v) (omega arith) (sym (at-bit .bit .ensures) ∙ at-if .if1 .taken)),
+          (held-some further (start .args .t2) (at-loop .loop .v) (omega arith) (sym (at-bit .bit .ensures) ∙ at-if .if1 .taken)),
     )
 
 loop-again : tie.Need-loop-again Inv-loop μ-loop
 loop-again c =
     let at-bit = c .before in
-    let at-loop = at-bit .before .before in
+    let at-loop = at-bit .before .before .before in
     let start = at-loop .before .before in (
       omega arith,
       ⊎-elim
@@ -76,6 +76,6 @@ pub closed-spec : {M : Type 1} → statement M
 closed-spec =
     tie.close
     (tie.spec
-    Inv-loop μ-loop (λ c. search needs) loop-holds (λ c. search needs) (λ c. search needs) (λ c κs. search needs) word-of-requires
+    Inv-loop μ-loop loop-holds (λ c. search needs) (λ c. search needs) (λ c κs. search needs) word-of-requires
     add-bindings (λ c. search needs) (λ c. search needs) (λ c. search needs) (λ c. search needs) (λ c. search needs)
     (λ c. search needs) loop-again (λ c. search needs) returns)

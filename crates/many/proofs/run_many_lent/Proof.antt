@@ -207,7 +207,8 @@ loop-again c =
     let h = accepted-single ours γ (G .stands) _ (γ .subjects _ below) in
     let l = at-load .load .ensures in
     let at-run = c .before .before .before .before .before .before in
-    let e = ended-as _ h _ _ _ (table-loaded l) (entries-loaded (h .table) l) (hints-loaded (h .table) l) (at-run .before .before .before .before .before .opened .ensures) (at-start .fits .units .fits) refl _ _ _ (at-run .run-accepted .ensures) in
+    let e = ended-as _ h _ _ _ (table-loaded l) (entries-loaded (h .table) l) (hints-loaded (h .table) l) (at-run .before .before .before .before .before .opened .ensures)
+    (at-start .fits .units .fits) refl _ _ _ (at-run .run-accepted .ensures) in
     rw (c .before .before .put-five .ensures) (going-next ours γ _ _ _ _ G below _ _ (e .numbers) (e .words))
 
 cast-clear-from : tie.Need-cast-clear-from Inv-loop μ-loop
@@ -273,7 +274,8 @@ returns-3 c =
     let is = at-refusal .many-refusal .ensures (a .results .now) (a .units) refl in
     let γ = many-given ours g k _ is (at-if1 .if1 .left) .0 in
     let G = at-loop .loop .inv in
-    let last = going-last ours γ _ _ _ _ G (omega (arith, G .few, c .before .before .before .before .loop-test .left)) (omega (arith, at-load .before .before .if2 .left, G .few, c .before .before .before .before .loop-test .left)) in
+    let last = going-last ours γ _ _ _ _ G (omega (arith, G .few, c .before .before .before .before .loop-test .left))
+    (omega (arith, at-load .before .before .if2 .left, G .few, c .before .before .before .before .loop-test .left)) in
     (λ z. manyAtReturn (checked 0 0) (at-loop .loop .results) (c .before .before .clear-from .ensures z)) ∙ sym last ∙ many-ran ours g k _ is (at-if1 .if1 .left)
 
 pub run-many-lent-spec : {M : Type 1} → statement M

@@ -42,7 +42,7 @@ fn main() {
             let begin = processor_time();
             let numbers = collect(
                 &mut store,
-                &mut [0; 32],
+                &mut [0; 64],
                 &mut work,
                 nodes as u32,
                 nodes as u32 - 1,

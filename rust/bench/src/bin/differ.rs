@@ -171,7 +171,7 @@ fn many_agrees(case: &CallCase) -> bool {
 /// Whether the proved function and the plain one agree on a question.
 fn question_agrees(case: &FreeCase) -> bool {
     let (answer, place, mask) = twin::free_variables(&case.table, case.entry);
-    foreign::free_variables(&case.table, case.entry) == [answer, place, mask]
+    foreign::free_variables(&case.table, case.entry) == [answer.into(), place.into(), mask]
 }
 
 /// Compares all; gives the number of cases that differ.

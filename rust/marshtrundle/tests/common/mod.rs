@@ -282,15 +282,18 @@ fn comparison(name: &'static str, depth: usize, first: bool, answer: Answer) -> 
     run
 }
 
-/// Scopes that hide a bound variable, as dense as can be: one MATCH binds all 32 variables, then 32 scopes hide one each.
+/// Scopes that hide a bound variable, as dense as can be: one MATCH binds all variables, then a scope for each hides it.
 fn hiding() -> Deep {
-    let six = |from: usize| con(9, VARS[from..].iter().take(6).copied().map(var));
-    let binds = match_(con(9, [six(0), six(6), six(12), six(18), six(24), six(30)]));
+    let rows: Vec<Pattern> = VARS
+        .chunks(6)
+        .map(|row| con(9, row.iter().copied().map(var)))
+        .collect();
+    let binds = match_(con(9, rows.chunks(6).map(|part| con(9, part.to_vec()))));
     let cycle = |s: Strategy| {
         let scopes = VARS.iter().fold(s, |s, &v: &Var| scope([v], s));
         seq(binds.clone(), scopes)
     };
-    let endless = rec(|again| wrapped(122, cycle, again));
+    let endless = rec(|again| wrapped(61, cycle, again));
     let mut run = deep(
         "SCOPE of a bound variable",
         &endless,
@@ -298,8 +301,14 @@ fn hiding() -> Deep {
         Answer::TooDeep,
     );
     let leaf = run.store.node(0, &[]).unwrap();
-    let row = run.store.node(9, &[leaf; 6]).unwrap();
-    let last = run.store.node(9, &[leaf; 2]).unwrap();
-    run.subject = run.store.node(9, &[row, row, row, row, row, last]).unwrap();
+    let rows: Vec<Node> = VARS
+        .chunks(6)
+        .map(|row| run.store.node(9, &vec![leaf; row.len()]).unwrap())
+        .collect();
+    let parts: Vec<Node> = rows
+        .chunks(6)
+        .map(|part| run.store.node(9, part).unwrap())
+        .collect();
+    run.subject = run.store.node(9, &parts).unwrap();
     run
 }

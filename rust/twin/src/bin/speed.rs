@@ -4,19 +4,14 @@
 
 use std::time::Instant;
 use twin::checks::kind::{ALL, CALL, CHOICE, ID, LEFT, MATCH, PCON, PVAR, REC, SEQ};
+use twin::checks::row_of;
 use twin::{run, with_big_stack, Outcome};
 
 /// A table from rows of kind, argument and operands.
-fn table(rows: &[(u32, u32, &[u32])]) -> Vec<u32> {
-    let mut words = Vec::new();
-    for &(kind, argument, operands) in rows {
-        let mut row = [0; 8];
-        row[0] = 16 * kind + operands.len() as u32;
-        row[1] = argument;
-        row[2..2 + operands.len()].copy_from_slice(operands);
-        words.extend_from_slice(&row);
-    }
-    words
+fn table(rows: &[(u32, u64, &[u32])]) -> Vec<u32> {
+    rows.iter()
+        .flat_map(|&(kind, argument, operands)| row_of(kind, argument, operands))
+        .collect()
 }
 
 /// Sixteen levels of 5(k, k) over a constant: a tree of 131,071 positions in
@@ -41,7 +36,7 @@ fn measure(name: &str, table: &[u32], rounds: u32) {
     let mut last = None;
     for _ in 0..rounds {
         let mut store = store();
-        let mut bindings = [0; 32];
+        let mut bindings = [0; 64];
         let begin = Instant::now();
         let outcome: Outcome = run(table, &mut store, &mut bindings, 17, 0, 16, u32::MAX);
         spent += begin.elapsed().as_secs_f64();

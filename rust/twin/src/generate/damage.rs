@@ -1,6 +1,6 @@
 //! Damage to a table: one fault in an entry, or several.
 
-use crate::checks::{kind, sort_of, Sort, WIDTH};
+use crate::checks::{first_operand, kind, sort_of, Sort, WIDTH};
 use crate::random::Random;
 
 /// Another value for a word.
@@ -66,6 +66,7 @@ pub fn damage_table(random: &mut Random, table: &mut [u32]) {
 /// Gives an entry a fault. Some turn out to be harmless.
 fn one_fault(random: &mut Random, table: &mut [u32], first: usize) {
     let count = table[first] % 16;
+    let operands_at = first_operand(table[first] / 16);
     match random.below(12) {
         // A kind without a sort, or another kind.
         0 => table[first] = 16 * random.within(20, 300) + count,
@@ -75,7 +76,9 @@ fn one_fault(random: &mut Random, table: &mut [u32], first: usize) {
         3..=6 if count > 0 && count < 7 => bad_operand(random, table, first, count),
         7 | 8 => bad_argument(random, table, first),
         // An unused word.
-        9 if count < 6 => table[first + 2 + count as usize] = random.within(1, 3),
+        9 if operands_at + (count as usize) < WIDTH => {
+            table[first + operands_at + count as usize] = random.within(1, 3)
+        }
         10 => table[first + 7] = 1,
         _ => {
             let word = first + random.below(8) as usize;
@@ -88,7 +91,8 @@ fn one_fault(random: &mut Random, table: &mut [u32], first: usize) {
 fn bad_operand(random: &mut Random, table: &mut [u32], first: usize, count: u32) {
     let entries = (table.len() / WIDTH) as u32;
     let entry = (first / WIDTH) as u32;
-    let word = first + 2 + random.below(count) as usize;
+    let at = first_operand(table[first] / 16) + random.below(count) as usize;
+    let word = first + at.min(WIDTH - 1);
     let operand = table[word];
     match random.below(10) {
         0 => table[word] = entry,
@@ -135,9 +139,17 @@ fn bad_argument(random: &mut Random, table: &mut [u32], first: usize) {
     }
     table[first + 1] = match table[first] / 16 {
         kind::PATH => random.pick(&[0, 0, 6, 7, 7]),
-        kind::PVAR => random.pick(&[31, 32, 33, u32::MAX]),
+        kind::PVAR => random.pick(&[32, 63, 64, 65, u32::MAX]),
         kind::CONG | kind::PCON => random.pick(&[65_535, 65_536, u32::MAX]),
-        kind::SCOPE => random.pick(&[0, u32::MAX, 1 << 31]),
+        kind::SCOPE => {
+            // The other half too, or the operand in the word where 01 had it.
+            match random.below(3) {
+                0 => table[first + 2] = random.pick(&[0, u32::MAX, 1 << 31, 1]),
+                1 => table.swap(first + 2, first + 3),
+                _ => {}
+            }
+            random.pick(&[0, u32::MAX, 1 << 31])
+        }
         _ => random.pick(&[1, 2, u32::MAX]),
     }
 }

@@ -3,7 +3,7 @@
 
 use super::damage::damage_table;
 use super::runs::run_case;
-use crate::checks::{kind, sort_of, Sort, WIDTH};
+use crate::checks::{kind, row_of, sort_of, Sort, VARIABLES, WIDTH};
 use crate::random::Random;
 use crate::text::FreeCase;
 
@@ -43,11 +43,10 @@ fn dense(random: &mut Random, entries: u32) -> FreeCase {
     let mut patterns = Vec::new();
     let mut recs = Vec::new();
     let mut calls = Vec::new();
-    let mut sets: Vec<u32> = vec![0; entries as usize];
-    let pool = random.within(1, 32);
+    let mut sets: Vec<u64> = vec![0; entries as usize];
+    let pool = random.within(1, VARIABLES as u32);
     let cyclic = random.within(5, 40);
     for entry in (0..entries).rev() {
-        let row = &mut table[WIDTH * entry as usize..WIDTH * entry as usize + WIDTH];
         // Of two operands, mostly the one with more variables below it, calls
         // left aside.
         let choose = |random: &mut Random, all: &[u32]| {
@@ -90,33 +89,36 @@ fn dense(random: &mut Random, entries: u32) -> FreeCase {
             kind = random.pick(&[kind::PVAR, kind::ID, kind::PVAR]);
             count = 0;
         }
-        row[0] = 16 * kind + count;
-        row[1] = match kind {
-            kind::PVAR => random.below(pool),
-            kind::PATH => random.within(1, 6),
-            kind::CONG | kind::PCON => random.below(65_536),
-            kind::SCOPE => match random.below(4) {
-                0 => random.word() & random.word(),
+        let argument = match kind {
+            kind::PVAR => u64::from(random.below(pool)),
+            kind::PATH => u64::from(random.within(1, 6)),
+            kind::CONG | kind::PCON => u64::from(random.below(65_536)),
+            kind::SCOPE => match random.below(5) {
+                0 => random.bits() & random.bits(),
                 1 | 2 => 1 << random.below(pool),
-                _ => random.below(16),
+                3 => u64::from(random.word()) << (32 * random.below(2)),
+                _ => u64::from(random.below(16)),
             },
             _ => 0,
         };
+        let mut operands = vec![0; count as usize];
         let mut set = match kind {
-            kind::PVAR => 1 << row[1],
+            kind::PVAR => 1 << argument,
             _ => 0,
         };
         if kind == kind::CALL {
             calls.push(entry);
         } else {
-            for word in 2..2 + count as usize {
-                row[word] = choose(random, choices);
-                set |= sets[row[word] as usize];
+            for operand in &mut operands {
+                *operand = choose(random, choices);
+                set |= sets[*operand as usize];
             }
         }
         if kind == kind::SCOPE {
-            set &= !row[1];
+            set &= !argument;
         }
+        let row = row_of(kind, argument, &operands);
+        table[WIDTH * entry as usize..WIDTH * entry as usize + WIDTH].copy_from_slice(&row);
         sets[entry as usize] = set;
         match sort_of(kind) {
             Some(Sort::Pattern) => patterns.push(entry),

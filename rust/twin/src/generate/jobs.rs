@@ -1,7 +1,7 @@
 //! Job texts: sound ones, and texts damaged in every way.
 
 use super::runs::run_case;
-use crate::checks::WIDTH;
+use crate::checks::{first_operand, kind, mask_of, VARIABLES, WIDTH};
 use crate::random::Random;
 use crate::text::RunCase;
 
@@ -41,11 +41,11 @@ fn fits(case: &RunCase) -> bool {
         && case.store.len() % WIDTH == 0
         && case.store.len() <= WIDTH * 1_024
         && case.mark as usize <= case.store.len() / WIDTH
-        && case.bindings.len() == 32
+        && case.bindings.len() == VARIABLES
 }
 
 /// One line: a name and numbers.
-fn line(name: &str, numbers: &[u32]) -> Vec<u8> {
+fn line<N: ToString>(name: &str, numbers: &[N]) -> Vec<u8> {
     let mut text = name.to_string();
     for number in numbers {
         text.push('\t');
@@ -60,9 +60,15 @@ fn lines_of(case: &RunCase) -> Vec<Vec<u8>> {
     let room = (case.store.len() / WIDTH) as u32;
     let mut lines = vec![line("job", &[case.units, case.start, case.subject, room])];
     for row in case.table.chunks(WIDTH) {
+        let kind = row[0] / 16;
+        let argument = match kind {
+            kind::SCOPE => mask_of(row),
+            _ => u64::from(row[1]),
+        };
         let count = (row[0] % 16).min(6) as usize;
-        let mut numbers = vec![row[0] / 16, row[1]];
-        numbers.extend_from_slice(&row[2..2 + count]);
+        let mut numbers = vec![u64::from(kind), argument];
+        let operands = row[first_operand(kind)..].iter().take(count);
+        numbers.extend(operands.map(|&operand| u64::from(operand)));
         lines.push(line("e", &numbers));
     }
     for row in case.store.chunks(WIDTH).take(case.mark as usize) {
@@ -190,11 +196,12 @@ fn damage_lines(random: &mut Random, lines: &mut Vec<Vec<u8>>) {
         return;
     }
     let index = some_line(random, lines);
-    match random.below(20) {
+    match random.below(22) {
         0 | 1 => change_field(random, lines, |random, field| {
-            let limits: [&[u8]; 16] = [
-                b"31",
+            let limits: [&[u8]; 18] = [
                 b"32",
+                b"63",
+                b"64",
                 b"255",
                 b"256",
                 b"1024",
@@ -205,6 +212,7 @@ fn damage_lines(random: &mut Random, lines: &mut Vec<Vec<u8>>) {
                 b"131072",
                 b"4294967295",
                 b"4294967296",
+                b"18446744073709551615",
                 b"18446744073709551616",
                 b"99999999999999999999999",
                 b"0",
@@ -259,7 +267,7 @@ fn damage_lines(random: &mut Random, lines: &mut Vec<Vec<u8>>) {
                 b"job\t1\t0\t0\t1\n",
                 b"e\t0\t0\n",
                 b"n\t1\n",
-                b"b\t31\t0\n",
+                b"b\t63\t0\n",
                 b"b\t0\t0\n",
                 b"x\t1\n",
                 b"e\n",
@@ -271,7 +279,7 @@ fn damage_lines(random: &mut Random, lines: &mut Vec<Vec<u8>>) {
         // Bindings: in the wrong order, twice, or near a limit.
         13 | 14 => {
             let numbers = [
-                random.below(34),
+                random.below(66),
                 random.pick(&[0, 1, 2, 1_023, 131_071, 131_072]),
             ];
             lines.push(line("b", &numbers));
@@ -303,6 +311,29 @@ fn damage_lines(random: &mut Random, lines: &mut Vec<Vec<u8>>) {
             }
             lines[0] = fields.join(&b'\t');
             lines[0].push(b'\n');
+        }
+        // An argument of up to 64 bits and one past them, of a scope or another.
+        19 | 20 => {
+            let scopes: Vec<usize> = (0..lines.len())
+                .filter(|&other| lines[other].starts_with(b"e\t16\t"))
+                .collect();
+            let other = match scopes.is_empty() || random.chance(30) {
+                true => index,
+                false => random.pick(&scopes),
+            };
+            let mut fields = fields(&lines[other]);
+            if let Some(argument) = fields.get_mut(2) {
+                let most: [&[u8]; 5] = [
+                    b"4294967295",
+                    b"4294967296",
+                    b"18446744073709551615",
+                    b"18446744073709551616",
+                    b"9223372036854775808",
+                ];
+                *argument = random.pick(&most).to_vec();
+            }
+            lines[other] = fields.join(&b'\t');
+            lines[other].push(b'\n');
         }
         17 => {
             let names: [&[u8]; 7] = [b"E", b"ee", b"jobs", b"JOB", b"n ", b"", b"b"];

@@ -4,7 +4,7 @@
 //! its term, paths lie inside it. So most matches succeed, and some do not.
 
 use super::terms::{constant, Terms};
-use crate::checks::{kind, sort_of, Sort, WIDTH};
+use crate::checks::{kind, row_of, sort_of, Sort, VARIABLES, WIDTH};
 use crate::random::Random;
 
 /// A table being made. An entry is opened before its operands are made, so
@@ -22,13 +22,16 @@ pub struct Plan<'a> {
 
 /// Six variables for a case: the first, the last or any.
 pub fn pool(random: &mut Random) -> [u32; 6] {
-    match random.below(6) {
-        0..=2 => [0, 1, 2, 3, 4, 5],
-        3..=4 => [31, 30, 29, 28, 27, 26],
+    match random.below(8) {
+        0..=1 => [0, 1, 2, 3, 4, 5],
+        2..=3 => [63, 62, 61, 60, 59, 58],
+        // Pairs that a mask or a number cut to 32 bits would take for one.
+        4..=5 => [0, 32, 1, 33, 31, 63],
+        6 => [31, 32, 30, 33, 29, 34],
         _ => {
             let mut pool = [0; 6];
             for (place, name) in pool.iter_mut().enumerate() {
-                *name = 5 * place as u32 + random.below(5);
+                *name = 10 * place as u32 + random.below(10);
             }
             pool
         }
@@ -82,11 +85,9 @@ impl<'a> Plan<'a> {
         entry
     }
 
-    fn close(&mut self, entry: u32, argument: u32, operands: &[u32]) -> u32 {
-        let row = &mut self.rows[entry as usize];
-        row[0] += operands.len() as u32;
-        row[1] = argument;
-        row[2..2 + operands.len()].copy_from_slice(operands);
+    fn close(&mut self, entry: u32, argument: u64, operands: &[u32]) -> u32 {
+        let kind = self.rows[entry as usize][0] / 16;
+        self.rows[entry as usize] = row_of(kind, argument, operands);
         entry
     }
 
@@ -102,7 +103,7 @@ impl<'a> Plan<'a> {
     }
 
     /// An entry with one strategy operand, which is made by `make`.
-    fn over<F>(&mut self, kind: u32, argument: u32, make: F) -> u32
+    fn over<F>(&mut self, kind: u32, argument: u64, make: F) -> u32
     where
         F: FnOnce(&mut Plan<'a>) -> u32,
     {
@@ -142,17 +143,19 @@ impl<'a> Plan<'a> {
     /// A variable from a small pool, so that clashes are frequent.
     fn variable(&mut self) -> u32 {
         match self.random.below(30) {
-            0 => self.random.below(32),
+            0 => self.random.below(VARIABLES as u32),
             _ => self.random.pick(&self.pool),
         }
     }
 
     /// A mask over the pool, or any mask.
-    fn mask(&mut self) -> u32 {
+    fn mask(&mut self) -> u64 {
         match self.random.below(12) {
             0 => 0,
-            1 => u32::MAX,
-            2 => self.random.word(),
+            1 => self
+                .random
+                .pick(&[u64::MAX, u64::from(u32::MAX), u64::MAX << 32]),
+            2 => self.random.bits(),
             _ => {
                 let some = self.random.below(64);
                 self.pooled(some)
@@ -161,9 +164,9 @@ impl<'a> Plan<'a> {
     }
 
     /// The mask of those variables of the pool whose places `some` has.
-    fn pooled(&self, some: u32) -> u32 {
+    fn pooled(&self, some: u32) -> u64 {
         (0..6).fold(0, |mask, place| {
-            mask | (some >> place & 1) << self.pool[place]
+            mask | u64::from(some >> place & 1) << self.pool[place]
         })
     }
 
@@ -221,7 +224,7 @@ impl<'a> Plan<'a> {
             };
             met.push((name, focus));
             let entry = self.open(kind::PVAR);
-            return self.close(entry, name, &[]);
+            return self.close(entry, u64::from(name), &[]);
         }
         let entry = self.open(kind::PCON);
         let mut constructor = terms.constructor(focus);
@@ -241,7 +244,7 @@ impl<'a> Plan<'a> {
         if self.random.rarely(15) && !operands.is_empty() {
             operands.pop();
         }
-        self.close(entry, constructor, &operands)
+        self.close(entry, u64::from(constructor), &operands)
     }
 
     /// MATCH of a pattern cut from the focus.
@@ -265,7 +268,7 @@ impl<'a> Plan<'a> {
             if self.random.chance(constants) {
                 let entry = self.open(kind::PCON);
                 let constructor = constant(self.random);
-                return self.close(entry, constructor, &[]);
+                return self.close(entry, u64::from(constructor), &[]);
             }
             let entry = self.open(kind::PVAR);
             let name = if self.bound.is_empty() || self.random.chance(3) {
@@ -274,7 +277,7 @@ impl<'a> Plan<'a> {
                 let bound = &self.bound;
                 bound[self.random.below(bound.len() as u32) as usize]
             };
-            return self.close(entry, name, &[]);
+            return self.close(entry, u64::from(name), &[]);
         }
         let entry = self.open(kind::PCON);
         let count = match self.random.below(16) {
@@ -285,7 +288,7 @@ impl<'a> Plan<'a> {
         };
         let operands: Vec<u32> = (0..count).map(|_| self.construction(depth - 1)).collect();
         let constructor = self.random.within(3, 5);
-        self.close(entry, constructor, &operands)
+        self.close(entry, u64::from(constructor), &operands)
     }
 
     /// BUILD of something.
@@ -407,8 +410,8 @@ impl<'a> Plan<'a> {
             let pattern = plan.open(kind::PCON);
             let first = plan.construction(1);
             let second = plan.open(kind::PVAR);
-            let name = plan.random.below(32);
-            plan.close(second, name, &[]);
+            let name = plan.random.below(VARIABLES as u32);
+            plan.close(second, u64::from(name), &[]);
             let operands = match plan.random.below(3) {
                 0 => [second, first],
                 _ => [first, second],
@@ -584,7 +587,7 @@ impl<'a> Plan<'a> {
                     let side = plan.over(kind, 0, |plan| {
                         let pattern = plan.open(kind::PCON);
                         let name = plan.open(kind::PVAR);
-                        plan.close(pattern, constructor, &[name])
+                        plan.close(pattern, u64::from(constructor), &[name])
                     });
                     sides.push(side);
                 }
@@ -729,11 +732,13 @@ impl<'a> Plan<'a> {
                 let count = self.terms.children(focus).len() as u32;
                 if count == 0 || self.random.chance(8) {
                     let position = self.random.within(1, 6);
-                    return self.over(kind::PATH, position, there);
+                    return self.over(kind::PATH, u64::from(position), there);
                 }
                 let position = self.random.within(1, count);
                 let child = self.terms.children(focus)[position as usize - 1];
-                self.over(kind::PATH, position, |plan| plan.strategy(child, less))
+                self.over(kind::PATH, u64::from(position), |plan| {
+                    plan.strategy(child, less)
+                })
             }
             9 => {
                 let entry = self.open(kind::CONG);
@@ -751,7 +756,7 @@ impl<'a> Plan<'a> {
                 } else {
                     terms.constructor(focus)
                 };
-                self.close(entry, constructor, &operands)
+                self.close(entry, u64::from(constructor), &operands)
             }
             10 => self.over(kind::ALL, 0, there),
             11 => self.over(kind::ONE, 0, there),

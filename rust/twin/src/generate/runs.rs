@@ -3,7 +3,7 @@
 use super::damage::{damage_table, entry_of, odd};
 use super::plans::{pool, Plan};
 use super::terms::Terms;
-use crate::checks::{kind, NO_UNITS, WIDTH};
+use crate::checks::{kind, NO_UNITS, VARIABLES, WIDTH};
 use crate::engine::{run_watched, Outcome, Watcher, NO_MISS};
 use crate::random::Random;
 use crate::text::RunCase;
@@ -66,7 +66,7 @@ fn around(terms: &Terms, table: Vec<u32>, start: u32, subject: u32, room: u32) -
     RunCase {
         table,
         store,
-        bindings: vec![0; 32],
+        bindings: vec![0; VARIABLES],
         mark: terms.mark(),
         start,
         subject,
@@ -191,7 +191,7 @@ fn general(random: &mut Random) -> RunCase {
             _ => random.within(4, 24),
         };
         let terms = Terms::random(random, nodes);
-        let mut bindings = vec![0; 32];
+        let mut bindings = vec![0; VARIABLES];
         let pool = pool(random);
         let bound = bind_some(random, &terms, &pool, &mut bindings);
         let subject = if random.chance(80) {
@@ -247,7 +247,7 @@ fn other_start(random: &mut Random, case: &mut RunCase) {
 fn looping(random: &mut Random) -> RunCase {
     let nodes = random.within(1, 12);
     let terms = Terms::random(random, nodes);
-    let mut bindings = vec![0; 32];
+    let mut bindings = vec![0; VARIABLES];
     let pool = pool(random);
     let bound = bind_some(random, &terms, &pool, &mut bindings);
     let mut plan = Plan::new(random, &terms, pool, bound, 24);
@@ -462,7 +462,7 @@ pub(super) fn damage(random: &mut Random, case: &mut RunCase) {
             case.store = store;
         }
         4 => {
-            let length = random.pick(&[0, 1, 8, 31, 33, 40]);
+            let length = random.pick(&[0, 1, 32, 63, 65, 72]);
             case.bindings.resize(length, 0);
         }
         5 => {

@@ -5,13 +5,19 @@ pub use twin::checks::kind::*;
 use twin::{run, with_big_stack, Outcome};
 
 /// A table from rows of kind, argument and operands.
-pub fn table(rows: &[(u32, u32, &[u32])]) -> Vec<u32> {
+pub fn table(rows: &[(u32, u64, &[u32])]) -> Vec<u32> {
     let mut words = Vec::new();
     for &(kind, argument, operands) in rows {
         let mut row = [0; 8];
         row[0] = 16 * kind + operands.len() as u32;
-        row[1] = argument;
-        row[2..2 + operands.len()].copy_from_slice(operands);
+        row[1] = argument as u32;
+        // 02, wish 9: a scope's mask has two words.
+        let mut first = 2;
+        if kind == SCOPE {
+            row[2] = (argument >> 32) as u32;
+            first = 3;
+        }
+        row[first..first + operands.len()].copy_from_slice(operands);
         words.extend_from_slice(&row);
     }
     words
@@ -55,7 +61,7 @@ pub fn outcome(answer: u32, place: u32, subject: u32, mark: u32, units: u32) -> 
 
 /// Runs from entry 0 with three nodes in use.
 pub fn run_small(table: &[u32], store: Vec<u32>, subject: u32, units: u32) -> After {
-    run_with(table, store, vec![0; 32], 3, 0, subject, units)
+    run_with(table, store, vec![0; 64], 3, 0, subject, units)
 }
 
 /// Runs on a big stack.

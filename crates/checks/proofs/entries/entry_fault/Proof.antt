@@ -2,14 +2,14 @@
 -- Assumes nothing.
 use mathlib.Core.Path.{_≡_, refl, ap, sym, _∙_}
 use mathlib.Core.Bool.{true}
-use Prim.Native.Nat.{ℕ, _+_, _/_, _%_, _≤_}
+use Prim.Native.Nat.{ℕ, _+_, _-_, _/_, _%_, _≤_}
 use native.Mathlib.Omega.{arith}
 use borrow.Author.Needs.{needs}
 use borrow.Author.Tests.{eq-eqb, ne-eqb, not-true, not-false}
 use Rattle.checks.specs.Kinds.{ours, operandsFromBy, kind}
 use Rattle.checks.specs.Good.{kindOf, operandCount, countFits, argumentFitsBy, unusedZeroBy, faultBy}
 use Rattle.checks.proofs.Good.{counted}
-use Rattle.checks.proofs.Tables.{roomy}
+use Rattle.checks.proofs.Tables.{roomy, from-two}
 use Rattle.checks.proofs.entries.entry_fault.Statement.{statement}
 use Rattle.checks.proofs.entries.entry_fault.Tie as tie
 
@@ -33,26 +33,17 @@ returns c = rw (sym (count-is (c .before)) ∙ not-true _ (c .if1 .taken))
 count : (c : tie.Else1) → countFits (c .before .before .before .before .args .table .now) (c .before .before .before .before .args .e) ≡ true
 count c = sym (count-is (c .before)) ∙ not-false _ (c .if1 .left)
 
-argument-is : (c : tie.After-argument-fits)
-    → c .argument-fits .result
-    ≡ argumentFitsBy ours (c .before .before .before .before .before .before .args .table .now) (c .before .before .before .before .before .before .args .e)
-unfolding argumentFitsBy
-argument-is c = rw (← c .before .argument .ensures, ← kind-read (c .before .before .before .before)) (c .argument-fits .ensures)
-
-argument-requires : tie.Need-argument-requires
-argument-requires c κs = kind-read (c .before .before)
-
 argument-fits-requires : tie.Need-argument-fits-requires
-argument-fits-requires c κs = rw (kind-read (c .before .before .before)) (counted _ _ .0 (count (c .before)) .known)
+argument-fits-requires c κs = (kind-read (c .before .before), rw (kind-read (c .before .before)) (counted _ _ .0 (count c) .known))
 
 returns-2 : tie.Need-returns-2
 unfolding faultBy
-returns-2 c = rw (count (c .before .before .before), sym (argument-is (c .before)) ∙ not-true _ (c .if2 .taken))
+returns-2 c = rw (count (c .before .before), sym (c .before .argument-fits .ensures) ∙ not-true _ (c .if2 .taken))
 
 argument : (c : tie.Else2)
-    → argumentFitsBy ours (c .before .before .before .before .before .before .before .args .table .now) (c .before .before .before .before .before .before .before .args .e)
+    → argumentFitsBy ours (c .before .before .before .before .before .before .args .table .now) (c .before .before .before .before .before .before .args .e)
     ≡ true
-argument c = sym (argument-is (c .before)) ∙ not-false _ (c .if2 .left)
+argument c = sym (c .before .argument-fits .ensures) ∙ not-false _ (c .if2 .left)
 
 -- Past the first test the kind is known, and its operands have room.
 known : (c : tie.Else1) → c .before .before .word .result / 16 ≤ 19
@@ -67,7 +58,7 @@ room c =
 
 operands-fault-requires : tie.Need-operands-fault-requires
 operands-fault-requires c κs =
-    let e = c .before .before .before in
+    let e = c .before .before in
     let w = e .before .before in
     (kind-read w, (count-read w, (known e, room e)))
 
@@ -75,28 +66,39 @@ returns-3 : tie.Need-returns-3
 unfolding faultBy
 returns-3 c =
     rw (
-      count (c .before .before .before .before .before),
+      count (c .before .before .before .before),
       argument (c .before .before),
       ← c .before .operands-fault .ensures,
       ne-eqb _ _ (c .if3 .taken),
     )
 
-operands-from-requires : tie.Need-operands-from-requires
-operands-from-requires c κs = known (c .before .before .before .before .before)
+-- The words in use, and so the words after word 1 in use, have room.
+used : (c : tie.After-operands-from) → (c .operands-from .result + c .before .before .before .before .before .before .before .word .result % 16 ≤ 8) × (2 ≤ c .operands-from .result)
+used c =
+    let e = c .before .before .before .before .before in
+    (omega (arith, c .operands-from .ensures, room e), omega (arith, c .operands-from .ensures, from-two (e .before .before .word .result / 16)))
 
-add-zeros-from : tie.Need-add-zeros-from
-add-zeros-from c = omega (arith, c .operands-from .ensures, room (c .before .before .before .before .before .before))
+add-unused-zero : tie.Need-add-unused-zero
+add-unused-zero c = omega (arith, used c)
+
+sub-unused-zero : tie.Need-sub-unused-zero
+sub-unused-zero c = omega (arith, used c)
+
+unused-zero-requires : tie.Need-unused-zero-requires
+unused-zero-requires c κs = omega (arith, used c)
 
 -- What the test of the unused words says of the entry.
-unused-is : (c : tie.After-zeros-from)
-    → c .zeros-from .result
+unused-is : (c : tie.After-unused-zero)
+    → c .unused-zero .result
     ≡ unusedZeroBy ours
-    (c .before .before .before .before .before .before .before .before .before .before .before .args .table .now)
-    (c .before .before .before .before .before .before .before .before .before .before .before .args .e)
+    (c .before .before .before .before .before .before .before .before .before .before .args .table .now)
+    (c .before .before .before .before .before .before .before .before .before .before .args .e)
 unfolding unusedZeroBy
 unused-is c =
-    let w = c .before .before .before .before .before .before .before .before .before in
-    rw (← kind-read w, ← count-read w, ← c .before .operands-from .ensures) (c .zeros-from .ensures)
+    let f = c .before in
+    let w = f .before .before .before .before .before .before .before in
+    let z : 2 + (f .operands-from .result + w .word .result % 16 - 2) ≡ f .operands-from .result + w .word .result % 16 = omega (arith, used f) in
+    rw (← kind-read w, ← count-read w, ← f .operands-from .ensures, ← z) (c .unused-zero .ensures)
 
 returns-4 : tie.Need-returns-4
 unfolding faultBy
@@ -104,12 +106,12 @@ returns-4 c =
     let at-if3 = c .before .before .before in
     let at-operands = at-if3 .before in
     rw (
-      count (at-operands .before .before .before .before),
+      count (at-operands .before .before .before),
       argument (at-operands .before),
       ← at-operands .operands-fault .ensures,
       eq-eqb _ _ (at-if3 .if3 .left),
       ← unused-is (c .before),
-      not-true (c .before .zeros-from .result) (c .if4 .taken),
+      not-true (c .before .unused-zero .result) (c .if4 .taken),
     )
 
 returns-5 : tie.Need-returns-5
@@ -118,17 +120,17 @@ returns-5 c =
     let at-if3 = c .before .before .before in
     let at-operands = at-if3 .before in
     rw (
-      count (at-operands .before .before .before .before),
+      count (at-operands .before .before .before),
       argument (at-operands .before),
       ← at-operands .operands-fault .ensures,
       eq-eqb _ _ (at-if3 .if3 .left),
       ← unused-is (c .before),
-      not-false (c .before .zeros-from .result) (c .if4 .left),
+      not-false (c .before .unused-zero .result) (c .if4 .left),
     )
 
 pub entry-fault-spec : {M : Type 1} → statement M
 entry-fault-spec =
     tie.close
     (tie.spec
-    (λ c κs. search needs) (λ c κs. search needs) returns argument-requires argument-fits-requires returns-2
-    operands-fault-requires returns-3 operands-from-requires add-zeros-from (λ c κs. search needs) returns-4 returns-5)
+    (λ c κs. search needs) (λ c κs. search needs) returns argument-fits-requires returns-2 operands-fault-requires returns-3
+    (λ c κs. search needs) add-unused-zero sub-unused-zero unused-zero-requires returns-4 returns-5)

@@ -5,7 +5,7 @@ use Rattle.checks.proofs.kinds.highest_argument.Statement.{statement}
 use Rattle.checks.proofs.kinds.highest_argument.Tie as tie
 
 returns : tie.Need-returns
-returns c = at-kind (c .args .k) (c .pre) .high
+returns c = at-kind (c .args .k) (c .pre .0) .high (c .pre .1)
 
 pub highest-argument-spec : {M : Type 1} → statement M
 highest-argument-spec = tie.close (tie.spec (λ c. search needs) (λ c. search needs) returns)

@@ -50,11 +50,11 @@ returns-4 c =
       ← at-children-below .children-below .ensures,
       not-false (at-children-below .children-below .result) (at-if3 .if3 .left),
     )
-    (c .zeros-from .ensures ∙ child-zeros (at-word .before .before .args .store .now) (at-word .before .before .args .k) (at-word2 .word2 .result))
+    (c .unused-zero .ensures ∙ child-zeros (at-word .before .before .args .store .now) (at-word .before .before .args .k) (at-word2 .word2 .result))
 
 pub node-fits-spec : {M : Type 1} → statement M
 node-fits-spec =
     tie.close
     (tie.spec
     (λ c κs. search needs) returns (λ c κs. search needs) returns-2 (λ c κs. search needs) returns-3
-    (λ c. search needs) (λ c κs. search needs) returns-4)
+    (λ c κs. search needs) returns-4)

@@ -6,6 +6,7 @@ use Prim.Native.Nat.{_-_, _≤_}
 use borrow.Author.Needs.{needs}
 use native.Mathlib.Omega.{arith}
 use lib.ListN.{length}
+use Rattle.checks.specs.Kinds.{variables}
 use Rattle.job.specs.Written.{written}
 use Rattle.text.specs.Written.{Put}
 use Rattle.job.specs.Answer.{bindingLines}
@@ -14,10 +15,10 @@ use Rattle.job.proofs.answer.put_bindings.Statement.{statement}
 use Rattle.job.proofs.answer.put_bindings.Tie as tie
 
 abbrev Inv-loop : tie.InvT-loop
-Inv-loop buf₀ start bindings at₀ v₀ buf at v = (v ≤ 32) × (length buf ≡ length buf₀) × Put buf₀ start (written (bindingLines bindings v)) buf at
+Inv-loop buf₀ start bindings at₀ v₀ buf at v = (v ≤ variables) × (length buf ≡ length buf₀) × Put buf₀ start (written (bindingLines bindings v)) buf at
 
 abbrev μ-loop : tie.MeasureT-loop
-μ-loop buf₀ start bindings at₀ v₀ buf at v = 32 - v
+μ-loop buf₀ start bindings at₀ v₀ buf at v = variables - v
 
 loop-holds : tie.Need-loop-holds Inv-loop μ-loop
 loop-holds c = (omega arith, refl, bindings-none (c .before .before .args .buf .now) (c .before .before .args .bindings .now) (c .before .before .args .start))
@@ -39,12 +40,12 @@ loop-again c =
 
 returns : tie.Need-returns Inv-loop μ-loop
 returns c =
-    let e : c .before .loop .v ≡ 32 = omega arith in
+    let e : c .before .loop .v ≡ variables = omega arith in
     subst (λ (j : ℕ). Put (c .before .before .before .before .args .buf .now) (c .before .before .before .before .args .start) (written (bindingLines (c .before .before .before .before .args .bindings .now) j)) (c .before .loop .buf) (c .before .loop .at)) e (c .before .loop .inv .2)
 
 pub put-bindings-spec : {M : Type 1} → statement M
 put-bindings-spec =
     tie.close
     (tie.spec
-    Inv-loop μ-loop loop-holds put-binding-requires (λ c. search needs) (λ c. search needs) loop-again
+    Inv-loop μ-loop loop-holds (λ c. search needs) put-binding-requires (λ c. search needs) (λ c. search needs) loop-again
     (λ c. search needs) returns)

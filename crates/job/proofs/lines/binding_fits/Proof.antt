@@ -19,4 +19,5 @@ returns-3 c = rw (eq-eqb _ _ (c .before .if1 .left), lt-ltb _ _ (c .if2 .left))
 
 pub binding-fits-spec : {M : Type 1} → statement M
 binding-fits-spec =
-    tie.close (tie.spec returns (λ c. search needs) returns-2 (λ c. search needs) returns-3)
+    tie.close
+    (tie.spec returns (λ c. search needs) (λ c. search needs) returns-2 (λ c. search needs) returns-3)

@@ -1,5 +1,5 @@
 -- `job::read::entry_row` meets its contract. Assumes nothing.
-use mathlib.Core.Path.{refl}
+use borrow.Author.Tests.{eq-eqb, ne-eqb}
 use borrow.Author.Needs.{needs}
 use Rattle.job.specs.Lines.{entryRow}
 use Rattle.job.proofs.read.entry_row.Statement.{statement}
@@ -7,7 +7,11 @@ use Rattle.job.proofs.read.entry_row.Tie as tie
 
 returns : tie.Need-returns
 unfolding entryRow
-returns c = refl
+returns c = rw (eq-eqb _ _ (c .if1 .taken))
+
+returns-2 : tie.Need-returns-2
+unfolding entryRow
+returns-2 c = rw (ne-eqb _ _ (c .if1 .left))
 
 pub entry-row-spec : {M : Type 1} → statement M
 entry-row-spec =
@@ -15,4 +19,6 @@ entry-row-spec =
     (tie.spec
     (λ c. search needs) (λ c. search needs) (λ c. search needs) (λ c. search needs) (λ c. search needs)
     (λ c. search needs) (λ c. search needs) (λ c. search needs) (λ c. search needs) (λ c. search needs)
-    (λ c. search needs) returns)
+    (λ c. search needs) returns (λ c. search needs) (λ c. search needs) (λ c. search needs) (λ c. search needs)
+    (λ c. search needs) (λ c. search needs) (λ c. search needs) (λ c. search needs) (λ c. search needs)
+    (λ c. search needs) (λ c. search needs) returns-2)

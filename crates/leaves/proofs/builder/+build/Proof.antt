@@ -11,7 +11,7 @@ use Rattle.leaves.specs.Record.{standing, held}
 use Rattle.leaves.specs.Visits.{visit}
 use Rattle.leaves.proofs.AnswerWords.{done-node}
 use Rattle.leaves.proofs.Keeping.{roomy}
-use Rattle.leaves.proofs.Holding.{framed-refl}
+use Rattle.leaves.proofs.Holding.{further, framed-refl}
 use Rattle.leaves.proofs.Limited.{units-out, nesting-out}
 use Rattle.leaves.proofs.Patterns.{no-variable, operand-pattern}
 use Rattle.leaves.proofs.Building.{Built, variable-built, variable-unbound, built-none, built-all, built-more, build-stops}
@@ -67,10 +67,10 @@ below : (t : ℕ) (c : build-lts.In-loop (build-calls t) (build-at t) build.Post
 below t c = omega arith
 
 build-returns : (t : ℕ) → build-lts.Need-returns (build-calls t) (build-at t) build.Post build-Inv-loop build-μ-loop
-build-returns t c = λ k. record { is = units-out _ _ _ _ _ _ _ (c .no-units .ensures) (c .before .if1 .taken); frame = framed-refl _ }
+build-returns t c = λ k. record { is = units-out _ _ _ _ _ _ _ (c .no-units .ensures) (c .before .if1 .taken); frame = framed-refl further _ }
 
 build-returns-2 : (t : ℕ) → build-lts.Need-returns-2 (build-calls t) (build-at t) build.Post build-Inv-loop build-μ-loop
-build-returns-2 t c = λ k. record { is = nesting-out _ _ _ _ _ _ _ (c .no-nesting .ensures) (omega arith) (c .before .before .if1 .left) (c .before .if2 .taken); frame = framed-refl _ }
+build-returns-2 t c = λ k. record { is = nesting-out _ _ _ _ _ _ _ (c .no-nesting .ensures) (omega arith) (c .before .before .if1 .left) (c .before .if2 .taken); frame = framed-refl further _ }
 
 build-bit-requires : (t : ℕ) → build-lts.Need-bit-requires (build-calls t) (build-at t) build.Post build-Inv-loop build-μ-loop
 build-bit-requires t c κs = let v = small t (c .before) in omega arith
@@ -186,7 +186,7 @@ pub +build-spec : {M : Type 1} → statement M
     (build-at t)
     build.Post
     build-Inv-loop build-μ-loop (λ c κs. search needs) (build-returns t) (λ c κs. search needs) (build-returns-2 t)
-    (λ c. search needs) (λ c κs. search needs) (λ c κs. search needs) (λ c. search needs) (build-bit-requires t)
+    (λ c. search needs) (λ c κs. search needs) (λ c κs. search needs) (build-bit-requires t)
     (build-word-of-requires t) (λ c κs. search needs) (build-returns-3 t)
     (build-no-binding-requires t) (build-returns-4 t) (λ c κs. search needs) (λ c κs. search needs) (build-loop-holds t)
     (build-add-entry t) (build-entry-requires-3 t) (λ c. search needs) (build-build-requires t) (λ c κs. search needs)

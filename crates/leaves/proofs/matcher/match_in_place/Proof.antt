@@ -235,7 +235,7 @@ match-in-place-spec =
     (tie.spec
     Inv-loop μ-loop (λ c. search needs) (λ c. search needs) (λ c κs. search needs) loop-holds add-entry entry-requires
     add-word word-requires (λ c κs. search needs) returns (λ c. search needs) add-i kind-requires entry-requires-2
-    (λ c. search needs) bit-requires word-of-requires (λ c. search needs)
+    bit-requires word-of-requires (λ c. search needs)
     (λ c κs. search needs) (λ c κs. search needs) (λ c. search needs) (λ c κs. search needs) returns-2 loop-less loop-again
     put-variable-requires loop-less-2 loop-again-2 agree-requires (λ c. search needs) (λ c κs. search needs) returns-3 operands-requires-2
     (λ c κs. search needs) returns-4 (λ c. search needs) loop-less-3 loop-again-3 (λ c κs. search needs)

@@ -153,7 +153,7 @@ match-node-spec =
     tie.close
     (tie.spec
     (λ c. search needs) (λ c κs. search needs) returns (λ c κs. search needs) returns-2 (λ c. search needs)
-    (λ c κs. search needs) (λ c κs. search needs) (λ c. search needs) bit-requires
+    (λ c κs. search needs) (λ c κs. search needs) bit-requires
     word-of-requires (λ c. search needs) (λ c. search needs) (λ c κs. search needs)
     (λ c κs. search needs) (λ c. search needs) (λ c κs. search needs) returns-3 (λ c κs. search needs) returns-4 bind-requires
     (λ c. search needs) returns-5 (λ c κs. search needs) (λ c. search needs) (λ c. search needs) (λ c κs. search needs) returns-6

@@ -54,7 +54,7 @@ apply-walk-requires t c κs =
     let at-if1 = at-if2 .before in
     let at-kind = at-if1 .before in
     let start = at-kind .before .before in
-    (omega (arith, pos _ (at-if3 .if3 .left)), (ready-same (first-turn _ (start .pre .1) (start .fits .given .fits)) (at-if2 .if2 .left) (at-if3 .if3 .left), λ z. absurd (two-kinds (at-kind .kind .ensures) (at-if1 .if1 .left) z (omega arith))))
+    (omega (arith, pos _ (at-if3 .if3 .left)), (ready-same (first-turn _ (start .pre .1) (start .fits .given .fits)) (at-if2 .if2 .left) (at-if3 .if3 .left), (λ z. omega (arith, at-kind .kind .ensures, at-if1 .if1 .left, z), λ z. absurd (two-kinds (at-kind .kind .ensures) (at-if1 .if1 .left) z (omega arith)))))
 
 pub apply-same-length-3 : (t : ℕ) → apply-lts.Need-same-length-3 (apply-calls t) (apply-at t) apply.Post
 apply-same-length-3 t c = c .before .before .walk .kept .1 .0

@@ -1,4 +1,5 @@
-use Rattle.cycle.proofs.Looping.{Turn, first-turn, ends-units, ends-nesting, ready-next, ready-same, seq-returns, seq-turn, left-returns, left-turn, skip-turn, within, rec-turn, of-two, last-kind, five-up, whole, pos}
+use Rattle.leaves.proofs.Patterns.{operand-below}
+use Rattle.cycle.proofs.Looping.{no-scope, Turn, first-turn, ends-units, ends-nesting, ready-next, ready-same, seq-returns, seq-turn, left-returns, left-turn, skip-turn, within, rec-turn, of-two, last-kind, five-up, whole, pos}
 use mathlib.Core.Logic.{inl, inr, ⊎-elim}
 use Rattle.leaves.proofs.Keeping.{node-small}
 use Prim.Native.Nat.{ℕ, _<_, _≤_, _-_, _+_}
@@ -44,11 +45,13 @@ apply-loop-entry-requires t c κs = ((c .before .before .before .before .before 
 
 pub apply-loop-apply-requires : (t : ℕ) → apply-loop-lts.Need-apply-requires (apply-loop-calls t) (apply-loop-at t) apply-loop.Post apply-loop-Inv-loop apply-loop-μ-loop
 apply-loop-apply-requires t c κs =
-    let at-if2 = c .before .before .before .before .before in
+    let at-match = c .before .before .before in
+    let at-kind = at-match .before in
+    let at-if2 = at-kind .before in
     let at-if1 = at-if2 .before in
     let at-loop = at-if1 .before in
     let start = at-loop .before .before in
-    (omega (arith, (at-loop .loop .inv) .deeper, pos _ (at-if2 .if2 .left), start .pre .0), ready-next (at-loop .loop .inv) (at-if1 .if1 .left) (at-if2 .if2 .left) 0 _ (omega arith) (c .entry .ensures))
+    (omega (arith, (at-loop .loop .inv) .deeper, pos _ (at-if2 .if2 .left), start .pre .0), ready-next (at-loop .loop .inv) (at-if1 .if1 .left) (at-if2 .if2 .left) (λ z. omega (arith, at-kind .kind .ensures, at-match .match .keys1, z)) 0 _ (omega arith) (c .entry .ensures))
 
 pub apply-loop-same-length-3 : (t : ℕ) → apply-loop-lts.Need-same-length-3 (apply-loop-calls t) (apply-loop-at t) apply-loop.Post apply-loop-Inv-loop apply-loop-μ-loop
 apply-loop-same-length-3 t c = c .before .before .before .before .apply .kept .1 .0 ∙ (c .before .before .before .before .before .before .before .before .before .before .before .before .loop .inv) .long
@@ -94,7 +97,7 @@ apply-loop-visits-to-failure-requires t c κs =
     let at-match = at-if3 .before in
     let at-kind = at-match .before in
     let at-loop = at-kind .before .before .before in
-    ((at-loop .loop .inv) .ready .hints, (at-loop .loop .inv) .ready .inside, (at-loop .loop .inv) .ready .entries .operand _ 2 ((at-loop .loop .inv) .ready .inside) (omega arith), (of-two _ _ 5 (at-kind .kind .ensures) (five-up _ (at-match .match .rest .1) (at-if3 .if3 .left)) (at-if4 .if4 .taken)))
+    ((at-loop .loop .inv) .ready .hints, (at-loop .loop .inv) .ready .inside, operand-below _ ((at-loop .loop .inv) .ready .entries) _ 2 ((at-loop .loop .inv) .ready .inside) (no-scope (of-two _ _ 5 (at-kind .kind .ensures) (five-up _ (at-match .match .rest .1) (at-if3 .if3 .left)) (at-if4 .if4 .taken)) (omega arith) (omega arith)) (omega arith), (of-two _ _ 5 (at-kind .kind .ensures) (five-up _ (at-match .match .rest .1) (at-if3 .if3 .left)) (at-if4 .if4 .taken)))
 
 pub apply-loop-entry-requires-4 : (t : ℕ) → apply-loop-lts.Need-entry-requires-4 (apply-loop-calls t) (apply-loop-at t) apply-loop.Post apply-loop-Inv-loop apply-loop-μ-loop
 apply-loop-entry-requires-4 t c κs = ((c .before .before .before .before .before .before .before .before .before .before .loop .inv) .ready .inside, omega arith)
@@ -124,21 +127,25 @@ apply-loop-loop-again-2 t c =
 
 pub apply-loop-apply-loop-requires : (t : ℕ) → apply-loop-lts.Need-apply-loop-requires (apply-loop-calls t) (apply-loop-at t) apply-loop.Post apply-loop-Inv-loop apply-loop-μ-loop
 apply-loop-apply-loop-requires t c κs =
-    let at-entry3 = c .before .before .before .before .before .before .before in
-    let at-if2 = at-entry3 .before .before .before .before .before in
+    let at-entry3 = c .before .before .before .before .before .before .before .before in
+    let at-if4 = at-entry3 .before in
+    let at-if3 = at-if4 .before in
+    let at-match = at-if3 .before in
+    let at-kind = at-match .before in
+    let at-if2 = at-kind .before in
     let at-if1 = at-if2 .before in
     let at-loop = at-if1 .before in
     let start = at-loop .before .before in
-    (omega (arith, (at-loop .loop .inv) .deeper, pos _ (at-if2 .if2 .left), start .pre .0), ready-next (at-loop .loop .inv) (at-if1 .if1 .left) (at-if2 .if2 .left) 0 _ (omega arith) (at-entry3 .entry3 .ensures))
+    (omega (arith, (at-loop .loop .inv) .deeper, pos _ (at-if2 .if2 .left), start .pre .0), ready-next (at-loop .loop .inv) (at-if1 .if1 .left) (at-if2 .if2 .left) (no-scope (of-two _ _ 5 (at-kind .kind .ensures) (five-up _ (at-match .match .rest .1) (at-if3 .if3 .left)) (at-if4 .if4 .taken)) (omega arith) (omega arith)) 0 _ (omega arith) (at-entry3 .entry3 .ensures))
 
 pub apply-loop-same-length-4 : (t : ℕ) → apply-loop-lts.Need-same-length-4 (apply-loop-calls t) (apply-loop-at t) apply-loop.Post apply-loop-Inv-loop apply-loop-μ-loop
-apply-loop-same-length-4 t c = c .before .before .before .before .apply-loop .kept .1 .0 ∙ (c .before .before .before .before .before .before .before .before .before .before .before .before .before .before .before .before .before .before .before .loop .inv) .long
+apply-loop-same-length-4 t c = c .before .before .before .before .apply-loop .kept .1 .0 ∙ (c .before .before .before .before .before .before .before .before .before .before .before .before .before .before .before .before .before .before .before .before .loop .inv) .long
 
 pub apply-loop-returns-4 : (t : ℕ) → apply-loop-lts.Need-returns-4 (apply-loop-calls t) (apply-loop-at t) apply-loop.Post apply-loop-Inv-loop apply-loop-μ-loop
 apply-loop-returns-4 t c =
     let at-answer-of2 = c .before in
     let at-apply-loop = at-answer-of2 .before .before .before in
-    let at-entry3 = at-apply-loop .before .before .before .before .before .before .before .before in
+    let at-entry3 = at-apply-loop .before .before .before .before .before .before .before .before .before in
     let at-if4 = at-entry3 .before in
     let at-if3 = at-if4 .before in
     let at-match = at-if3 .before in
@@ -150,16 +157,16 @@ apply-loop-returns-4 t c =
 
 pub apply-loop-cast-done : (t : ℕ) → apply-loop-lts.Need-cast-done (apply-loop-calls t) (apply-loop-at t) apply-loop.Post apply-loop-Inv-loop apply-loop-μ-loop
 apply-loop-cast-done t c =
-    let at-if2 = c .before .before .before .before .before .before .before .before .before .before .before .before .before .before .before .before .before .before .before .before .before in
+    let at-if2 = c .before .before .before .before .before .before .before .before .before .before .before .before .before .before .before .before .before .before .before .before .before .before in
     let at-if1 = at-if2 .before in
     let at-loop = at-if1 .before in
     omega (arith, node-small ((at-loop .loop .inv) .ready .steady) _ (ready-same (at-loop .loop .inv) (at-if1 .if1 .left) (at-if2 .if2 .left) .subject))
 
 pub apply-loop-entry-requires-6 : (t : ℕ) → apply-loop-lts.Need-entry-requires-6 (apply-loop-calls t) (apply-loop-at t) apply-loop.Post apply-loop-Inv-loop apply-loop-μ-loop
-apply-loop-entry-requires-6 t c κs = ((c .before .before .before .before .before .before .before .before .before .before .before .before .before .before .before .before .before .before .before .before .before .before .before .before .loop .inv) .ready .inside, omega arith)
+apply-loop-entry-requires-6 t c κs = ((c .before .before .before .before .before .before .before .before .before .before .before .before .before .before .before .before .before .before .before .before .before .before .before .before .before .loop .inv) .ready .inside, omega arith)
 
 pub apply-loop-loop-less-3 : (t : ℕ) → apply-loop-lts.Need-loop-less-3 (apply-loop-calls t) (apply-loop-at t) apply-loop.Post apply-loop-Inv-loop apply-loop-μ-loop
-apply-loop-loop-less-3 t c = omega (arith, pos _ (c .before .before .before .before .before .before .before .before .before .before .before .before .before .before .before .before .before .before .before .before .before .before .before .if2 .left))
+apply-loop-loop-less-3 t c = omega (arith, pos _ (c .before .before .before .before .before .before .before .before .before .before .before .before .before .before .before .before .before .before .before .before .before .before .before .before .if2 .left))
 
 pub apply-loop-loop-again-3 : (t : ℕ) → apply-loop-lts.Need-loop-again-3 (apply-loop-calls t) (apply-loop-at t) apply-loop.Post apply-loop-Inv-loop apply-loop-μ-loop
 apply-loop-loop-again-3 t c =
@@ -168,7 +175,7 @@ apply-loop-loop-again-3 t c =
     let at-rest = at-restore .before .before .before in
     let at-answer-of2 = at-rest .before .before in
     let at-apply-loop = at-answer-of2 .before .before .before in
-    let at-entry3 = at-apply-loop .before .before .before .before .before .before .before .before in
+    let at-entry3 = at-apply-loop .before .before .before .before .before .before .before .before .before in
     let at-if4 = at-entry3 .before in
     let at-if3 = at-if4 .before in
     let at-match = at-if3 .before in
@@ -176,7 +183,7 @@ apply-loop-loop-again-3 t c =
     let at-if2 = at-kind .before in
     let at-if1 = at-if2 .before in
     let at-loop = at-if1 .before in
-    rw (at-restore .restore .ensures) (left-turn (at-loop .loop .inv) (at-if1 .if1 .left) (at-if2 .if2 .left) (at-entry3 .entry3 .ensures) (at-apply-loop .apply-loop .ensures) (at-answer-of2 .answer-of2 .ensures) (of-two _ _ 5 (at-kind .kind .ensures) (five-up _ (at-match .match .rest .1) (at-if3 .if3 .left)) (at-if4 .if4 .taken)) (c .entry6 .ensures) (at-rest .rest .given .1) (at-done .done .ensures) (at-apply-loop .apply-loop .kept .1 .0))
+    rw (at-restore .restore .ensures, at-apply-loop .before .before .before .mask-of .ensures) (left-turn (at-loop .loop .inv) (at-if1 .if1 .left) (at-if2 .if2 .left) (at-entry3 .entry3 .ensures) (at-apply-loop .apply-loop .ensures) (at-answer-of2 .answer-of2 .ensures) (of-two _ _ 5 (at-kind .kind .ensures) (five-up _ (at-match .match .rest .1) (at-if3 .if3 .left)) (at-if4 .if4 .taken)) (c .entry6 .ensures) (at-rest .rest .given .1) (at-done .done .ensures) (at-apply-loop .apply-loop .kept .1 .0))
 
 pub apply-loop-entry-requires-7 : (t : ℕ) → apply-loop-lts.Need-entry-requires-7 (apply-loop-calls t) (apply-loop-at t) apply-loop.Post apply-loop-Inv-loop apply-loop-μ-loop
 apply-loop-entry-requires-7 t c κs = ((c .before .before .before .before .before .before .before .loop .inv) .ready .inside, omega arith)
@@ -224,7 +231,7 @@ apply-loop-closed t =
     (apply-loop-kind-requires t) (apply-loop-entry-requires t) (apply-loop-apply-requires t) (λ c κs. search needs) (λ c. search needs)
     (apply-loop-same-length-3 t) (apply-loop-returns-3 t) (apply-loop-entry-requires-2 t) (apply-loop-loop-less t) (apply-loop-loop-again t)
     (apply-loop-entry-requires-3 t) (apply-loop-visits-to-failure-requires t) (apply-loop-entry-requires-4 t) (λ c. search needs) (λ c. search needs) (apply-loop-sub-s-2 t)
-    (apply-loop-entry-requires-5 t) (apply-loop-loop-less-2 t) (apply-loop-loop-again-2 t) (λ c. search needs) (λ c. search needs)
+    (apply-loop-entry-requires-5 t) (apply-loop-loop-less-2 t) (apply-loop-loop-again-2 t) (λ c. search needs) (λ c κs. search needs)
     (apply-loop-apply-loop-requires t) (λ c κs. search needs) (λ c. search needs) (apply-loop-same-length-4 t) (apply-loop-returns-4 t)
     (λ c κs. search needs) (apply-loop-cast-done t) (λ c κs. search needs) (apply-loop-entry-requires-6 t)
     (apply-loop-loop-less-3 t) (apply-loop-loop-again-3 t) (apply-loop-entry-requires-7 t) (apply-loop-loop-less-4 t) (apply-loop-loop-again-4 t)

@@ -48,9 +48,13 @@ use Rattle.leaves.proofs.reading.count.Reads as count-reads
 use Rattle.leaves.proofs.reading.entry.Reads as entry-reads
 use Rattle.leaves.proofs.reading.kind.Reads as kind-reads
 use Rattle.leaves.proofs.reading.row.Reads as row-reads
-use Rattle.leaves.proofs.record.hide.Reads as hide-reads
+use Rattle.leaves.proofs.reading.scope_mask.Reads as scope-mask-reads
+use Rattle.leaves.proofs.record.bound_in.Reads as bound-in-reads
+use Rattle.leaves.proofs.record.kept_words.Reads as kept-words-reads
+use Rattle.leaves.proofs.record.mask_of.Reads as mask-of-reads
 use Rattle.leaves.proofs.record.put_back.Reads as put-back-reads
 use Rattle.leaves.proofs.record.restore.Reads as restore-reads
+use Rattle.leaves.proofs.record.unbind.Reads as unbind-reads
 use Rattle.cycle.proofs.skipping.visits_to_failure.Reads as visits-to-failure-reads
 use Rattle.cycle.proofs.visits.child_at.Reads as child-at-reads
 use Rattle.cycle.proofs.visits.others_at.Reads as others-at-reads
@@ -58,7 +62,8 @@ use Rattle.cycle.proofs.visits.finish.Reads as finish-reads
 use Rattle.cycle.proofs.visits.entry_ahead.Reads as entry-ahead-reads
 use Rattle.cycle.proofs.visits.visits_ahead.Reads as visits-ahead-reads
 use Rattle.cycle.proofs.visits.operand.Reads as operand-reads
-use Rattle.cycle.proofs.visits.saved.Reads as saved-reads
+use Rattle.cycle.proofs.visits.saved_mark.Reads as saved-mark-reads
+use Rattle.cycle.proofs.visits.saved_mask.Reads as saved-mask-reads
 use Rattle.words.proofs.word.Reads as word-reads
 
 abbrev pub μ-apply : Measures 3 apply-kinds.ps ℕ
@@ -161,10 +166,10 @@ abbrev pub walk-below : ℕ → In 3 walk-kinds.ps
 walk-below t = and 3 walk-kinds.ps (falls 3 walk-kinds.ps _<_ μ-walk t) walk.Pre
 
 abbrev pub walk-calls : ℕ → walk-lts.Claims
-walk-calls t = (kind-reads.Asked, kind-reads.Learnt, count-reads.Asked, count-reads.Learnt, word-reads.Asked, word-reads.Learnt, visits-ahead-reads.Asked, visits-ahead-reads.Learnt, entry-ahead-reads.Asked, entry-ahead-reads.Learnt, no-units-reads.Asked, no-units-reads.Learnt, saved-reads.Asked, saved-reads.Learnt, operand-reads.Asked, operand-reads.Learnt, done-reads.Asked, done-reads.Learnt, apply-below t, apply.Post, attempt-of-reads.Asked, attempt-of-reads.Learnt, restore-reads.Asked, restore-reads.Learnt, child-at-reads.Asked, child-at-reads.Learnt, others-at-reads.Asked, others-at-reads.Learnt, finish-reads.Asked, finish-reads.Learnt)
+walk-calls t = (kind-reads.Asked, kind-reads.Learnt, count-reads.Asked, count-reads.Learnt, word-reads.Asked, word-reads.Learnt, visits-ahead-reads.Asked, visits-ahead-reads.Learnt, entry-ahead-reads.Asked, entry-ahead-reads.Learnt, no-units-reads.Asked, no-units-reads.Learnt, saved-mark-reads.Asked, saved-mark-reads.Learnt, saved-mask-reads.Asked, saved-mask-reads.Learnt, operand-reads.Asked, operand-reads.Learnt, done-reads.Asked, done-reads.Learnt, apply-below t, apply.Post, attempt-of-reads.Asked, attempt-of-reads.Learnt, restore-reads.Asked, restore-reads.Learnt, child-at-reads.Asked, child-at-reads.Learnt, others-at-reads.Asked, others-at-reads.Learnt, finish-reads.Asked, finish-reads.Learnt)
 
 abbrev pub scope-calls : ℕ → scope-lts.Claims
-scope-calls t = (entry-reads.Asked, entry-reads.Learnt, hiding-below t, hiding.Post, apply-below t, apply.Post, hide-reads.Asked, hide-reads.Learnt)
+scope-calls t = (scope-mask-reads.Asked, scope-mask-reads.Learnt, bound-in-reads.Asked, bound-in-reads.Learnt, hiding-below t, hiding.Post, entry-reads.Asked, entry-reads.Learnt, apply-below t, apply.Post, unbind-reads.Asked, unbind-reads.Learnt)
 
 abbrev pub rule-calls : ℕ → rule-lts.Claims
 rule-calls t = (kind-reads.Asked, kind-reads.Learnt, path-below t, path.Post, cong-below t, cong.Post, walk-below t, walk.Post, one-below t, one.Post, entry-reads.Asked, entry-reads.Learnt, match-node-reads.Asked, match-node-reads.Learnt, build-reads.Asked, build-reads.Learnt, scope-below t, scope.Post, keep-subject-below t, keep-subject.Post, guard-below t, guard.Post, failure-reads.Asked, failure-reads.Learnt)
@@ -173,13 +178,13 @@ abbrev pub path-calls : ℕ → path-lts.Claims
 path-calls t = (entry-reads.Asked, entry-reads.Learnt, failure-reads.Asked, failure-reads.Learnt, count-reads.Asked, count-reads.Learnt, word-reads.Asked, word-reads.Learnt, done-reads.Asked, done-reads.Learnt, apply-below t, apply.Post, answer-of-reads.Asked, answer-of-reads.Learnt, row-reads.Asked, row-reads.Learnt, node-reads.Asked, node-reads.Learnt)
 
 abbrev pub one-calls : ℕ → one-lts.Claims
-one-calls t = (count-reads.Asked, count-reads.Learnt, entry-reads.Asked, entry-reads.Learnt, word-reads.Asked, word-reads.Learnt, done-reads.Asked, done-reads.Learnt, apply-below t, apply.Post, attempt-of-reads.Asked, attempt-of-reads.Learnt, row-reads.Asked, row-reads.Learnt, node-reads.Asked, node-reads.Learnt, restore-reads.Asked, restore-reads.Learnt, failure-reads.Asked, failure-reads.Learnt)
+one-calls t = (count-reads.Asked, count-reads.Learnt, mask-of-reads.Asked, mask-of-reads.Learnt, entry-reads.Asked, entry-reads.Learnt, word-reads.Asked, word-reads.Learnt, done-reads.Asked, done-reads.Learnt, apply-below t, apply.Post, attempt-of-reads.Asked, attempt-of-reads.Learnt, row-reads.Asked, row-reads.Learnt, node-reads.Asked, node-reads.Learnt, restore-reads.Asked, restore-reads.Learnt, failure-reads.Asked, failure-reads.Learnt)
 
 abbrev pub hiding-calls : ℕ → hiding-lts.Claims
-hiding-calls t = (entry-reads.Asked, entry-reads.Learnt, hide-reads.Asked, hide-reads.Learnt, apply-below t, apply.Post, put-back-reads.Asked, put-back-reads.Learnt)
+hiding-calls t = (scope-mask-reads.Asked, scope-mask-reads.Learnt, bound-in-reads.Asked, bound-in-reads.Learnt, kept-words-reads.Asked, kept-words-reads.Learnt, unbind-reads.Asked, unbind-reads.Learnt, entry-reads.Asked, entry-reads.Learnt, apply-below t, apply.Post, put-back-reads.Asked, put-back-reads.Learnt)
 
 abbrev pub guard-calls : ℕ → guard-lts.Claims
-guard-calls t = (entry-reads.Asked, entry-reads.Learnt, apply-below t, apply.Post, attempt-of-reads.Asked, attempt-of-reads.Learnt, restore-reads.Asked, restore-reads.Learnt, kind-reads.Asked, kind-reads.Learnt, done-reads.Asked, done-reads.Learnt, failure-reads.Asked, failure-reads.Learnt)
+guard-calls t = (mask-of-reads.Asked, mask-of-reads.Learnt, entry-reads.Asked, entry-reads.Learnt, apply-below t, apply.Post, attempt-of-reads.Asked, attempt-of-reads.Learnt, restore-reads.Asked, restore-reads.Learnt, kind-reads.Asked, kind-reads.Learnt, done-reads.Asked, done-reads.Learnt, failure-reads.Asked, failure-reads.Learnt)
 
 abbrev pub cong-calls : ℕ → cong-lts.Claims
 cong-calls t = (agree-reads.Asked, agree-reads.Learnt, failure-reads.Asked, failure-reads.Learnt, walk-below t, walk.Post)
@@ -188,7 +193,7 @@ abbrev pub keep-subject-calls : ℕ → keep-subject-lts.Claims
 keep-subject-calls t = (entry-reads.Asked, entry-reads.Learnt, apply-below t, apply.Post, answer-of-reads.Asked, answer-of-reads.Learnt, done-reads.Asked, done-reads.Learnt)
 
 abbrev pub apply-loop-calls : ℕ → apply-loop-lts.Claims
-apply-loop-calls t = (no-units-reads.Asked, no-units-reads.Learnt, no-nesting-reads.Asked, no-nesting-reads.Learnt, kind-reads.Asked, kind-reads.Learnt, entry-reads.Asked, entry-reads.Learnt, apply-below t, apply.Post, answer-of-reads.Asked, answer-of-reads.Learnt, visits-to-failure-reads.Asked, visits-to-failure-reads.Learnt, apply-loop-below t, apply-loop.Post, restore-reads.Asked, restore-reads.Learnt, done-reads.Asked, done-reads.Learnt, rule-below t, rule.Post)
+apply-loop-calls t = (no-units-reads.Asked, no-units-reads.Learnt, no-nesting-reads.Asked, no-nesting-reads.Learnt, kind-reads.Asked, kind-reads.Learnt, entry-reads.Asked, entry-reads.Learnt, apply-below t, apply.Post, answer-of-reads.Asked, answer-of-reads.Learnt, visits-to-failure-reads.Asked, visits-to-failure-reads.Learnt, mask-of-reads.Asked, mask-of-reads.Learnt, apply-loop-below t, apply-loop.Post, restore-reads.Asked, restore-reads.Learnt, done-reads.Asked, done-reads.Learnt, rule-below t, rule.Post)
 
 abbrev pub apply-calls : ℕ → apply-lts.Claims
 apply-calls t = (kind-reads.Asked, kind-reads.Learnt, apply-loop-below t, apply-loop.Post, no-units-reads.Asked, no-units-reads.Learnt, no-nesting-reads.Asked, no-nesting-reads.Learnt, count-reads.Asked, count-reads.Learnt, walk-below t, walk.Post)

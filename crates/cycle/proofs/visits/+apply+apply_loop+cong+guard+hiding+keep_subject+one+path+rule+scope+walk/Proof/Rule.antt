@@ -1,6 +1,7 @@
 use Rattle.cycle.proofs.Looping.{of-two, two-kinds}
 use mathlib.Core.Logic.{inl, inr, ⊎-elim}
 use Rattle.cycle.proofs.Returning.{renamed, gives-id, gives-failure, ruled-none, no-rule, match-pattern, build-pattern}
+use Rattle.leaves.proofs.Patterns.{operand-below}
 use Rattle.cycle.proofs.Ruling.{matchable, ready-operand, ruled-all, ruled-some, ruled-match, ruled-build}
 use Prim.Native.Nat.{ℕ, _<_, _≤_, _-_, _+_}
 use mathlib.Core.Path.{_≡_, refl, sym, ap, _∙_}
@@ -20,13 +21,13 @@ pub rule-cong-requires : (t : ℕ) → rule-lts.Need-cong-requires (rule-calls t
 rule-cong-requires t c κs = (omega arith, ((c .before .before .before .before .before .pre .1 .0), sym (c .before .before .before .kind .ensures) ∙ c .before .before .match .keys3))
 
 pub rule-walk-requires : (t : ℕ) → rule-lts.Need-walk-requires (rule-calls t) (rule-at t) rule.Post
-rule-walk-requires t c κs = (omega arith, ((c .before .before .before .before .before .pre .1 .0), λ z. absurd (two-kinds (c .before .before .before .kind .ensures) (c .before .before .match .keys4) z (omega arith))))
+rule-walk-requires t c κs = (omega arith, ((c .before .before .before .before .before .pre .1 .0), (λ z. omega (arith, c .before .before .before .kind .ensures, c .before .before .match .keys4, z), λ z. absurd (two-kinds (c .before .before .before .kind .ensures) (c .before .before .match .keys4) z (omega arith)))))
 
 pub rule-one-requires : (t : ℕ) → rule-lts.Need-one-requires (rule-calls t) (rule-at t) rule.Post
 rule-one-requires t c κs = (omega arith, ((c .before .before .before .before .before .pre .1 .0), sym (c .before .before .before .kind .ensures) ∙ c .before .before .match .keys5))
 
 pub rule-walk-requires-2 : (t : ℕ) → rule-lts.Need-walk-requires-2 (rule-calls t) (rule-at t) rule.Post
-rule-walk-requires-2 t c κs = (omega arith, ((c .before .before .before .before .before .pre .1 .0), λ z. absurd (two-kinds (c .before .before .before .kind .ensures) (c .before .before .match .keys6) z (omega arith))))
+rule-walk-requires-2 t c κs = (omega arith, ((c .before .before .before .before .before .pre .1 .0), (λ z. omega (arith, c .before .before .before .kind .ensures, c .before .before .match .keys6, z), λ z. absurd (two-kinds (c .before .before .before .kind .ensures) (c .before .before .match .keys6) z (omega arith)))))
 
 pub rule-entry-requires : (t : ℕ) → rule-lts.Need-entry-requires (rule-calls t) (rule-at t) rule.Post
 rule-entry-requires t c κs = ((c .before .before .before .before .before .pre .1 .0) .inside, omega arith)
@@ -36,7 +37,7 @@ rule-match-node-requires t c κs =
     let at-match = c .before .before .before in
     let at-kind = at-match .before in
     let start = at-kind .before .before in
-    (matchable (ready-operand (start .pre .1 .0) 0 _ _ (omega arith) (c .entry .ensures) ((start .pre .1 .0) .subject)), match-pattern (start .pre .1 .0) _ (c .entry .ensures) (at-kind .kind .ensures) (at-match .match .keys7))
+    (matchable (ready-operand (start .pre .1 .0) (λ z. omega (arith, at-kind .kind .ensures, at-match .match .keys7, z)) 0 _ _ (omega arith) (c .entry .ensures) ((start .pre .1 .0) .subject)), match-pattern (start .pre .1 .0) _ (c .entry .ensures) (at-kind .kind .ensures) (at-match .match .keys7))
 
 pub rule-entry-requires-2 : (t : ℕ) → rule-lts.Need-entry-requires-2 (rule-calls t) (rule-at t) rule.Post
 rule-entry-requires-2 t c κs = ((c .before .before .before .before .before .pre .1 .0) .inside, omega arith)
@@ -46,7 +47,7 @@ rule-build-requires t c κs =
     let at-match = c .before .before .before in
     let at-kind = at-match .before in
     let start = at-kind .before .before in
-    ((start .pre .1 .0) .entries, rw (c .entry2 .ensures) ((start .pre .1 .0) .entries .operand _ 0 ((start .pre .1 .0) .inside) (omega arith)), build-pattern (start .pre .1 .0) _ (c .entry2 .ensures) (at-kind .kind .ensures) (at-match .match .keys8), (start .pre .1 .0) .steady, (start .pre .1 .0) .long)
+    ((start .pre .1 .0) .entries, rw (c .entry2 .ensures) (operand-below _ ((start .pre .1 .0) .entries) _ 0 ((start .pre .1 .0) .inside) (λ z. omega (arith, at-kind .kind .ensures, at-match .match .keys8, z)) (omega arith)), build-pattern (start .pre .1 .0) _ (c .entry2 .ensures) (at-kind .kind .ensures) (at-match .match .keys8), (start .pre .1 .0) .steady, (start .pre .1 .0) .long)
 
 pub rule-scope-requires : (t : ℕ) → rule-lts.Need-scope-requires (rule-calls t) (rule-at t) rule.Post
 rule-scope-requires t c κs = (omega arith, ((c .before .before .before .before .before .pre .1 .0), sym (c .before .before .before .kind .ensures) ∙ c .before .before .match .keys9))

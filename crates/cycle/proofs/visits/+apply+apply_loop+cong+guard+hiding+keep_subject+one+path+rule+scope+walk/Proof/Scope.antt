@@ -1,6 +1,6 @@
 -- SCOPE, where nothing masked is bound: the operand runs on the record as it is, and what it bound of the mask is unbound.
-use Rattle.cycle.proofs.Ruling.{ready-operand}
-use Rattle.cycle.proofs.Scoping.{gives-scope}
+use Rattle.cycle.proofs.Scoping.{ready-scope, gives-scope}
+use mathlib.Core.Path.{sym, _∙_}
 use Prim.Native.Nat.{ℕ}
 use borrow.Author.Needs.{needs}
 use native.Mathlib.Omega.{arith}
@@ -8,33 +8,36 @@ use Rattle.cycle.proofs.visits.scope.Reads as scope
 use Rattle.cycle.proofs.visits.+apply+apply_loop+cong+guard+hiding+keep_subject+one+path+rule+scope+walk.Lts-scope as scope-lts
 use Rattle.cycle.proofs.visits.+apply+apply_loop+cong+guard+hiding+keep_subject+one+path+rule+scope+walk.Proof.Common.{scope-at, scope-calls}
 
-pub scope-entry-requires : (t : ℕ) → scope-lts.Need-entry-requires (scope-calls t) (scope-at t) scope.Post
-scope-entry-requires t c κs = ((c .before .pre .1 .0) .inside, omega arith)
+pub scope-scope-mask-requires : (t : ℕ) → scope-lts.Need-scope-mask-requires (scope-calls t) (scope-at t) scope.Post
+scope-scope-mask-requires t c κs = c .before .pre .1 .0 .inside
 
 pub scope-hiding-requires : (t : ℕ) → scope-lts.Need-hiding-requires (scope-calls t) (scope-at t) scope.Post
-scope-hiding-requires t c κs = (omega arith, c .before .before .before .before .before .before .pre .1)
+scope-hiding-requires t c κs = (omega arith, c .before .before .before .before .before .before .before .pre .1)
 
 pub scope-returns : (t : ℕ) → scope-lts.Need-returns (scope-calls t) (scope-at t) scope.Post
 scope-returns t c = c .before .before .hiding .ensures
 
-pub scope-entry-requires-2 : (t : ℕ) → scope-lts.Need-entry-requires-2 (scope-calls t) (scope-at t) scope.Post
-scope-entry-requires-2 t c κs = ((c .before .before .before .before .before .before .pre .1 .0) .inside, omega arith)
+pub scope-entry-requires : (t : ℕ) → scope-lts.Need-entry-requires (scope-calls t) (scope-at t) scope.Post
+scope-entry-requires t c κs = (c .before .before .before .before .before .before .before .pre .1 .0 .inside, omega arith)
 
 pub scope-apply-requires : (t : ℕ) → scope-lts.Need-apply-requires (scope-calls t) (scope-at t) scope.Post
-scope-apply-requires t c κs = (omega arith, ready-operand (c .before .before .before .before .before .before .before .pre .1 .0) 0 _ _ (omega arith) (c .entry2 .ensures) ((c .before .before .before .before .before .before .before .pre .1 .0) .subject))
+scope-apply-requires t c κs =
+    let at-scope-mask = c .before .before .before .before .before .before in
+    let start = at-scope-mask .before .before in
+    (omega arith, ready-scope (start .args .deep) (start .pre .1 .0) (at-scope-mask .scope-mask .ensures) (omega (arith, at-scope-mask .scope-mask .ok)) (c .entry .ensures) (start .pre .1 .1))
 
 pub scope-returns-2 : (t : ℕ) → scope-lts.Need-returns-2 (scope-calls t) (scope-at t) scope.Post
 scope-returns-2 t c =
     let at-apply = c .before .before .before .before in
-    let at-entry2 = at-apply .before in
-    let at-if1 = at-entry2 .before .before .before in
-    let at-entry = at-if1 .before .before in
-    let start = at-entry .before .before in
-    gives-scope _ (start .pre .1 .0) (at-entry .entry .ensures) (omega (arith, at-entry .entry .ok)) (at-entry2 .entry2 .ensures) (at-apply .apply .ensures) (start .pre .1 .1) (at-if1 .if1 .left) (c .hide .ensures)
+    let at-entry = at-apply .before in
+    let at-if1 = at-entry .before .before .before in
+    let at-bound-in = at-if1 .before in
+    let at-scope-mask = at-bound-in .before .before in
+    let start = at-scope-mask .before .before in
+    gives-scope _ (start .pre .1 .0) (at-scope-mask .scope-mask .ensures) (omega (arith, at-scope-mask .scope-mask .ok)) (at-entry .entry .ensures) (start .pre .1 .1) (at-apply .apply .ensures) (sym (at-bound-in .bound-in .ensures) ∙ at-if1 .if1 .left) (c .unbind .ensures)
 
 pub scope-closed : {M : Type 1} (t : ℕ) → scope-lts.Closed (scope-calls t) (scope-at t) scope.Post M
 scope-closed t =
     scope-lts.spec (scope-calls t) (scope-at t) scope.Post
-    (scope-entry-requires t) (λ c. search needs) (scope-hiding-requires t) (λ c. search needs) (scope-returns t)
-    (scope-entry-requires-2 t) (scope-apply-requires t) (λ c. search needs) (λ c κs. search needs) (λ c. search needs)
-    (λ c. search needs) (scope-returns-2 t)
+    (scope-scope-mask-requires t) (λ c κs. search needs) (scope-hiding-requires t) (λ c. search needs) (scope-returns t)
+    (scope-entry-requires t) (scope-apply-requires t) (λ c κs. search needs) (λ c. search needs) (scope-returns-2 t)

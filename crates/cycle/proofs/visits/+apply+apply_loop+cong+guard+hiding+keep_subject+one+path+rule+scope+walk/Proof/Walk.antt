@@ -142,9 +142,9 @@ walk-loop-again t c =
     let at-apply = at-attempt-of .before .before .before in
     let at-done = at-apply .before in
     let at-operand = at-done .before in
-    let at-saved2 = at-operand .before .before .before in
-    let at-saved = at-saved2 .before .before in
-    let at-word2 = at-saved .before .before in
+    let at-saved-mask = at-operand .before .before .before in
+    let at-saved-mark = at-saved-mask .before .before in
+    let at-word2 = at-saved-mark .before .before in
     let at-if1 = at-word2 .before .before in
     let at-loop-test = at-if1 .before in
     let at-loop = at-loop-test .before in
@@ -153,7 +153,7 @@ walk-loop-again t c =
     let at-count = at-visits-ahead .before .before .before in
     let at-kind = at-count .before .before in
     let start = at-kind .before .before in
-    (⊎-elim (λ j. going-yes (start .pre .1 .0) (start .pre .1 .1) (at-loop .loop .inv .0) (omega (arith, at-count .count .ensures, at-loop-test .loop-test .taken)) refl (at-kind .kind .ensures) (at-word2 .word2 .ensures) refl (ahead-gives (start .pre .1 .0) (start .pre .1 .1) (at-loop .loop .inv .0) (omega (arith, at-count .count .ensures, at-loop-test .loop-test .taken)) _ _ (at-visits-ahead .visits-ahead .ensures) (at-kind .kind .ensures) (at-entry-ahead .entry-ahead .ensures) (at-operand .operand .ensures) (at-word2 .word2 .ensures) (at-done .done .ensures) (omega (arith, at-if1 .if1 .left)) (at-apply .apply .ensures)) (at-attempt-of .attempt-of .ensures) (at-yes .yes .given .1) (j .0 .taken) (j .1) (j .2) (placed (at-loop .loop .i) _ _ _ (at-loop .loop .a) (at-loop .loop .b) (at-loop .loop .others) (at-child .child-at .ensures) (at-child2 .child-at2 .ensures) (c .others-at .ensures) (j .3))) (λ j. going-no (start .pre .1 .0) (start .pre .1 .1) (at-loop .loop .inv .0) (omega (arith, at-count .count .ensures, at-loop-test .loop-test .taken)) refl (at-kind .kind .ensures) (at-word2 .word2 .ensures) refl (ahead-gives (start .pre .1 .0) (start .pre .1 .1) (at-loop .loop .inv .0) (omega (arith, at-count .count .ensures, at-loop-test .loop-test .taken)) _ _ (at-visits-ahead .visits-ahead .ensures) (at-kind .kind .ensures) (at-entry-ahead .entry-ahead .ensures) (at-operand .operand .ensures) (at-word2 .word2 .ensures) (at-done .done .ensures) (omega (arith, at-if1 .if1 .left)) (at-apply .apply .ensures)) (at-attempt-of .attempt-of .ensures) (at-yes .yes .given .1) (j .0 .left) (at-kind .kind .ensures) (j .1 .left) (at-saved .saved .ensures) (at-saved2 .saved2 .ensures) (j .4 ∙ j .3 .ensures) (j .5) (placed (at-loop .loop .i) _ _ _ (at-loop .loop .a) (at-loop .loop .b) (at-loop .loop .others) (at-child .child-at .ensures) (at-child2 .child-at2 .ensures) (c .others-at .ensures) (j .6))) (at-if2 .if2 .came), four-still (at-loop .loop .others) (at-loop .loop .i) (at-if2 .if2 .y) (at-loop .loop .inv .1) (c .others-at .ensures))
+    (⊎-elim (λ j. going-yes (start .pre .1 .0) (start .pre .1 .1) (at-loop .loop .inv .0) (omega (arith, at-count .count .ensures, at-loop-test .loop-test .taken)) refl (at-kind .kind .ensures) (at-word2 .word2 .ensures) refl (ahead-gives (start .pre .1 .0) (start .pre .1 .1) (at-loop .loop .inv .0) (omega (arith, at-count .count .ensures, at-loop-test .loop-test .taken)) _ _ (at-visits-ahead .visits-ahead .ensures) (at-kind .kind .ensures) (at-entry-ahead .entry-ahead .ensures) (at-operand .operand .ensures) (at-word2 .word2 .ensures) (at-done .done .ensures) (omega (arith, at-if1 .if1 .left)) (at-apply .apply .ensures)) (at-attempt-of .attempt-of .ensures) (at-yes .yes .given .1) (j .0 .taken) (j .1) (j .2) (placed (at-loop .loop .i) _ _ _ (at-loop .loop .a) (at-loop .loop .b) (at-loop .loop .others) (at-child .child-at .ensures) (at-child2 .child-at2 .ensures) (c .others-at .ensures) (j .3))) (λ j. going-no (start .pre .1 .0) (start .pre .1 .1) (at-loop .loop .inv .0) (omega (arith, at-count .count .ensures, at-loop-test .loop-test .taken)) refl (at-kind .kind .ensures) (at-word2 .word2 .ensures) refl (ahead-gives (start .pre .1 .0) (start .pre .1 .1) (at-loop .loop .inv .0) (omega (arith, at-count .count .ensures, at-loop-test .loop-test .taken)) _ _ (at-visits-ahead .visits-ahead .ensures) (at-kind .kind .ensures) (at-entry-ahead .entry-ahead .ensures) (at-operand .operand .ensures) (at-word2 .word2 .ensures) (at-done .done .ensures) (omega (arith, at-if1 .if1 .left)) (at-apply .apply .ensures)) (at-attempt-of .attempt-of .ensures) (at-yes .yes .given .1) (j .0 .left) (at-kind .kind .ensures) (j .1 .left) (at-saved-mark .saved-mark .ensures) (at-saved-mask .saved-mask .ensures) (j .4 ∙ j .3 .ensures) (j .5) (placed (at-loop .loop .i) _ _ _ (at-loop .loop .a) (at-loop .loop .b) (at-loop .loop .others) (at-child .child-at .ensures) (at-child2 .child-at2 .ensures) (c .others-at .ensures) (j .6))) (at-if2 .if2 .came), four-still (at-loop .loop .others) (at-loop .loop .i) (at-if2 .if2 .y) (at-loop .loop .inv .1) (c .others-at .ensures))
 
 pub walk-finish-requires : (t : ℕ) → walk-lts.Need-finish-requires (walk-calls t) (walk-at t) walk.Post walk-Inv-loop walk-μ-loop
 walk-finish-requires t c κs =
