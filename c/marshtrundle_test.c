@@ -1,7 +1,6 @@
 /*
- * Calls the library by its C header: the job of document 01, the refusals, a signature, many subjects, the collection, and null
- * with length 0 everywhere. Prints what is
- * wrong, or one line that nothing is. Plain C99. Of the C library it takes puts alone, and declares it, so that it compiles
+ * Calls the library by its C header: the job of document 01, the refusals, a signature, many subjects, the collection, rules as text,
+ * and null with length 0 everywhere. Prints what is wrong, or one line that nothing is. Plain C99. Of the C library it takes puts alone, and declares it, so that it compiles
  * where the C library's headers are not at hand.
  */
 #include "marshtrundle.h"
@@ -377,6 +376,111 @@ static void collection(void)
     hold(same(store, after, 32) && same(work, dirty, 5) && bindings[7] == 2, "a refused collection wrote something");
 }
 
+/* Rules as text. Room for 32 entries, of which entries 0 and 1 are in use: a REC that is the identity. */
+static uint32_t rules[256];
+static uint64_t read[4];
+
+static void fresh_rules(void)
+{
+    size_t i;
+    for (i = 0; i < 256; i++)
+        rules[i] = i < 16 ? 0 : 7777;
+    rules[0] = MT_ENTRY(MT_REC, 1);
+    rules[2] = 1;
+}
+
+static size_t bytes(const char *text)
+{
+    size_t n = 0;
+    while (text[n])
+        n++;
+    return n;
+}
+
+static void translate(uint32_t used, const char *text)
+{
+    mt_translate_rules(rules, 256, used, (const uint8_t *)text, bytes(text), read);
+}
+
+/* A text is refused with these numbers, and the table stays as lent. */
+static void bad_rules(const char *text, uint64_t answer, uint64_t line, uint64_t field, const char *what)
+{
+    size_t i, kept = 1;
+    fresh_rules();
+    translate(2, text);
+    hold(read[MT_ANSWER] == answer && read[MT_LINE] == line && read[MT_FIELD] == field && read[MT_USED] == 2, what);
+    for (i = 16; i < 256; i++)
+        kept = kept && rules[i] == 7777;
+    hold(kept && rules[0] == MT_ENTRY(MT_REC, 1) && rules[2] == 1, what);
+}
+
+static void rules_as_text(void)
+{
+    static const char swap[] = "5\t2\tv0\tv1\t5\t2\tv1\tv0\n";
+    static const char where[] = "6\t1\tv40\tv2\t0\tv40\tv2\n";
+    uint8_t line[64];
+    uint64_t wrote[3];
+    size_t i, n = sizeof swap - 1, same_bytes = 1;
+    uint32_t e;
+    fresh_rules();
+    translate(0, swap);
+    hold(read[MT_ANSWER] == MT_DONE && read[MT_LINE] == 0 && read[MT_FIELD] == 0 && read[MT_USED] == 10, "a rule is translated");
+    hold(rules[0] == MT_ENTRY(MT_SCOPE, 1) && rules[1] == 3 && rules[2] == 0 && rules[3] == 1, "a rule's scope");
+    hold(rules[80] == 7777, "the words after the rule");
+    for (i = 0; i < 32; i++)
+        store[i] = given[i];
+    for (i = 0; i < MT_VARIABLES; i++)
+        bindings[i] = 0;
+    mt_run(rules, 80, store, 32, bindings, 64, 3, 0, 2, 10, numbers);
+    hold(is(numbers, MT_DONE, 0, 3, 4, 10) && same(store, after, 32), "the translated rule swaps a pair");
+    for (i = 0; i < sizeof line; i++)
+        line[i] = 255;
+    mt_write_rule(rules, 256, 10, 0, line, n, wrote);
+    hold(wrote[MT_ANSWER] == MT_DONE && wrote[MT_PLACE] == 0 && wrote[MT_LENGTH] == n, "a rule is written");
+    for (i = 0; i < n; i++)
+        same_bytes = same_bytes && line[i] == (uint8_t)swap[i];
+    hold(same_bytes && line[n] == 255, "a rule's line");
+    for (i = 0; i < sizeof line; i++)
+        line[i] = 255;
+    mt_write_rule(rules, 256, 10, 0, line, n - 1, wrote);
+    hold(wrote[MT_ANSWER] == MT_SHORT_BUFFER && wrote[MT_PLACE] == 0 && wrote[MT_LENGTH] == 0 && line[0] == 255, "a short buffer");
+    mt_write_rule(rules, 256, 10, 0, NULL, 9, wrote);
+    hold(wrote[MT_ANSWER] == MT_SHORT_BUFFER && wrote[MT_LENGTH] == 0, "a null buffer");
+    for (e = 1; e < 12; e++) {
+        mt_write_rule(rules, 256, 10, e, line, sizeof line, wrote);
+        hold(wrote[MT_ANSWER] == MT_BAD_START && wrote[MT_LENGTH] == 0 && line[0] == 255, "no rule starts there");
+    }
+    fresh_rules();
+    translate(2, where);
+    hold(read[MT_ANSWER] == MT_DONE && read[MT_USED] == 18, "a rule with a condition is translated");
+    hold(rules[17] == 4 && rules[18] == 256, "the scope has the condition's variable and the upper half of its mask");
+    mt_write_rule(rules, 256, 18, 2, line, sizeof line, wrote);
+    hold(wrote[MT_ANSWER] == MT_DONE && wrote[MT_LENGTH] == sizeof where - 1 && line[0] == '6', "a rule with a condition is written");
+    fresh_rules();
+    translate(2, "");
+    hold(read[MT_ANSWER] == MT_DONE && read[MT_USED] == 2, "a text without rules");
+    mt_translate_rules(rules, 256, 2, NULL, 5, read);
+    hold(read[MT_ANSWER] == MT_DONE && read[MT_USED] == 2, "a null text");
+    mt_translate_rules(NULL, 256, 0, NULL, 0, read);
+    hold(read[MT_ANSWER] == MT_BAD_SIZES && read[MT_LINE] == 0 && read[MT_USED] == 0, "rules into a null table");
+    mt_write_rule(NULL, 0, 0, 0, line, sizeof line, wrote);
+    hold(wrote[MT_ANSWER] == MT_BAD_SIZES && wrote[MT_LENGTH] == 0, "a rule of a null table");
+    translate(33, swap);
+    hold(read[MT_ANSWER] == MT_BAD_SIZES && read[MT_USED] == 33, "more in use than lent");
+    translate(3, swap);
+    hold(read[MT_ANSWER] == MT_BAD_KIND && read[MT_LINE] == 2 && read[MT_FIELD] == 0 && read[MT_USED] == 3, "a bad entry in use");
+    mt_write_rule(rules, 256, 3, 0, line, sizeof line, wrote);
+    hold(wrote[MT_ANSWER] == MT_BAD_KIND && wrote[MT_PLACE] == 2 && wrote[MT_LENGTH] == 0, "a bad entry in use, written");
+    bad_rules("v0\tv0\n\n", MT_BAD_RULE, 2, 1, "a blank line");
+    bad_rules("v0\tv0", MT_BAD_RULE, 1, 3, "a line without a line feed");
+    bad_rules("5\t2\tv0\tv1\t5\t2\tv1\n", MT_BAD_RULE, 1, 8, "a line that is cut short");
+    bad_rules("5\t7\n", MT_BAD_RULE, 1, 2, "seven children");
+    bad_rules("v0\tv0\nv0\tv1\n", MT_RULE_UNBOUND, 2, 0, "a variable that is not bound");
+    bad_rules("v64\tv64\n", MT_RULE_VARIABLE, 1, 0, "a variable above 63");
+    bad_rules("v0\tv1\t1\tv0\tv1\n", MT_RULE_CALL, 1, 0, "a condition's entry that is no REC");
+    bad_rules("v0\tv0\nv0\tv0\nv0\tv0\nv0\tv0\nv0\tv0\nv0\tv0\n", MT_NO_ENTRIES, 6, 0, "a table that is full");
+}
+
 static void empty_slices(void)
 {
     static const uint32_t zeros[8];
@@ -416,6 +520,7 @@ int main(void)
     signed_runs();
     many_subjects();
     collection();
+    rules_as_text();
     empty_slices();
     if (wrong > 0 || held == 0)
         return 1;

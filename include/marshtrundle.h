@@ -10,9 +10,10 @@
  * SLICES. A slice is a pointer and a number of 32-bit words, not of bytes. The pointer is aligned to 4 bytes and valid for
  * that many words. A null pointer is an empty slice. What is written (store, bindings, work, results, numbers) overlaps
  * nothing else that is passed in the same call. The table, the subjects and a signature are only read. mt_run_many and
- * mt_run_many_signed only read the bindings, and the checks only read.
+ * mt_run_many_signed only read the bindings, and the checks only read. Of the functions for rules as text, mt_translate_rules writes
+ * the table and mt_write_rule the buffer; a text and a buffer are a pointer and a number of bytes, of any alignment.
  *
- * NUMBERS. `numbers` is where the answer goes. It is never null: it is aligned to 4 bytes and valid for writing as many words
+ * NUMBERS. `numbers` is where the answer goes. It is never null: it is aligned and valid for writing as many numbers of 32 or 64 bits
  * as the function's parameter says, 5, 4, 3 or 2. Nothing else is asked of the caller.
  *
  * OWNERSHIP. All memory is the caller's. Nothing is allocated, no pointer is kept after the call, nothing is freed.
@@ -28,14 +29,21 @@
  * you like, or none. The result list has just five words for each subject: words 5i to 5i + 4 get the numbers of subject i,
  * as enum mt_number names them. It may hold anything before.
  *
+ * RULES AS TEXT, for mt_translate_rules and mt_write_rule. A line for each rule, ended by a line feed; fields are parted by one tab:
+ *   the left term, the right term, and for each condition an entry, a starting term and an outcome's pattern
+ * A term is in prefix form: `v` and a variable's number in one field, or a field for the constructor, 0 to 65,535, and one for the
+ * child count, 0 to 6, and then its children. A condition's entry is a REC in use without free variables. A rule matches the left
+ * term, then runs each condition's REC on its starting term and matches the outcome, and then builds the right term, all in a scope
+ * of the rule's variables. The right term and a starting term have only variables that were matched before.
+ *
  * THE WORK LIST of mt_collect. A word for each node of the store, or more. It may hold anything, and is zero afterwards.
  *
  * THE STACK. Give a thread that calls a function whose name begins with mt_run MT_STACK bytes (2 MiB). A run nests at most
  * 4,096 visits, and each form of visit takes its own number of bytes. The deepest, CONG, takes 1.9 MiB in all; in this is a
  * copy of the table, 128 KiB whatever the table's size. It is measured, not proved: the Rust crate's tests run 4,096 levels
- * of each form on a thread of exactly 2 MiB, with one subject and with two. The other functions take less than 64 KiB. On a
- * smaller stack a deep run ends in the thread's guard page, if it has one: the code touches every page of a large frame in
- * order.
+ * of each form on a thread of exactly 2 MiB, with one subject and with two. mt_write_rule takes less than 256 KiB, the other functions
+ * less than 64 KiB. On a smaller stack a deep run ends in the thread's guard page, if it has one: the code touches every page of a large
+ * frame in order.
  *
  * THE STORE. Eight words to a node. Node k has words 8k to 8k + 7:
  *   word 0       the constructor, 0 to 65,535
@@ -99,6 +107,9 @@ extern "C" {
 #define MT_CONSTRUCTORS 65536
 #define MT_UNDECLARED 7
 
+/* The most bytes of a rule's line that a table of 4,096 entries can have, its line feed included. */
+#define MT_RULE_BYTES 53272
+
 /* Word 0 of an entry. */
 #define MT_ENTRY(kind, operands) (16u * (uint32_t)(kind) + (uint32_t)(operands))
 
@@ -136,7 +147,7 @@ enum mt_kind {
 
 /*
  * The answers. They are asked in the order 2, 13 to 17, 4, 10, 11, 5, then comes the run.
- * In answers 2, 4, 5, 10, 11 and 13 to 17 nothing is written but the numbers.
+ * In answers 2, 4, 5, 10, 11, 13 to 20, 22, 23 and 26 nothing is written but the numbers.
  * In answers 0, 1, 6, 7, 8 and 12 the nodes below the given mark are unchanged, and every store word from the returned mark
  * to the end is zero. In answers 1, 6, 7, 8 and 12 the bindings are as given. No strategy catches 6, 7, 8 or 12.
  */
@@ -167,7 +178,15 @@ enum mt_answer {
     MT_BAD_ARGUMENT = 14, /* word 1: the argument is out of its range, or not zero where none is named */
     MT_BAD_OPERAND = 15,  /* an operand is outside the table, or not above its own entry; CALL's is outside the table */
     MT_BAD_SORT = 16,     /* an operand is no strategy, or no pattern, where one is needed; CALL's is no REC */
-    MT_BAD_WORD = 17      /* a word behind the operands is not zero */
+    MT_BAD_WORD = 17,     /* a word behind the operands is not zero */
+    /* 18 to 20, 22, 23 and 26 are given by the functions for rules as text alone. 18 to 23 come with the first bad line, and are asked
+       in this order within it. */
+    MT_BAD_RULE = 18,      /* the line is no rule's text; the field is its first bad one, one past the last where it is cut short */
+    MT_RULE_UNBOUND = 19,  /* a variable of the right term or of a starting term is bound by nothing before it */
+    MT_RULE_VARIABLE = 20, /* a variable is above 63 */
+    MT_RULE_CALL = 22,     /* a condition's number is no REC without free variables among the entries in use */
+    MT_NO_ENTRIES = 23,    /* the rule's entries pass the lent length of the table, or 4,096 */
+    MT_SHORT_BUFFER = 26   /* the buffer is shorter than the rule's line */
     /* 3 is no longer given: 13 to 17 stand in its place. 9 is an answer of the job program alone: its text is malformed. */
 };
 
@@ -179,7 +198,11 @@ enum mt_number {
     MT_SUBJECT = 2, /* a run, mt_collect: the new subject in answer 0, and the given one otherwise */
     MT_MARK = 3,    /* a run, mt_collect: the new mark in answer 0, and the given one otherwise */
     MT_UNITS = 4,   /* a run: the visits counted; 0 where nothing was run */
-    MT_MASK = 2     /* mt_free_variables: the mask in answer 0, and 0 otherwise */
+    MT_MASK = 2,    /* mt_free_variables: the mask in answer 0, and 0 otherwise */
+    MT_LINE = 1,    /* mt_translate_rules: the first bad line, from 1; the bad entry in 13 to 17; 0 in 0 and 2 */
+    MT_FIELD = 2,   /* mt_translate_rules: the first bad field, from 1, in 18; 0 otherwise */
+    MT_USED = 3,    /* mt_translate_rules: the entries in use, the new ones among them in answer 0, as given otherwise */
+    MT_LENGTH = 2   /* mt_write_rule: the bytes written, the line feed among them; 0 in all answers but 0 */
 };
 
 /* The archive's functions. They take no null pointer, not even with length 0: call the mt_ functions instead. */
@@ -204,6 +227,10 @@ void marshtrundle_collect(uint32_t *store, size_t store_words, uint32_t *binding
 void marshtrundle_free_variables(const uint32_t *table, size_t table_words, uint32_t entry, uint64_t numbers[3]);
 void marshtrundle_check_table(const uint32_t *table, size_t words, uint32_t numbers[2]);
 void marshtrundle_check_store(const uint32_t *store, size_t words, uint32_t mark, uint32_t numbers[2]);
+void marshtrundle_translate_rules(uint32_t *table, size_t table_words, uint32_t used, const uint8_t *text, size_t text_bytes,
+                                  uint64_t numbers[4]);
+void marshtrundle_write_rule(const uint32_t *table, size_t table_words, uint32_t used, uint32_t entry, uint8_t *buffer,
+                             size_t buffer_bytes, uint64_t numbers[3]);
 
 /*
  * Runs the strategy at entry `start` on the term at node `subject`, with at most `units` visits. One visit is an entry
@@ -315,6 +342,36 @@ static inline void mt_check_store(const uint32_t *store, size_t words, uint32_t 
 {
     const uint32_t none = 0;
     marshtrundle_check_store(store ? store : &none, store ? words : 0, mark, numbers);
+}
+
+/*
+ * Adds the rules of a text to a table whose first `used` entries are in use, perhaps none. The rest of the table is room and may hold
+ * anything. The first rule starts at entry `used`, each other one where the one before it ends. `numbers` gets answer, line, field and
+ * the entries in use then. The answers are 0, 2 (the table's length, or more in use than lent), 13 to 17 (the entries in use, checked as a
+ * table of their own), 18, 19, 20, 22 and 23; in all but 0 nothing is written but the numbers. A text without a byte has no rule. The
+ * table goes to a run with 8 * entries in use as its length.
+ */
+static inline void mt_translate_rules(uint32_t *table, size_t table_words, uint32_t used, const uint8_t *text, size_t text_bytes,
+                                      uint64_t numbers[4])
+{
+    uint32_t none = 0;
+    const uint8_t no_text = 0;
+    marshtrundle_translate_rules(table ? table : &none, table ? table_words : 0, used, text ? text : &no_text,
+                                 text ? text_bytes : 0, numbers);
+}
+
+/*
+ * Writes the rule that starts at `entry` as the line that mt_translate_rules takes it from, its line feed included. `numbers` gets
+ * answer, place and length. The answers are 0, 2 and 13 to 17 as for mt_translate_rules, 5 (no rule that mt_translate_rules would take
+ * starts there) and 26; in all but 0 nothing is written but the numbers. No line is longer than MT_RULE_BYTES.
+ */
+static inline void mt_write_rule(const uint32_t *table, size_t table_words, uint32_t used, uint32_t entry, uint8_t *buffer,
+                                 size_t buffer_bytes, uint64_t numbers[3])
+{
+    const uint32_t none = 0;
+    uint8_t no_buffer = 0;
+    marshtrundle_write_rule(table ? table : &none, table ? table_words : 0, used, entry, buffer ? buffer : &no_buffer,
+                            buffer ? buffer_bytes : 0, numbers);
 }
 
 #ifdef __cplusplus

@@ -403,6 +403,12 @@ static inline const char *mt_answer_text(uint32_t answer)
     case MT_BAD_OPERAND: return "an entry is bad: operand outside its allowed numbers";
     case MT_BAD_SORT: return "an entry is bad: operand of the wrong sort";
     case MT_BAD_WORD: return "an entry is bad: unused word that is not zero";
+    case MT_BAD_RULE: return "a line is no rule: a field is bad or missing";
+    case MT_RULE_UNBOUND: return "a rule builds a variable that nothing before it binds";
+    case MT_RULE_VARIABLE: return "a rule's variable is above 63";
+    case MT_RULE_CALL: return "a condition's entry is no REC in use without free variables";
+    case MT_NO_ENTRIES: return "the table has no room for a rule's entries";
+    case MT_SHORT_BUFFER: return "the buffer is shorter than the rule's line";
     default: return "no answer of this library";
     }
 }

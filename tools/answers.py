@@ -1,7 +1,8 @@
 #!/usr/bin/env python3
 """answers.py: compares the lists of answers that stand in this repository, and ends with 1 where two differ.
 
-An answer has a number of document 01 or 02. It is named in the C header, in the Rust crate over the archive (twice: read and written),
+An answer has a number of document 01 or 02. It is named in the C header, in the Rust crate over the archive (twice: read and written; those of
+rules as text in src/rule_text.rs, the others in src/answer.rs),
 in rust/twin, and in the definitions of crates/*/specs. LIST says under which name. What stands in one of these places and is not
 in LIST, or is in LIST and not there, is a difference. docs/REFERENCE.md has a row for each number, and include/marshtrundle_build.h words
 for each answer of the header.
@@ -31,6 +32,13 @@ LIST = {
     15: ("MT_BAD_OPERAND", "Operand", "BAD_OPERAND", "of-place"),
     16: ("MT_BAD_SORT", "Sort", "BAD_SORT", "of-sort"),
     17: ("MT_BAD_WORD", "Word", "BAD_WORD", "of-unused"),
+    # of rules as text alone
+    18: ("MT_BAD_RULE", "Text", "BAD_RULE", "told"),
+    19: ("MT_RULE_UNBOUND", "NothingBinds", "NOT_BOUND", "early"),
+    20: ("MT_RULE_VARIABLE", "NoSuchVariable", "BAD_VARIABLE", "large"),
+    22: ("MT_RULE_CALL", "NoSuchStrategy", "BAD_REC", "ruleAnswer"),
+    23: ("MT_NO_ENTRIES", "TooManyEntries", "FULL_TABLE", "told"),
+    26: ("MT_SHORT_BUFFER", "ShortBuffer", "SHORT_BUFFER", "wrote"),
 }
 
 
@@ -56,7 +64,17 @@ def specs():
         found |= pairs((ROOT / path).read_text(), r"\b(checked|found) (\d+) ")
     found |= pairs((ROOT / "crates/checks/specs/Plain.antt").read_text(), r"\b(of-\w+) : .*Faulty(?:By)? (\d+)")
     found |= pairs((ROOT / "crates/whole_job/specs/Whole.antt").read_text(), r"\b(answered) (\d+) ")
-    return found - {("checked", 0)}  # nothing is refused
+    found |= pairs((ROOT / "crates/rules/specs/Check.antt").read_text(), r"\b(told) used (\d+) ")
+    found |= pairs((ROOT / "crates/rules/specs/Bound.antt").read_text(), r"\b(early|large) : .*answer ≡ (\d+)")
+    found |= pairs((ROOT / "crates/rules/specs/Line.antt").read_text(), r"(?m)^(ruleAnswer) f r = .* else (\d+)\) else ")
+    found |= pairs((ROOT / "crates/write_rules/specs/Written.antt").read_text(), r"\b(wrote) (\d+) 0 0\b")
+    # nothing is refused; and the writer's 5 is the run's number
+    return found - {("checked", 0), ("wrote", 5)}
+
+
+def of_rules(found):
+    """The answers that rules as text alone get: the others are the run's too, and stand in its list."""
+    return {(name, n) for name, n in found if n > 17}
 
 
 def main(words):
@@ -65,11 +83,16 @@ def main(words):
         return 2
     crate = "rust/marshtrundle/src/answer.rs"
     faults = "rust/marshtrundle/src/fault.rs"
+    rules = "rust/marshtrundle/src/rule_text.rs"
+    rules_read = of_rules(pairs(part(rules, "fn told", "other =>"), r"(\d+) => RuleError::(\w+)", True))
+    rules_written = of_rules(pairs(part(rules, "fn number", "fn advice"), r"RuleError::(\w+)(?:\(_\)| \{ \.\. \})? => (\d+)"))
     places = (
         ("include/marshtrundle.h", 0, pairs(part("include/marshtrundle.h", "enum mt_answer", "};"), r"(MT_\w+) = (\d+)")),
-        (crate + ", read", 1, pairs(part(crate, "fn told", "other =>"), r"(\d+) => Answer::(?:BadEntry\(place, Fault::)?(\w+)", True)),
-        (crate + ", written", 1, pairs(part(crate, "fn number", "fn place") + part(faults, "fn number", "impl"), r"(?:Answer|Fault)::(\w+)(?:\(_\))? => (\d+)")),
-        ("rust/twin/src/checks.rs", 2, pairs(part("rust/twin/src/checks.rs", "pub const DONE", "pub mod kind"), r"pub const (\w+): u32 = (\d+);")),
+        (crate + ", read", 1, pairs(part(crate, "fn told", "other =>"), r"(\d+) => Answer::(?:BadEntry\(place, Fault::)?(\w+)", True) | rules_read),
+        (crate + ", written", 1, pairs(part(crate, "fn number", "fn place") + part(faults, "fn number", "impl"), r"(?:Answer|Fault)::(\w+)(?:\(_\))? => (\d+)") | rules_written),
+        ("rust/twin/src", 2, pairs(part("rust/twin/src/checks.rs", "pub const DONE", "pub mod kind")
+                                   + part("rust/twin/src/rules.rs", "pub const BAD_RULE", "/// One position of a term"),
+                                   r"pub const (\w+): u32 = (\d+);")),
         ("crates/*/specs", 3, specs()),
     )
     differ = 0

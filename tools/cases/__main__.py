@@ -1,6 +1,7 @@
 """cases DIR TWIN: writes DIR/stdin, the cases that the program vectors executes, and DIR/stdout, what it must write.
 
-The cases of checks.py, free.py, runs.py, signed.py, many.py, collects.py and jobs.py come with the answers of model.py. After those of a call
+The cases of checks.py, free.py, runs.py, signed.py, many.py, collects.py and jobs.py come with the answers of model.py, those of rules.py with
+the answers of the model in it. After those of a call
 stands a sample of what the program TWIN of rust/twin generates, with its own answers; last the jobs of examples/, with the answers stored there.
 A further call has a module here with a function write, and a line in CALLS.
 """
@@ -17,6 +18,7 @@ import free
 import jobs
 import lend
 import many
+import rules
 import runs
 import signed
 
@@ -124,6 +126,28 @@ def many_sample(twin):
             lend.add("n" if 3 in slices else "m", body, line + b" :" + store_shown(store, lengths[1]) + b"\n")
 
 
+def rules_sample(twin):
+    """Tag `r` is the translator, with the text in slice 10, and `w` the writer, with the buffer in slice 11; MARK is the number of entries
+    in use. An answer is the label, four numbers or three, and the words of the table or the buffer.
+    """
+    for case, answer in sample(twin, "rules", 500):
+        (used, start, _, _), slices, triples, label = call_of(case)
+        words = {k: [fill] * n for k, (n, fill) in slices.items()}
+        for k, w, v in triples:
+            words[k][w] = v
+        count = 4 if case[:1] == b"r" else 3
+        fields = answer.decode().split(" ")
+        numbers, after = tuple(map(int, fields[1:1 + count])), "".join(" " + f for f in fields[1 + count:])
+        lent = words[0] if count == 4 else words[11]
+        after = store_shown(after.encode(), len(lent)).decode()
+        if len(case) > 131072:
+            continue
+        if count == 4:
+            rules.add_translation(label, words[0], slices[0][1], used, bytes(words[10]), numbers, after)
+        else:
+            rules.add_writing(label, words[0], slices[0][1], used, start, bytes(words[11]), numbers, after)
+
+
 def job_sample(twin):
     for case, answer in sample(twin, "jobs", 600):
         lend.add("j", case, jobs.framed(answer))
@@ -132,7 +156,7 @@ def job_sample(twin):
 
 
 CALLS = ((checks.write, None), (free.write, free_sample), (runs.write, run_sample), (signed.write, signed_sample), (many.write, many_sample), (collects.write, None),
-         (jobs.write, job_sample))
+         (rules.write, rules_sample), (jobs.write, job_sample))
 
 
 def write(folder, twin):

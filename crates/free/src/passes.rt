@@ -86,7 +86,7 @@ fn pass(table: &[u32], masks: &mut [u64]) -> bool
 }
 
 // Passes until one adds nothing.
-fn settle(table: &[u32], masks: &mut [u64])
+pub fn settle(table: &[u32], masks: &mut [u64])
     requires { ⌜ GoodTableBy ours (now table) × ((rows (now table) ≤ length (now masks)) × BitsMeant ours (now table) (now masks)) ⌝ }
     ensures { λ _. ⌜ BitsMeant ours (now (table .entry)) (now (masks .exit)) × Settled ours (now (table .entry)) (now (masks .exit)) ⌝ }
 {

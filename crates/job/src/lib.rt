@@ -1,6 +1,6 @@
 // Job text in, answer text out: the lines of a job, the job that they are or the first bad one, and the text of its answer.
 pub mod answer;
-mod lines;
+pub mod lines;
 pub mod read;
 
 // A line of a job, its numbers and the place after it. The name is 0 to 3 for job, e, n and b; 4 is a bad line. Of an argument of two

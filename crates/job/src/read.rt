@@ -71,7 +71,7 @@ fn advanced(h: Heading, name: u32, at: [u32; 8]) -> Heading
 }
 
 // The row of an `e` line.
-fn entry_row(n: u32, at: [u32; 8], high: u32) -> [u32; 8]
+pub fn entry_row(n: u32, at: [u32; 8], high: u32) -> [u32; 8]
     requires { ⌜ (2 ≤ n) × (n ≤ 8) × (getD at 0 0 ≤ 255) ⌝ }
     ensures { λ r. ⌜ r ≡ entryRow n at high ⌝ }
 {

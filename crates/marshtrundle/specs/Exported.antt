@@ -6,6 +6,8 @@ use Rattle.checks.specs.declared.Checked.{Checked}
 use Rattle.collect.specs.declared.Collected.{Collected}
 use Rattle.free.specs.declared.FreeVariables.{FreeVariables}
 use Rattle.calls.specs.declared.Outcome.{Outcome}
+use Rattle.rules.specs.declared.check.Translated.{Translated}
+use Rattle.write_rules.specs.declared.rule.Written.{Written}
 
 -- answer and place
 abbrev pub two : List ℕ → Checked
@@ -22,3 +24,11 @@ four w = record { answer = getD w 0 0; place = getD w 1 0; subject = getD w 2 0;
 -- answer, place, subject, mark and units used
 abbrev pub five : List ℕ → Outcome
 five w = record { answer = getD w 0 0; place = getD w 1 0; subject = getD w 2 0; mark = getD w 3 0; units = getD w 4 0 }
+
+-- answer, line, field and the entries in use
+abbrev pub translation : List ℕ → Translated
+translation w = record { used = getD w 3 0; answer = getD w 0 0; line = getD w 1 0; field = getD w 2 0 }
+
+-- answer, place and length
+abbrev pub writing : List ℕ → Written
+writing w = record { answer = getD w 0 0; place = getD w 1 0; length = getD w 2 0 }

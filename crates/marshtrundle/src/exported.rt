@@ -1,4 +1,4 @@
-// What a program in C or Rust calls, from the archive. A slice is a pointer and a number of words. The numbers that come
+// What a program in C or Rust calls, from the archive. A slice is a pointer and a number of words, or of bytes where it is text. The numbers that come
 // back go into an array that the caller lends. The contracts are those of the functions called, over that array.
 use checks::entries::check_table;
 use checks::nodes::check_store;
@@ -8,6 +8,8 @@ use many::run_many;
 use many::run_many_signed;
 use running::run;
 use running::run_signed;
+use translate::translate::translate;
+use write_rules::rule::write_rule;
 ghost use mathlib.Core.Path.{_≡_};
 ghost use mathlib.Core.Option.{none, some};
 ghost use Rattle.checks.specs.Checked.{tableChecked, storeChecked};
@@ -15,7 +17,9 @@ ghost use Rattle.collect.specs.Collected.{lent, atEnd, collectedOf};
 ghost use Rattle.free.specs.Answered.{Answered};
 ghost use Rattle.calls.specs.Run.{input, atReturn, runWith, runOf};
 ghost use Rattle.calls.specs.Many.{handed, manyAtReturn, manyOf};
-ghost use Rattle.marshtrundle.specs.Exported.{two, three, four, five};
+ghost use Rattle.translate.specs.Added.{Translating};
+ghost use Rattle.write_rules.specs.Written.{RuleWritten};
+ghost use Rattle.marshtrundle.specs.Exported.{two, three, four, five, translation, writing};
 
 // The run: answer, place, subject, mark and units used.
 #[no_mangle]
@@ -169,4 +173,39 @@ pub extern "C" fn marshtrundle_check_store(store: &[u32], mark: u32, numbers: &m
 {
     let r = check_store(store, mark);
     *numbers = [r.answer, r.place];
+}
+
+// Rules as text into a table: answer, line, field and the entries in use, as numbers of 64 bits, for a line has as many fields as it
+// has room for.
+#[no_mangle]
+pub extern "C" fn marshtrundle_translate_rules(
+    table: &mut [u32],
+    used: u32,
+    text: &[u8],
+    numbers: &mut [u64; 4],
+)
+    ensures { λ _. ⌜ Translating (now (table .entry)) used (now (text .entry)) (translation (now (numbers .exit))) (now (table .exit)) ⌝ }
+{
+    let r = translate(table, used, text);
+    *numbers = [
+        r.answer as u64,
+        r.line as u64,
+        r.field as u64,
+        r.used as u64,
+    ];
+}
+
+// A rule of a table as a line of text: answer, place and length, as numbers of 64 bits.
+#[no_mangle]
+pub extern "C" fn marshtrundle_write_rule(
+    table: &[u32],
+    used: u32,
+    entry: u32,
+    buffer: &mut [u8],
+    numbers: &mut [u64; 3],
+)
+    ensures { λ _. ⌜ RuleWritten (now (table .entry)) used entry (now (buffer .entry)) (writing (now (numbers .exit))) (now (buffer .exit)) ⌝ }
+{
+    let r = write_rule(table, used, entry, buffer);
+    *numbers = [r.answer as u64, r.place as u64, r.length as u64];
 }

@@ -5,41 +5,10 @@
 // answered. A write that fails may leave a part of the answer, and standard error says that it is not whole. Where neither
 // fails nothing is written to standard error. Input that ends early without a failed read is a text like any other: cut
 // inside a line it has a bad last line, answer 9.
-ghost use Prim.Native.Nat.{_+_, _≤_};
-ghost use lib.ListN.{length};
+use input::read_text;
 use libc::STDERR_FILENO;
-use libc::STDIN_FILENO;
 use libc::STDOUT_FILENO;
 use whole_job::answer_job;
-
-// Reads once: how many bytes came, 0 at the end of the input, or one more than the buffer holds where the read failed.
-fn read_some(text: &mut [u8]) -> usize
-    ensures { λ r. ⌜ r ≤ length (now (text .entry)) + 1 ⌝ }
-{
-    let got = libc::read(STDIN_FILENO, text);
-    if got < 0 {
-        return text.len() + 1;
-    }
-    io::count(got, text)
-}
-
-// Fills the buffer from standard input up to its end: how many bytes came, or one more than it holds where a read failed.
-fn read_text(text: &mut [u8]) -> usize
-    ensures { λ r. ⌜ r ≤ length (now (text .entry)) + 1 ⌝ }
-{
-    let mut n: usize = 0;
-    while n < text.len() {
-        let more = read_some(&mut text[n..]);
-        if more == 0 {
-            return n;
-        }
-        if text.len() - n < more {
-            return text.len() + 1;
-        }
-        n += more;
-    }
-    n
-}
 
 // Writes the answer to a text, and says where it could not.
 fn answer_text(text: &[u8]) {

@@ -2,7 +2,7 @@
 // most 131,072, and a line feed. Where the input is not of this form, or ends inside a case, the last line is `# broken`.
 //
 //     t  check_table     s  check_store     f  free_variables     r  run     g  run_signed     c  collect     j  answer_job
-//     m  run_many        n  run_many_signed
+//     m  run_many        n  run_many_signed    a  translate    w  write_rule
 //
 // The bytes of `j` are a job's text. Those of the others say which memory is lent (memory.rt), and end in a label. A further
 // call takes a tag and a function in requests.rt, and tools/cases.py writes its cases.

@@ -14,7 +14,8 @@
 // 1 store, 2 bindings) is set to its VALUE. A collection takes no table: its work list is lent in the table's place. A run with a
 // signature has it behind the table: the table has ARGUMENT words, and the rest is the signature. A call over many subjects has
 // their number in the place of SUBJECT. Before its label stand the length of its result list and the subjects; every word of the result
-// list is 4294967295 before the call.
+// list is 4294967295 before the call. The translator and the writer of rules have the number of entries in use in the place of SUBJECT.
+// Of the translator START is the length of the text, which stands before the label. The writer's buffer has the lowest byte of each store word.
 ghost use Prim.Native.Nat.{_+_, _*_, _≤_};
 ghost use lib.ListN.{length};
 use crate::numbers::number;
@@ -210,6 +211,38 @@ fn patch(
         i += 1;
     }
     at
+}
+
+// Sets byte i, if there is one, to the lowest of a word.
+fn set_byte(bytes: &mut [u8], i: usize, w: u32) {
+    if i < bytes.len() {
+        bytes[i] = (w % 256) as u8;
+    }
+}
+
+// The lowest byte of each word.
+pub fn put_bytes(bytes: &mut [u8], words: &[u32]) {
+    let mut i: usize = 0;
+    while i < words.len() {
+        set_byte(bytes, i, words[i]);
+        i += 1;
+    }
+}
+
+// Sets word i, if there is one, to a byte.
+fn set_word(words: &mut [u32], i: usize, b: u8) {
+    if i < words.len() {
+        words[i] = b as u32;
+    }
+}
+
+// A word for each byte.
+pub fn put_words(words: &mut [u32], bytes: &[u8]) {
+    let mut i: usize = 0;
+    while i < bytes.len() {
+        set_word(words, i, bytes[i]);
+        i += 1;
+    }
 }
 
 // Makes the words of a case, and gives the place after its numbers.

@@ -2,12 +2,16 @@
 use crate::memory::Given;
 use crate::memory::heads;
 use crate::memory::make;
+use crate::memory::put_bytes;
+use crate::memory::put_words;
 use crate::numbers::number;
 use crate::show::show_checked;
 use crate::show::show_collected;
 use crate::show::show_free;
 use crate::show::show_many;
 use crate::show::show_run;
+use crate::show::show_translated;
+use crate::show::show_written;
 use checks::Checked;
 use checks::entries::check_table;
 use checks::nodes::check_store;
@@ -18,8 +22,10 @@ use many::run_many;
 use many::run_many_signed;
 use running::run;
 use running::run_signed;
+use translate::translate::translate;
 use whole_job::answer_job;
 use words::clear_from;
+use write_rules::rule::write_rule;
 
 // A run with the signature that stands behind the first `at` words, which are the table: whether there are so many.
 fn call_signed(given: Given, words: &[u32], store: &mut [u32], bindings: &mut [u32]) -> bool {
@@ -207,7 +213,45 @@ fn call_many(
     )
 }
 
-// Prints the label, makes the call of a case and prints what it gives back. Of a call over many subjects the label comes after them.
+// The rules of the n bytes from place `at` on, behind which the label stands: whether there are so many.
+fn call_translate(text: &[u8], at: usize, given: Given, table: &mut [u32]) -> bool {
+    let n = given.words;
+    let k = n[4] as usize;
+    if text.len() < at {
+        return false;
+    }
+    let rest = &text[at..];
+    if rest.len() < k {
+        return false;
+    }
+    show_label(rest, k);
+    let r = translate(table, n[5], &rest[..k]);
+    show_translated(r, table);
+    true
+}
+
+// The writer into the bytes of the store's words, one in each.
+fn write_bytes(given: Given, table: &[u32], store: &mut [u32], buffer: &mut [u8]) {
+    let n = given.words;
+    put_bytes(buffer, store);
+    let r = write_rule(table, n[5], n[4], buffer);
+    put_words(store, buffer);
+    show_written(r, store);
+}
+
+// The same with a buffer of its own: whether it is as long as the store.
+fn call_write(given: Given, table: &[u32], store: &mut [u32]) -> bool {
+    let mut buffer = [0u8; 65536];
+    let k = store.len();
+    if 65536 < k {
+        return false;
+    }
+    write_bytes(given, table, store, &mut buffer[..k]);
+    true
+}
+
+// Prints the label, makes the call of a case and prints what it gives back. Of a call over many subjects the label comes after them, of the
+// translator after its text.
 fn answer_made(
     tag: u8,
     text: &[u8],
@@ -223,7 +267,13 @@ fn answer_made(
     if tag == b'n' {
         return call_many(tag, text, next, given, table, store, bindings);
     }
+    if tag == b'a' {
+        return call_translate(text, next, given, table);
+    }
     show_label(text, next);
+    if tag == b'w' {
+        return call_write(given, table, store);
+    }
     call(tag, given, table, store, bindings)
 }
 

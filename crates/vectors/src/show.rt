@@ -5,6 +5,8 @@ use checks::Checked;
 use collect::Collected;
 use free::FreeVariables;
 use libc::STDOUT_FILENO;
+use rules::check::Translated;
+use write_rules::rule::Written;
 
 // Prints a space and a number.
 fn show_number(n: u64) {
@@ -49,16 +51,37 @@ fn sum(words: &[u32]) -> u64 {
     h
 }
 
-// Prints the bindings' words that are not zero, `:`, and the store: in up to 512 words those that are not zero, in more the
-// sum of all.
+// Prints in up to 512 words those that are not zero, in more the sum of all.
+fn show_slice(words: &[u32]) {
+    if words.len() <= 512 {
+        show_words(words);
+    } else {
+        show_number(sum(words));
+    }
+}
+
+// Prints the bindings' words that are not zero, `:`, and the store.
 fn show_memory(store: &[u32], bindings: &[u32]) {
     show_words(bindings);
     io::write_all(STDOUT_FILENO, b" :");
-    if store.len() <= 512 {
-        show_words(store);
-    } else {
-        show_number(sum(store));
-    }
+    show_slice(store);
+}
+
+// Prints what the translator of rules returns, and the table that it leaves.
+pub fn show_translated(r: Translated, table: &[u32]) {
+    show_number(r.answer as u64);
+    show_number(r.line as u64);
+    show_number(r.field as u64);
+    show_number(r.used as u64);
+    show_slice(table);
+}
+
+// Prints what the writer of a rule returns, and the bytes of the buffer that it leaves, one in each word.
+pub fn show_written(r: Written, bytes: &[u32]) {
+    show_number(r.answer as u64);
+    show_number(r.place as u64);
+    show_number(r.length as u64);
+    show_slice(bytes);
 }
 
 // Prints what a check answers.

@@ -51,6 +51,23 @@ extern "C" {
         results_words: usize,
         numbers: *mut u32,
     );
+    fn marshtrundle_translate_rules(
+        table: *mut u32,
+        table_words: usize,
+        used: u32,
+        text: *const u8,
+        text_bytes: usize,
+        numbers: *mut u64,
+    );
+    fn marshtrundle_write_rule(
+        table: *const u32,
+        table_words: usize,
+        used: u32,
+        entry: u32,
+        buffer: *mut u8,
+        buffer_bytes: usize,
+        numbers: *mut u64,
+    );
     fn marshtrundle_run_many_signed(
         table: *const u32,
         table_words: usize,
@@ -191,6 +208,43 @@ pub fn run_many(
             units,
             results.as_mut_ptr(),
             results.len(),
+            numbers.as_mut_ptr(),
+        );
+    }
+    numbers
+}
+
+/// The translator of rules: answer, line, field and the entries in use.
+pub fn translate_rules(table: &mut [u32], used: u32, text: &[u8]) -> [u64; 4] {
+    let mut numbers = [0; 4];
+    // The two slices are borrowed for the call, the table alone; `numbers` is a
+    // local of four numbers.
+    unsafe {
+        marshtrundle_translate_rules(
+            table.as_mut_ptr(),
+            table.len(),
+            used,
+            text.as_ptr(),
+            text.len(),
+            numbers.as_mut_ptr(),
+        );
+    }
+    numbers
+}
+
+/// The writer of a rule: answer, place and length.
+pub fn write_rule(table: &[u32], used: u32, entry: u32, buffer: &mut [u8]) -> [u64; 3] {
+    let mut numbers = [0; 3];
+    // The two slices are borrowed for the call, the buffer alone; `numbers` is a
+    // local of three numbers.
+    unsafe {
+        marshtrundle_write_rule(
+            table.as_ptr(),
+            table.len(),
+            used,
+            entry,
+            buffer.as_mut_ptr(),
+            buffer.len(),
             numbers.as_mut_ptr(),
         );
     }

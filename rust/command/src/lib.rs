@@ -8,9 +8,9 @@ pub mod explain;
 mod html;
 mod options;
 
-use marshtrundle::job::{Job, TextFault};
+use marshtrundle::job::{entry_lines, Job, TextFault};
 use marshtrundle::show::{Names, Show};
-use marshtrundle::{free_variables, with_stack, Answer, Entry, Outcome};
+use marshtrundle::{free_variables, with_stack, Answer, Entry, Outcome, RuleError, Table};
 use options::{Options, Subcommand};
 use std::io::Read;
 use std::path::Path;
@@ -26,6 +26,7 @@ pub const USAGE: &str = "usage: marshtrundle run FILE [--print] [--difference]
        marshtrundle free FILE
        marshtrundle print FILE [--entries] [--graph term|table]
        marshtrundle explain FILE [--all] [--html]
+       marshtrundle rules FILE [--onto JOB | --back]
 
   run      runs the job and writes its answer; --print writes the new term, --difference what changed in it
   check    says whether a run would refuse the job, and why
@@ -33,13 +34,15 @@ pub const USAGE: &str = "usage: marshtrundle run FILE [--print] [--difference]
   print    writes the strategies and the subject; --entries every entry, --graph a graph for Graphviz
   explain  tells which strategy was tried where, what it bound, why it was undone; --all tells the places too where nothing
            was bound or compared, --html writes a page with all of it, folded
+  rules    translates rules, a line each, and writes their entries; --onto writes the job JOB with them behind its own entries, whose
+           RECs conditions may name; with --back FILE is a job, and the rules in its table are written as lines
 
   --names FILE  names of constructors, variables and entries; without it JOB.names beside JOB.job is taken, if it is there
   --units N     in place of the job's units
   --depth N     how deep terms and strategies are shown; --length N how long; --full without limits. For explain the length is
                 the number of visits that are told
 
-FILE is the text of a job, or - for standard input. The exit status is the answer's number: 0 done, 1 failed, and so on as
+FILE is the text of a job, for rules a text of rules, or - for standard input. The exit status is the answer's number: 0 done, 1 failed, and so on as
 docs/REFERENCE.md lists them. 64 is for bad usage and 66 for a file that cannot be read.
 ";
 
@@ -96,6 +99,15 @@ pub fn command(words: &[String]) -> Said {
 fn begin(words: &[String]) -> Result<Said, Stop> {
     let options = Options::of(words).map_err(Stop::Usage)?;
     let text = read(&options.file)?;
+    if let Subcommand::Rules { onto, back: false } = &options.subcommand {
+        return match onto {
+            None => Ok(rules(&text)),
+            Some(onto) => Ok(rules_onto(
+                Job::read(&read(onto)?).map_err(Stop::Text)?,
+                &text,
+            )),
+        };
+    }
     let mut job = Job::read(&text).map_err(Stop::Text)?;
     if let Some(units) = options.units {
         job.units = units;
@@ -113,6 +125,7 @@ fn begin(words: &[String]) -> Result<Said, Stop> {
         Subcommand::Check => check(job, &names),
         Subcommand::Free => free(&job, &names),
         Subcommand::Print { entries, graph } => print(&job, show, entries, graph),
+        Subcommand::Rules { .. } => rules_back(&job),
         Subcommand::Explain { html, all } => explain::explain(job, &names, &options, html, all),
     })
 }
@@ -237,6 +250,53 @@ fn free(job: &Job, names: &Names) -> Said {
             status: answer.number() as u8,
             ..Said::default()
         },
+    }
+}
+
+/// The entries of rules, from entry 0 on.
+fn rules(text: &[u8]) -> Said {
+    let mut table = Table::default();
+    match table.add_rules(text) {
+        Ok(_) => Said {
+            output: entry_lines(&table),
+            ..Said::default()
+        },
+        Err(error) => rules_refused(&error),
+    }
+}
+
+/// A job with rules behind the entries of its table.
+fn rules_onto(mut job: Job, text: &[u8]) -> Said {
+    match job.table.add_rules(text) {
+        Ok(_) => Said {
+            output: job.to_string(),
+            ..Said::default()
+        },
+        Err(error) => rules_refused(&error),
+    }
+}
+
+/// The lines of the rules in a job's table.
+fn rules_back(job: &Job) -> Said {
+    match job.table.rule_lines() {
+        Ok(output) => Said {
+            output,
+            ..Said::default()
+        },
+        Err(error) => rules_refused(&error),
+    }
+}
+
+/// A refusal in words, with the line and the field, and what to do next.
+fn rules_refused(error: &RuleError) -> Said {
+    Said {
+        error: format!(
+            "marshtrundle: answer {}: {error}\nmarshtrundle: {}\n",
+            error.number(),
+            error.advice()
+        ),
+        status: error.number() as u8,
+        ..Said::default()
     }
 }
 

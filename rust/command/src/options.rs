@@ -16,6 +16,7 @@ pub(crate) enum Subcommand {
     Free,
     Print { entries: bool, graph: Option<Graph> },
     Explain { html: bool, all: bool },
+    Rules { onto: Option<String>, back: bool },
 }
 
 #[derive(Clone, Copy)]
@@ -43,6 +44,10 @@ impl Options {
             "explain" => Subcommand::Explain {
                 html: false,
                 all: false,
+            },
+            "rules" => Subcommand::Rules {
+                onto: None,
+                back: false,
             },
             _ => return Err(format!("'{name}' is no subcommand")),
         };
@@ -72,6 +77,11 @@ impl Options {
                         }
                     });
                 }
+                ("--onto", Subcommand::Rules { onto, .. }) => *onto = Some(value()?.to_owned()),
+                ("--back", Subcommand::Rules { back, .. }) => *back = true,
+                (_, Subcommand::Rules { .. }) if word != "-" && word.starts_with('-') => {
+                    return Err(format!("'{name}' has no option {word}"))
+                }
                 ("--names", _) => options.names = Some(value()?.to_owned()),
                 ("--units", _) => options.units = Some(number(word, value()?)?),
                 ("--depth", _) => options.depth = Some(number(word, value()?)?),
@@ -89,6 +99,18 @@ impl Options {
             [file] => options.file = file.to_owned(),
             [] => return Err("no FILE".to_owned()),
             [_, other, ..] => return Err(format!("'{other}' is one word too many")),
+        }
+        if let Subcommand::Rules {
+            onto: Some(onto),
+            back,
+        } = &options.subcommand
+        {
+            if *back {
+                return Err("--onto and --back do not go together".to_owned());
+            }
+            if onto == "-" && options.file == "-" {
+                return Err("standard input is one file, not two".to_owned());
+            }
         }
         Ok(options)
     }

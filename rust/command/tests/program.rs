@@ -513,3 +513,119 @@ fn explain_tells_where_a_limit_was_met() {
         short.output
     );
 }
+
+/// A REC that gives the first child of a pair, a constructor 5: entries 0 to 6 of a job.
+const FIRST: [&str; 10] = [
+    "job 99 7 2 9",
+    "e 7 0 1",
+    "e 16 3 2",
+    "e 4 0 3 4",
+    "e 14 0 5",
+    "e 15 0 6",
+    "e 19 5 6 6",
+    "e 18 0",
+    "n 1",
+    "n 5 0 0",
+];
+
+#[test]
+fn rules_become_entries() {
+    let ran = told(&["rules", "-"], &job(&["5 2 v0 v1 5 2 v1 v0"]));
+    let entries = [
+        "e 16 3 1",
+        "e 4 0 2 6",
+        "e 14 0 3",
+        "e 19 5 4 5",
+        "e 18 0",
+        "e 18 1",
+        "e 15 0 7",
+        "e 19 5 8 9",
+        "e 18 1",
+        "e 18 0",
+    ];
+    assert_eq!(ran.output, job(&entries));
+    assert_eq!((ran.status, ran.error.as_str()), (0, ""));
+    let ran = told(&["rules", "-"], "");
+    assert_eq!((ran.status, ran.output.as_str()), (0, ""));
+}
+
+#[test]
+fn rules_go_onto_a_job_and_back() {
+    let folder = std::env::temp_dir().join(format!("marshtrundle-rules-{}", std::process::id()));
+    std::fs::create_dir_all(&folder).unwrap();
+    let base = folder.join("base.job");
+    let mut lines = FIRST.to_vec();
+    lines.push("n 9 1");
+    std::fs::write(&base, job(&lines)).unwrap();
+    let base = base.to_str().unwrap();
+    // 9(p) -> 4(x) where <first> p gives x
+    let rule = job(&["9 1 v7 4 1 v40 0 v7 v40"]);
+    let ran = told(&["rules", "-", "--onto", base], &rule);
+    assert_eq!((ran.status, ran.error.as_str()), (0, ""));
+    let whole = folder.join("whole.job");
+    std::fs::write(&whole, &ran.output).unwrap();
+    let whole = whole.to_str().unwrap();
+    let ran = told(&["run", whole, "--print"], "");
+    assert_eq!((ran.status, ran.output.as_str()), (0, "4(1)\n"));
+    let ran = told(&["rules", whole, "--back"], "");
+    assert_eq!((ran.status, ran.output), (0, rule));
+    let ran = told(&["rules", "-", "--onto", base], &job(&["v0 v0 1 v0 v0"]));
+    assert_eq!((ran.status, ran.output.as_str()), (22, ""));
+    std::fs::remove_dir_all(folder).unwrap();
+}
+
+#[test]
+fn a_refused_rule_is_said_with_its_line_and_field() {
+    for (text, status, says) in [
+        (
+            "v0\tv0\n5\t7\n",
+            18,
+            "answer 18: line 2, field 2: '7' does not stand in a rule here",
+        ),
+        (
+            "v0\tv0",
+            18,
+            "answer 18: line 1, field 3: the line is cut short",
+        ),
+        (
+            "v0\tv0\n\n",
+            18,
+            "answer 18: line 2, field 1: the field is empty",
+        ),
+        (
+            "v0\tv1\n",
+            19,
+            "answer 19: line 1: the rule builds a variable that nothing before it binds",
+        ),
+        (
+            "v64\tv64\n",
+            20,
+            "answer 20: line 1: a variable is above 63",
+        ),
+        (
+            "v0\tv0\t0\tv0\tv0\n",
+            22,
+            "answer 22: line 1: a condition's number is no REC without free variables",
+        ),
+    ] {
+        let ran = told(&["rules", "-"], text);
+        assert_eq!((ran.status, ran.output.as_str()), (status, ""));
+        assert!(ran.error.contains(says), "{}", ran.error);
+        assert_eq!(ran.error.lines().count(), 2, "{}", ran.error);
+    }
+    let ran = told(&["rules", "-"], &"v0\tv0\n".repeat(683));
+    assert_eq!(ran.status, 23);
+    assert!(ran.error.contains("answer 23: line 683: "), "{}", ran.error);
+    let ran = told(&["rules", "-", "--back"], &job(&["job 1 0 0 1", "e 20 0"]));
+    assert_eq!(ran.status, 13);
+    for words in [
+        &["rules"][..],
+        &["rules", "-", "--onto"],
+        &["rules", "-", "--onto", "-"],
+        &["rules", "-", "--back", "--onto", "x"],
+        &["rules", "-", "--units", "9"],
+        &["run", "-", "--back"],
+    ] {
+        assert_eq!(told(words, "").status, 64, "{words:?}");
+    }
+}

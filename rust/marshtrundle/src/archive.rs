@@ -1,4 +1,4 @@
-//! The eight functions of the archive, as safe functions over slices of words. This is the only module with `unsafe` in it.
+//! The ten functions of the archive, as safe functions over slices of words. This is the only module with `unsafe` in it.
 //!
 //! The archive asks one thing of its caller: each pointer is aligned and valid for its words, and what is lent for writing
 //! overlaps nothing else. Rust's references give this, empty slices too. So every word and every number is allowed here.
@@ -85,6 +85,23 @@ extern "C" {
     );
     fn marshtrundle_check_table(table: *const u32, words: usize, numbers: *mut u32);
     fn marshtrundle_check_store(store: *const u32, words: usize, mark: u32, numbers: *mut u32);
+    fn marshtrundle_translate_rules(
+        table: *mut u32,
+        table_words: usize,
+        used: u32,
+        text: *const u8,
+        text_bytes: usize,
+        numbers: *mut u64,
+    );
+    fn marshtrundle_write_rule(
+        table: *const u32,
+        table_words: usize,
+        used: u32,
+        entry: u32,
+        buffer: *mut u8,
+        buffer_bytes: usize,
+        numbers: *mut u64,
+    );
 }
 
 /// The run: answer, place, subject, mark and units used. The calling thread needs [`STACK`](crate::STACK) bytes of stack.
@@ -282,6 +299,42 @@ pub fn check_store(store: &[u32], mark: u32) -> [u32; 2] {
     // SAFETY: as in `run`. The store is only read, and `numbers` has the two words that are written.
     unsafe {
         marshtrundle_check_store(store.as_ptr(), store.len(), mark, numbers.as_mut_ptr());
+    }
+    numbers
+}
+
+/// Rules as text into a table whose first `used` entries are in use: answer, line, field and the entries in use then.
+pub fn translate_rules(table: &mut [u32], used: u32, text: &[u8]) -> [u64; 4] {
+    let mut numbers = [0; 4];
+    // SAFETY: as in `run`. The table is a mutable reference, the text is only read, and `numbers` has the four words that are written.
+    unsafe {
+        marshtrundle_translate_rules(
+            table.as_mut_ptr(),
+            table.len(),
+            used,
+            text.as_ptr(),
+            text.len(),
+            numbers.as_mut_ptr(),
+        );
+    }
+    numbers
+}
+
+/// The rule that starts at an entry, as a line at the start of the buffer: answer, place and length.
+pub fn write_rule(table: &[u32], used: u32, entry: u32, buffer: &mut [u8]) -> [u64; 3] {
+    let mut numbers = [0; 3];
+    // SAFETY: as in `run`. The buffer is a mutable reference, the table is only read, and `numbers` has the three words that are
+    // written.
+    unsafe {
+        marshtrundle_write_rule(
+            table.as_ptr(),
+            table.len(),
+            used,
+            entry,
+            buffer.as_mut_ptr(),
+            buffer.len(),
+            numbers.as_mut_ptr(),
+        );
     }
     numbers
 }

@@ -130,6 +130,17 @@ impl Job {
     }
 }
 
+/// The entries of a table as `e` lines.
+pub fn entry_lines(table: &Table) -> String {
+    let mut text = String::new();
+    for row in table.words().chunks_exact(8) {
+        let numbers = [u64::from(row[0] / 16), kind::argument(row)];
+        let operands = kind::operands(row).iter().map(|&operand| operand.into());
+        text.push_str(&line_of("e", numbers.into_iter().chain(operands)));
+    }
+    text
+}
+
 /// The job's text. What is read from it is the job, where the table and the store have their form.
 impl fmt::Display for Job {
     fn fmt(&self, f: &mut fmt::Formatter<'_>) -> fmt::Result {
@@ -140,11 +151,7 @@ impl fmt::Display for Job {
             self.store.capacity() as u32,
         ];
         let mut text = line_of("job", head.map(u64::from));
-        for row in self.table.words().chunks_exact(8) {
-            let numbers = [u64::from(row[0] / 16), kind::argument(row)];
-            let operands = kind::operands(row).iter().map(|&operand| operand.into());
-            text.push_str(&line_of("e", numbers.into_iter().chain(operands)));
-        }
+        text.push_str(&entry_lines(&self.table));
         self.write_store(&mut text);
         f.write_str(&text)
     }

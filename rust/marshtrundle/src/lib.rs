@@ -113,7 +113,8 @@
 //! - [`show`] shows terms, strategies and tables by names, as text and as graphs, and what differs in two terms.
 //! - [`Signature`] declares the child count of each constructor. The builders refuse what does not obey it, and [`run_signed`]
 //!   and [`run_many_signed`] refuse a table or a store that does not.
-//! - [`words`] has the library's eight functions over plain slices of words.
+//! - [`Table::add_rules`] translates rules as text, and [`Table::rule_line`] writes a rule back; [`RuleError`] says the line and the field.
+//! - [`words`] has the library's ten functions over plain slices of words.
 //!
 //! # What is promised
 //!
@@ -146,6 +147,7 @@ mod miss;
 mod names;
 mod outcome;
 pub mod pipeline;
+mod rule_text;
 mod rules;
 pub mod show;
 mod signature;
@@ -159,6 +161,7 @@ pub use bindings::{Bindings, Var, VarSet, VARIABLES, VARS};
 pub use fault::{EntryFault, Fault};
 pub use many::{run_many, run_many_signed, Outcomes};
 pub use miss::Miss;
+pub use rule_text::{RuleError, RULE_BYTES};
 pub use signature::Signature;
 pub use store::{Node, Store, Term};
 pub use strategy::{Pattern, Strategy};
@@ -169,7 +172,7 @@ pub use table::{Entry, Table, TableBuilder};
 #[doc = include_str!("../README.md")]
 mod readme {}
 
-/// The library's eight functions over plain slices of words, for callers that keep their own tables and stores.
+/// The library's ten functions over plain slices of words, for callers that keep their own tables and stores.
 ///
 /// They take any words of any length, and give the numbers of document 01 back.
 ///
@@ -181,7 +184,7 @@ mod readme {}
 pub mod words {
     pub use crate::archive::{
         check_store, check_table, collect, free_variables, run, run_many, run_many_signed,
-        run_signed,
+        run_signed, translate_rules, write_rule,
     };
 }
 

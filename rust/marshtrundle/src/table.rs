@@ -64,6 +64,11 @@ impl Table {
         &self.words
     }
 
+    /// Other words for the table; its names stay.
+    pub(crate) fn replace_words(&mut self, words: Vec<u32>) {
+        self.words = words;
+    }
+
     /// The number of entries.
     pub fn entries(&self) -> usize {
         self.words.len() / 8

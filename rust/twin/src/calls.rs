@@ -7,7 +7,8 @@
 //! word 8 times MARK on, and those before begin as 0. Then each patch sets one
 //! word.
 //!
-//! The slices: 0 table, 1 store, 2 bindings, 3 signature, 4 subjects, 5 results.
+//! The slices: 0 table, 1 store, 2 bindings, 3 signature, 4 subjects, 5 results,
+//! 10 text and 11 buffer (a byte in each word).
 //!
 //! The tags and their answers, where WORDS are ` INDEX=VALUE` for each word that
 //! is not zero, or one sum where there are more than 512 words:
@@ -17,10 +18,15 @@
 //!
 //! `m`, many subjects: `LABEL ANSWER PLACE`, the bindings' WORDS, ` :`, the
 //! store's WORDS, ` :`, the results' WORDS. SUBJECT is 0.
+//!
+//! `r`, the translator: `LABEL ANSWER LINE FIELD ENTRIES`, the table's WORDS. MARK
+//! is the number of entries in use; START, SUBJECT and UNITS are 0. `w`, the
+//! writer: `LABEL ANSWER PLACE LENGTH`, the buffer's WORDS. START is the entry.
 
 use crate::checks::WIDTH;
 use crate::engine::{run_lent, Lent};
 use crate::many::run_many;
+use crate::rules::{translate, write_rule};
 use crate::text::{field, label, show_slice, RunCase};
 use std::collections::BTreeMap;
 use std::fmt::Write;
@@ -40,6 +46,10 @@ pub const SIGNATURE: u32 = 3;
 pub const SUBJECTS: u32 = 4;
 /// The number of the results.
 pub const RESULTS: u32 = 5;
+/// The number of the text.
+pub const TEXT: u32 = 10;
+/// The number of the buffer.
+pub const BUFFER: u32 = 11;
 
 /// Which call a case is for.
 #[derive(Clone, Copy, Debug, PartialEq, Eq)]
@@ -48,10 +58,19 @@ pub enum Call {
     Run,
     /// Many subjects.
     Many,
+    /// The translator of rules.
+    Translate,
+    /// The writer of a rule.
+    Write,
 }
 
 /// The calls and their tags.
-const TAGS: [(Call, &str); 2] = [(Call::Run, "l"), (Call::Many, "m")];
+const TAGS: [(Call, &str); 4] = [
+    (Call::Run, "l"),
+    (Call::Many, "m"),
+    (Call::Translate, "r"),
+    (Call::Write, "w"),
+];
 
 /// One input of a call.
 #[derive(Clone, Debug, PartialEq, Eq)]
@@ -104,8 +123,11 @@ impl CallCase {
     fn slices(&self) -> BTreeMap<u32, Vec<u64>> {
         let mut all = self.lent.clone();
         all.insert(TABLE, wide(&self.run.table));
-        all.insert(STORE, wide(&self.run.store));
-        all.insert(BINDINGS, wide(&self.run.bindings));
+        // Rules need no store.
+        if !matches!(self.call, Call::Translate | Call::Write) {
+            all.insert(STORE, wide(&self.run.store));
+            all.insert(BINDINGS, wide(&self.run.bindings));
+        }
         all
     }
 
@@ -113,6 +135,12 @@ impl CallCase {
     pub fn words(&self, slice: u32) -> Option<Vec<u32>> {
         let words = self.lent.get(&slice)?;
         Some(narrow(words).expect("the slice has 32-bit words"))
+    }
+
+    /// A lent slice of bytes.
+    pub fn bytes(&self, slice: u32) -> Vec<u8> {
+        let words = self.lent.get(&slice).cloned().unwrap_or_default();
+        words.iter().map(|&word| word as u8).collect()
     }
 
     /// The case as a line, without the line feed.
@@ -201,6 +229,8 @@ impl CallCase {
         match self.call {
             Call::Run => self.answer_run(),
             Call::Many => self.answer_many(),
+            Call::Translate => self.answer_translate(),
+            Call::Write => self.answer_write(),
         }
     }
 
@@ -255,6 +285,30 @@ impl CallCase {
             line.push_str(" :");
             show_slice(&mut line, &wide(words));
         }
+        line
+    }
+
+    /// Answers the translator.
+    fn answer_translate(self) -> String {
+        let text = self.bytes(TEXT);
+        let mut run = self.run;
+        let end = translate(&mut run.table, run.mark, &text);
+        let mut line = format!(
+            "{} {} {} {} {}",
+            run.label, end.answer, end.line, end.field, end.entries
+        );
+        show_slice(&mut line, &wide(&run.table));
+        line
+    }
+
+    /// Answers the writer.
+    fn answer_write(self) -> String {
+        let mut buffer = self.bytes(BUFFER);
+        let run = self.run;
+        let end = write_rule(&run.table, run.mark, run.start, &mut buffer);
+        let mut line = format!("{} {} {} {}", run.label, end.answer, end.place, end.length);
+        let bytes: Vec<u64> = buffer.iter().map(|&byte| u64::from(byte)).collect();
+        show_slice(&mut line, &bytes);
         line
     }
 }

@@ -20,6 +20,27 @@ fn by_the_rules(table: &[u32], sets: &[u64], entry: usize) -> u64 {
     }
 }
 
+/// The free variables of every entry of a good table. A pattern has its own.
+///
+/// 01: "The smallest sets that fit these rules are meant." Begin with empty sets
+/// and apply the rules until nothing grows. The rules only add, so the first
+/// fitting sets reached are the smallest.
+pub(crate) fn free_sets(table: &[u32]) -> Vec<u64> {
+    let entries = table.len() / WIDTH;
+    let mut sets = vec![0; entries];
+    loop {
+        let mut grown = false;
+        for place in (0..entries).rev() {
+            let set = by_the_rules(table, &sets, place);
+            grown |= set != sets[place];
+            sets[place] = set;
+        }
+        if !grown {
+            return sets;
+        }
+    }
+}
+
 /// The free variables of a strategy entry: answer, place and mask.
 ///
 /// 01: "The question takes a table and a strategy entry and returns answer,
@@ -35,19 +56,5 @@ pub fn free_variables(table: &[u32], entry: u32) -> (u32, u32, u64) {
     if entry as usize >= entries || sort_of(kind_of(table, entry)) != Some(Sort::Strategy) {
         return (BAD_START, 0, 0);
     }
-    // 01: "The smallest sets that fit these rules are meant." Begin with empty
-    // sets and apply the rules until nothing grows. The rules only add, so the
-    // first fitting sets reached are the smallest.
-    let mut sets = vec![0; entries];
-    loop {
-        let mut grown = false;
-        for place in (0..entries).rev() {
-            let set = by_the_rules(table, &sets, place);
-            grown |= set != sets[place];
-            sets[place] = set;
-        }
-        if !grown {
-            return (DONE, 0, sets[entry as usize]);
-        }
-    }
+    (DONE, 0, free_sets(table)[entry as usize])
 }

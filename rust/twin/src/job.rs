@@ -52,7 +52,7 @@ const ANY: u64 = u32::MAX as u64;
 
 /// 01: "Other numbers go up to 4,294,967,295; all are decimal, without leading
 /// zeros."
-fn number(field: &[u8], most: u64) -> Result<u64, ()> {
+pub(crate) fn number(field: &[u8], most: u64) -> Result<u64, ()> {
     if field.is_empty() || (field.len() > 1 && field[0] == b'0') {
         return Err(());
     }

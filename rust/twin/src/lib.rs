@@ -6,9 +6,9 @@
 //!
 //! The files in reading order: `checks` (the table check, the store check, the
 //! signature), `refusals` (their order), `free` (free variables), `engine` (the
-//! run), `many` (many subjects), `collect` (the collection), `job` (the job
-//! program), then `text` and `calls` (cases as lines), `random`, `generate` and
-//! `statistics`.
+//! run), `many` (many subjects), `collect` (the collection), `rules`
+//! (rules as text), `job` (the job program), then `text` and `calls` (cases as
+//! lines), `random`, `generate` and `statistics`.
 //!
 //! A run may go 4,096 visits deep, and each visit is a call. So runs belong on
 //! a thread with a big stack: see [`with_big_stack`].
@@ -26,6 +26,7 @@ pub mod job;
 pub mod many;
 pub mod random;
 pub mod refusals;
+pub mod rules;
 pub mod statistics;
 pub mod text;
 
@@ -35,6 +36,7 @@ pub use engine::{run, run_lent, Lent, Outcome};
 pub use free::free_variables;
 pub use job::job;
 pub use many::run_many;
+pub use rules::{translate, write_rule, Translated, Written};
 
 /// The stack, in bytes, that is ample for 4,096 nested visits in any build.
 pub const STACK_BYTES: usize = 256 << 20;

@@ -5,8 +5,8 @@
 //! `twin job` reads one job's text and writes its answer.
 //! `twin statistics KIND SEED COUNT` counts what the cases cover.
 //!
-//! The kinds: `run`, `free`, `jobs`, and for the calls that 02 adds `signed` and
-//! `many`.
+//! The kinds: `run`, `free`, `jobs`, and for the calls that 02 adds `signed`,
+//! `many` and `rules`.
 
 #![forbid(unsafe_code)]
 
@@ -21,7 +21,7 @@ const USAGE: &str = "usage: twin generate KIND SEED COUNT
        twin answer KIND
        twin job
        twin statistics KIND SEED COUNT
-where KIND is run, free, jobs, signed or many";
+where KIND is run, free, jobs, signed, many or rules";
 
 /// Writes COUNT cases of a kind.
 fn generate(kind: &str, seed: u64, count: u64) -> Result<(), String> {

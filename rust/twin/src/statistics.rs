@@ -382,13 +382,23 @@ pub fn of_calls(make: fn(u64, u64) -> CallCase, seed: u64, count: u64) -> String
     let mut made = 0u64;
     let mut subjects: BTreeMap<&str, u64> = BTreeMap::new();
     let mut each = Answers::new();
+    let mut writer = Answers::new();
+    let mut added: BTreeMap<&str, u64> = BTreeMap::new();
     for index in 0..count {
         let case = make(seed, index);
         count_subjects(&case, &mut subjects, &mut each);
         let (call, mark) = (case.call, case.run.mark);
         empty += u64::from(case.lent.values().any(|words| words.is_empty()));
         let numbers = numbers_of(&case.answer());
+        if call == Call::Write {
+            *writer.entry(numbers[0] as u32).or_default() += 1;
+            continue;
+        }
         *answers.entry(numbers[0] as u32).or_default() += 1;
+        if numbers[0] == 0 && call == Call::Translate {
+            let entries = numbers[3] as u32 - mark;
+            *added.entry(span(entries)).or_default() += 1;
+        }
         if numbers[0] == 0 && call == Call::Run {
             made += u64::from(numbers[3] > u64::from(mark));
         }
@@ -404,6 +414,16 @@ pub fn of_calls(make: fn(u64, u64) -> CallCase, seed: u64, count: u64) -> String
             made, empty
         ),
     );
+    if !writer.is_empty() {
+        say(text, format_args!("translations by the entries added"));
+        for name in SPANS {
+            if let Some(number) = added.get(name) {
+                say(text, format_args!("  {}: {}", name, number));
+            }
+        }
+        say(text, format_args!("the writer's answers"));
+        say_answers(text, &writer, writer.values().sum());
+    }
     if !subjects.is_empty() {
         say(text, format_args!("accepted calls by their subjects"));
         for name in SPANS {

@@ -7,7 +7,8 @@
 //! four numbers and every word of store, bindings and work list are compared. COUNT
 //! runs with a signature, COUNT calls with many subjects, some with a signature,
 //! refused ones too, and the questions go through the proved function and the
-//! plain one. It ends with 1 where two of them differ, and with 2 where the words
+//! plain one. So do COUNT texts of rules and rules to write: the numbers, every
+//! word of the table and every byte of the buffer are compared. It ends with 1 where two of them differ, and with 2 where the words
 //! leave nothing to compare.
 
 #![forbid(unsafe_code)]
@@ -15,8 +16,8 @@
 use bench::engines::ENGINES;
 use bench::foreign;
 use std::process::ExitCode;
-use twin::calls::{CallCase, RESULTS, SIGNATURE, SUBJECTS};
-use twin::generate::{free_case, many_case, run_case, signed_case};
+use twin::calls::{Call, CallCase, BUFFER, RESULTS, SIGNATURE, SUBJECTS, TEXT};
+use twin::generate::{free_case, many_case, rules_case, run_case, signed_case};
 use twin::text::{FreeCase, RunCase};
 
 /// Whether the three engines agree on a case.
@@ -168,6 +169,37 @@ fn many_agrees(case: &CallCase) -> bool {
     numbers == [answer, place] && proved == plain
 }
 
+/// Whether the proved function and the plain one agree on a text of rules: the
+/// four numbers and every word of the table.
+fn translation_agrees(case: &CallCase) -> bool {
+    let text = case.bytes(TEXT);
+    let used = case.run.mark;
+    let mut proved = case.run.table.clone();
+    let numbers = foreign::translate_rules(&mut proved, used, &text);
+    let mut plain = case.run.table.clone();
+    let end = twin::translate(&mut plain, used, &text);
+    numbers == [end.answer, end.line, end.field, end.entries].map(u64::from) && proved == plain
+}
+
+/// Whether they agree on a rule to write: the three numbers and every byte of the
+/// buffer.
+fn writing_agrees(case: &CallCase) -> bool {
+    let run = &case.run;
+    let mut proved = case.bytes(BUFFER);
+    let numbers = foreign::write_rule(&run.table, run.mark, run.start, &mut proved);
+    let mut plain = case.bytes(BUFFER);
+    let end = twin::write_rule(&run.table, run.mark, run.start, &mut plain);
+    numbers == [end.answer, end.place, end.length].map(u64::from) && proved == plain
+}
+
+/// Whether the proved functions and the plain ones agree on a case of rules.
+fn rules_agree(case: &CallCase) -> bool {
+    match case.call {
+        Call::Translate => translation_agrees(case),
+        _ => writing_agrees(case),
+    }
+}
+
 /// Whether the proved function and the plain one agree on a question.
 fn question_agrees(case: &FreeCase) -> bool {
     let (answer, place, mask) = twin::free_variables(&case.table, case.entry);
@@ -198,6 +230,10 @@ fn compare(first: u64, last: u64, count: u64) -> u64 {
                 println!("call {} with many subjects of seed {} differs", index, seed);
                 differ += 1;
             }
+            if !rules_agree(&rules_case(seed, index)) {
+                println!("rules {} of seed {} differ", index, seed);
+                differ += 1;
+            }
             if !question_agrees(&free_case(seed, index)) {
                 println!("question {} of seed {} differs", index, seed);
                 differ += 1;
@@ -219,11 +255,12 @@ fn main() -> ExitCode {
     let differ = twin::with_big_stack(move || compare(first, last, count));
     let each = (last - first + 1) * count;
     println!(
-        "{} runs, {} signed runs, {} calls with many subjects, {} collections and {} questions compared, {} differ",
+        "{} runs, {} signed runs, {} calls with many subjects, {} collections, {} texts of rules or rules to write and {} questions compared, {} differ",
         each,
         each,
         each,
         2 * each,
+        each,
         each,
         differ
     );

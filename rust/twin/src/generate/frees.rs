@@ -37,7 +37,7 @@ pub fn free_case(seed: u64, index: u64) -> FreeCase {
 
 /// A table in which every entry is of a random kind. It is made from its end,
 /// so that the operands' sorts are known.
-fn dense(random: &mut Random, entries: u32) -> FreeCase {
+pub(super) fn dense(random: &mut Random, entries: u32) -> FreeCase {
     let mut table = vec![0; WIDTH * entries as usize];
     let mut strategies = Vec::new();
     let mut patterns = Vec::new();

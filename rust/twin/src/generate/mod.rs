@@ -4,12 +4,14 @@
 //! `terms` makes stores, `plans` makes tables that do something on them, `damage`
 //! makes them bad, `runs` puts limits around them and damages some, `frees` and
 //! `jobs` do the same for the other two questions, `signed` lends a
-//! signature, `subjects` makes calls with many subjects.
+//! signature, `subjects` makes calls with many subjects, `rules` makes rules as
+//! text and rules to write.
 
 mod damage;
 mod frees;
 mod jobs;
 mod plans;
+mod rules;
 mod runs;
 mod signed;
 mod subjects;
@@ -22,12 +24,14 @@ pub fn call_cases(kind: &str) -> Option<fn(u64, u64) -> CallCase> {
     match kind {
         "signed" => Some(signed_case),
         "many" => Some(many_case),
+        "rules" => Some(rules_case),
         _ => None,
     }
 }
 
 pub use frees::free_case;
 pub use jobs::job_text;
+pub use rules::rules_case;
 pub use runs::run_case;
 pub use signed::signed_case;
 pub use subjects::many_case;

@@ -1,0 +1,17 @@
+-- `vectors::requests::call_translate` is safe: the text is a part of the case's bytes. Assumes nothing.
+use mathlib.Core.Path.{sym}
+use borrow.Author.Needs.{needs}
+use lib.Seq.{length-take-le}
+use Rattle.vectors.proofs.requests.call_translate.Statement.{statement}
+use Rattle.vectors.proofs.requests.call_translate.Tie as tie
+
+slice-aggregate-translate : tie.Need-slice-aggregate-translate
+slice-aggregate-translate c = sym (length-take-le _ _ (search needs))
+
+pub call-translate-spec : {M : Type 1} → statement M
+call-translate-spec =
+    tie.close
+    (tie.spec
+    (λ c. search needs) (λ c. search needs) (λ c. search needs) (λ c. search needs) (λ c. search needs)
+    (λ c. search needs) (λ c. search needs) (λ c κs. search needs) (λ c. search needs) slice-aggregate-translate
+    (λ c κs. search needs) (λ c κs. search needs) (λ c. search needs) (λ c. search needs))
