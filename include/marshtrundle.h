@@ -41,9 +41,9 @@
  * THE STACK. Give a thread that calls a function whose name begins with mt_run MT_STACK bytes (2 MiB). A run nests at most
  * 4,096 visits, and each form of visit takes its own number of bytes. The deepest, CONG, takes 1.9 MiB in all; in this is a
  * copy of the table, 128 KiB whatever the table's size. It is measured, not proved: the Rust crate's tests run 4,096 levels
- * of each form on a thread of exactly 2 MiB, with one subject and with two. mt_write_rule takes less than 256 KiB, the other functions
- * less than 64 KiB. On a smaller stack a deep run ends in the thread's guard page, if it has one: the code touches every page of a large
- * frame in order.
+ * of each form on a thread of exactly 2 MiB, with one subject and with two. mt_translate_rules and mt_write_rule take less
+ * than 256 KiB, the other functions less than 64 KiB. On a smaller stack a deep run ends in the thread's guard page, if it has
+ * one: the code touches every page of a large frame in order.
  *
  * THE STORE. Eight words to a node. Node k has words 8k to 8k + 7:
  *   word 0       the constructor, 0 to 65,535

@@ -362,6 +362,18 @@ def refusals():
         case("bound in %r" % text, BASE, text)
     for text in ("v64 v64\n", "v64 1 0\n", "v0 v0 0 v0 v64\n", "v0 v64 0 v0 v64\n", "v4294967295 v4294967295\n", "v0 v65 1 v0 v65\n", "1 1 v96 v96\n", "v0 v0 0 v0 v64 1 v0 v0\n"):
         case("20 in %r" % text, BASE, text, 20, 1, 0)
+    # Variables that share their lowest twelve bits, and then some more of them.
+    for name, far in (("close by", [64 + i for i in range(150)]), ("twelve bits shared", [64 + 4096 * i for i in range(150)]),
+                      ("one bit apart", [64] + [64 + 2 ** i for i in range(12, 32)]), ("the greatest", [4294967295 - i for i in range(150)])):
+        there = " ".join("1 2 v%d" % v for v in far) + " 1 0"
+        turned = " ".join("1 2 v%d" % v for v in reversed(far)) + " 1 0"
+        for way, text in (("left", there + " " + turned), ("outcome", "v0 " + turned + " 0 v0 " + there),
+                          ("start", there + " v%d 0 " % far[-1] + turned + " v1")):
+            case("20, many variables out of range, %s, %s" % (name, way), BASE, text + "\n", 20, 1, 0)
+        for one in (far[0], far[len(far) // 2], far[-1]):
+            gap = there.replace("v%d " % one, "v0 ")
+            case("19, v%d of many not bound, %s" % (one, name), BASE, gap + " " + turned + "\n", 19, 1, 0)
+            case("19, v%d of many bound too late, %s" % (one, name), BASE, gap + " v0 0 " + turned + " v%d\n" % one, 19, 1, 0)
     for e in (1, 2, 3, 4, 5, 6, 8, 9, 10, 11, 13, 14, 15, 73, 74, 4095, 4096, 4294967295):
         case("22 for entry %d" % e, BASE, "v0 v0 %d v0 v0\n" % e, 22, 1, 0)
     for e in (0, 7, 12):

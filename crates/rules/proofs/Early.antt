@@ -160,12 +160,12 @@ late-now : (v : ℕ) (seen : Bool) (c : Condition) (cs : List Condition) (p : Pa
 unfolding lateFrom
 late-now v seen c cs p x y = rw (x, y)
 
-late-step : (v : ℕ) (seen : Bool) (c : Condition) (cs : List Condition) (p : Pat) → member v (variables (c .start)) && not seen ≡ false
+pub late-step : (v : ℕ) (seen : Bool) (c : Condition) (cs : List Condition) (p : Pat) → member v (variables (c .start)) && not seen ≡ false
     → lateFrom v seen (c ∷ cs) p ≡ lateFrom v (seen || member v (variables (c .outcome))) cs p
 unfolding lateFrom
 late-step v seen c cs p x = rw x
 
-late-last : (v : ℕ) (seen : Bool) (cs : List Condition) (p : Pat) → cs ≡ [] → lateFrom v seen cs p ≡ member v (variables p) && not seen
+pub late-last : (v : ℕ) (seen : Bool) (cs : List Condition) (p : Pat) → cs ≡ [] → lateFrom v seen cs p ≡ member v (variables p) && not seen
 unfolding lateFrom
 late-last v seen cs p e = rw e
 
@@ -190,7 +190,7 @@ module _ {l : List ℕ} {right conditions : ℕ} (h : RuleLine l right condition
       let from : right ≡ 0 + width (patFields (r .left)) = omega (arith, h .right-at) in
       ap (fieldsFrom l) from ∙ fields-along l 0 (patFields (r .left)) (patFields (r .right) ++ conditionsFields (r .conditions)) (h .text)
 
-  right-end : conditions ≡ right + width (patFields (r .right))
+  pub right-end : conditions ≡ right + width (patFields (r .right))
   right-end = omega (arith, h .right-at, h .conditions-at)
 
   pub conditions-text : fieldsFrom l conditions ≡ conditionsFields (r .conditions)

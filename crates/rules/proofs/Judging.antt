@@ -1,28 +1,23 @@
 -- What 19 and 20 say of a rule, from its variables one by one. Assumes nothing.
 use mathlib.Core.Path.{_≡_, refl, ap, sym, _∙_, subst}
 use mathlib.Core.Bool.{Bool, true, false, not, _&&_, _||_}
-use mathlib.Core.Option.{Option, none, some}
-use mathlib.Core.List.{List, [], _∷_, _++_, append-assoc, append-nil}
-use Prim.Native.Nat.{ℕ, zero, suc, _+_, _-_, _≤_, _<_}
-use native.Mathlib.Omega.{arith}
+use mathlib.Core.Option.{some}
+use mathlib.Core.List.{List, [], _∷_, _++_}
+use Prim.Native.Nat.{ℕ, _+_, _-_}
 use lib.Dec.{eqb, ltb, leb}
-use lib.ListN.{length, take, drop}
-use borrow.Author.Tests.{eqb-true, eq-eqb, ne-eqb, ltb-true, ltb-false, lt-ltb, le-ltb}
+use borrow.Author.Tests.{eqb-true, eq-eqb}
 use Rattle.words.specs.Tests.{if_then_else_}
 use Rattle.checks.specs.Kinds.{variables as most}
 use Rattle.meaning.proofs.Tests.{impossible, decided}
-use Rattle.text.specs.Text.{upTo, oneWord, numberOf, decimal}
+use Rattle.text.specs.Text.{oneWord, numberOf, decimal}
 use Rattle.text.proofs.Put.{for-one}
 use Rattle.text.proofs.Decimal.{number-decimal}
 use Rattle.rules.specs.Rule.{Pat, Condition, Rule, variables, member, allIn, conditionsVariables, ruleVariables, boundFrom, bound}
-use Rattle.rules.specs.Text.{Fields, patFields, conditionsFields, ruleFields, PlainConditions, plain-end, plain-next, PlainRule, Head, variable, constructor, neither, headOf}
-use Rattle.rules.specs.Text.{constructorHead, rule, ruleOf}
-use Rattle.rules.specs.Scan.{width, fieldsFrom}
-use Rattle.rules.specs.Bound.{lateFrom, late, allBelow, variablesAnswer, RuleLine, Late, one, no, LateIn, Judged, nothing, early, large, JudgedIn, worseOf, answersVariables}
+use Rattle.rules.specs.Text.{patFields, conditionsFields, ruleFields, PlainConditions, plain-end, plain-next, PlainRule, variable, constructor, neither, headOf}
+use Rattle.rules.specs.Text.{rule, ruleOf}
+use Rattle.rules.specs.Bound.{lateFrom, late, allBelow, variablesAnswer, RuleLine, Late, one, no, LateIn, answersVariables}
 use Rattle.rules.proofs.Reading.{number-plain}
-use Rattle.rules.proofs.Terms.{width-append, width-most}
-use Rattle.rules.proofs.Scanning.{fields-here, fields-past, end-within}
-use Rattle.rules.proofs.Binding.{headVariables, variablesIn, in-append, member-append, in-pat, or-false}
+use Rattle.rules.proofs.Binding.{headVariables, variablesIn, in-append, member-append, in-pat}
 use Rattle.rules.proofs.Early.{its-rule}
 
 true-false : {A : Type 0} {x : Bool} → x ≡ true → x ≡ false → A
@@ -164,7 +159,7 @@ in-rule r h =
       in-conditions (h .conditions),
     )
 
-below-append : (xs ys : List ℕ) → allBelow (xs ++ ys) ≡ allBelow xs && allBelow ys
+pub below-append : (xs ys : List ℕ) → allBelow (xs ++ ys) ≡ allBelow xs && allBelow ys
 unfolding allBelow
 below-append [] ys = refl
 below-append (x ∷ xs) ys = rw (below-append xs ys) (go (ltb x most))
@@ -173,7 +168,7 @@ below-append (x ∷ xs) ys = rw (below-append xs ys) (go (ltb x most))
     go true = refl
     go false = refl
 
-below-rule : (r : Rule) → PlainRule r → allBelow (variablesIn (ruleFields r)) ≡ allBelow (ruleVariables r)
+pub below-rule : (r : Rule) → PlainRule r → allBelow (variablesIn (ruleFields r)) ≡ allBelow (ruleVariables r)
 unfolding ruleVariables
 below-rule r h =
     rw (
@@ -192,7 +187,7 @@ below-rule r h =
     and-comm false false = refl
 
 -- A variable that is used too early is one of the rule's.
-late-used : (v : ℕ) (cs : List Condition) (seen : Bool) (p : Pat) → lateFrom v seen cs p ≡ true → member v (variables p ++ conditionsVariables cs) ≡ true
+pub late-used : (v : ℕ) (cs : List Condition) (seen : Bool) (p : Pat) → lateFrom v seen cs p ≡ true → member v (variables p ++ conditionsVariables cs) ≡ true
 unfolding lateFrom conditionsVariables member
 late-used v [] seen p e = member-append v (variables p) [] ∙ go (member v (variables p)) seen e
   where
@@ -219,28 +214,7 @@ late-used v (c ∷ cs) seen p e =
         more true q = refl
         more false q = q
 
--- ---- going through the fields
-
-still : (d : Bool) → _≡_ {A = ℕ} (if d then 0 else 20) (if d && true then 0 else 20)
-still true = refl
-still false = refl
-
-over : (d : Bool) → _≡_ {A = ℕ} 20 (if d && false then 0 else 20)
-over true = refl
-over false = refl
-
--- Variables of the fields up to a place: none is used too early, and the answer says whether all are in range.
-pub record Judging (l : List ℕ) (right conditions at answer : ℕ) : Type 0 where
-  pub its : Rule
-  pub is : ruleOf l ≡ rule its
-  pub plain : PlainRule its
-  pub all : fieldsFrom l 0 ≡ ruleFields its
-  pub done : Fields
-  pub text : fieldsFrom l 0 ≡ done ++ fieldsFrom l at
-  pub inside : at ≤ length l + 1
-  pub fine : (v : ℕ) → member v (variablesIn done) ≡ true → late v its ≡ false
-  pub small : (v : ℕ) → v < most → late v its ≡ false
-  pub range : answer ≡ (if allBelow (variablesIn done) then 0 else 20)
+-- ---- the answer
 
 pub answered-early : {l : List ℕ} {right conditions : ℕ} (h : RuleLine l right conditions) (base : ℕ) (answer : Bool) → LateIn (ruleOf l) base answer → answer ≡ true → answersVariables (ruleOf l) 19
 unfolding variablesAnswer
@@ -249,148 +223,3 @@ answered-early {l} h base answer e t = rw (its-rule h) (go (rw (its-rule h) at e
     go : Late base (h .its) answer → 19 ≡ variablesAnswer (h .its)
     go (one a v k) = rw (late-is v (h .its) k)
     go (no a k) = true-false t a
-
-pub judging-begin : {l : List ℕ} {right conditions : ℕ} (h : RuleLine l right conditions) (answer : Bool) → LateIn (ruleOf l) 0 answer → answer ≡ false → Judging l right conditions 0 0
-unfolding variablesIn member allBelow
-judging-begin {l} {right} {conditions} h answer e f = go (rw (its-rule h) at e)
-  where
-    go : Late 0 (h .its) answer → Judging l right conditions 0 0
-    go (one a v k) = true-false a f
-    go (no a k) = record {
-      its = h .its;
-      is = its-rule h;
-      plain = h .plain;
-      all = h .text;
-      done = [];
-      text = refl;
-      inside = omega arith;
-      fine = λ v m. impossible (cc);
-      small = λ v m. k v (omega arith) (omega arith);
-      range = refl;
-    }
-
-module _ {l : List ℕ} {right conditions at answer : ℕ} (g : Judging l right conditions at answer) where
-  -- The field that begins here is judged.
-  module _ (e : ℕ) (inside : at ≤ length l) (found : e ≡ at + length (upTo 9 (drop at l))) (answer′ : ℕ) (judged : JudgedIn (ruleOf l) answer′ (headOf (take (e - at) (drop at l)))) where
-    abbrev field : List ℕ
-    field = take (e - at) (drop at l)
-
-    told : Judged (g .its) answer′ (headOf field)
-    told = rw (g .is) at judged
-
-    -- It is used too early.
-    pub judging-early : answer′ ≡ 19 → answersVariables (ruleOf l) 19
-    unfolding variablesAnswer
-    judging-early z = rw (g .is) (go told)
-      where
-        go : Judged (g .its) answer′ (headOf field) → 19 ≡ variablesAnswer (g .its)
-        go (nothing p a) = absurd (omega (arith, a, z))
-        go (early v a p) = rw (late-is v (g .its) p)
-        go (large v a i m p) = absurd (omega (arith, a, z))
-
-    more-in : variablesIn (g .done ++ (field ∷ [])) ≡ variablesIn (g .done) ++ headVariables (headOf field)
-    unfolding variablesIn
-    more-in = in-append (g .done) (field ∷ []) ∙ ap (λ (vs : List ℕ). variablesIn (g .done) ++ vs) (append-nil (headVariables (headOf field)))
-
-    -- Its variable is not late.
-    head-fine : (answer′ ≡ 19 → ⊥) → (h : Head) → headOf field ≡ h → Judged (g .its) answer′ h → (v : ℕ) → member v (headVariables h) ≡ true → late v (g .its) ≡ false
-    unfolding member
-    head-fine n (constructor c) i j v m = impossible (cc)
-    head-fine n neither i j v m = impossible (cc)
-    head-fine n (variable w) i j v m = subst (λ (x : ℕ). late x (g .its) ≡ false) (sym (eqb-true v w (sym (or-false (eqb v w)) ∙ m))) (go j)
-      where
-        go : Judged (g .its) answer′ (variable w) → late w (g .its) ≡ false
-        go (nothing p a) = g .small w (p w refl)
-        go (early x a p) = absurd (n a)
-        go (large x a q k p) = let z : w ≡ x = cc in subst (λ (y : ℕ). late y (g .its) ≡ false) (sym z) p
-
-    head-range : (answer′ ≡ 19 → ⊥) → (h : Head) → Judged (g .its) answer′ h → (d : Bool) → answer ≡ (if d then 0 else 20)
-        → worseOf answer answer′ ≡ (if d && allBelow (headVariables h) then 0 else 20)
-    unfolding worseOf allBelow
-    head-range n h (early x a p) d z = absurd (n a)
-    head-range n (constructor c) (nothing p a) d z = rw (ne-eqb answer′ 20 (λ y. omega (arith, a, y))) (z ∙ still d)
-    head-range n neither (nothing p a) d z = rw (ne-eqb answer′ 20 (λ y. omega (arith, a, y))) (z ∙ still d)
-    head-range n (variable w) (nothing p a) d z = rw (ne-eqb answer′ 20 (λ y. omega (arith, a, y)), lt-ltb w most (p w refl)) (z ∙ still d)
-    head-range n h (large x a q k p) d z =
-        rw (eq-eqb answer′ 20 a) (subst (λ (y : Head). _≡_ {A = ℕ} 20 (if d && allBelow (headVariables y) then 0 else 20)) (sym q) (rw (le-ltb x most k) (over d)))
-
-    -- One field more.
-    pub judging-on : (answer′ ≡ 19 → ⊥) → (answer″ : ℕ) → answer″ ≡ worseOf answer answer′ → Judging l right conditions (e + 1) answer″
-    judging-on n answer″ z =
-        let here : fieldsFrom l at ≡ field ∷ fieldsFrom l (e + 1) = fields-here l at e inside found in
-        record {
-          its = g .its;
-          is = g .is;
-          plain = g .plain;
-          all = g .all;
-          done = g .done ++ (field ∷ []);
-          text = g .text ∙ ap (λ (fs : Fields). g .done ++ fs) here ∙ sym (append-assoc (g .done) (field ∷ []) (fieldsFrom l (e + 1)));
-          inside = omega (arith, end-within l at e inside found .1);
-          fine = λ v m. fine-more v (sym (ap (member v) more-in ∙ member-append v (variablesIn (g .done)) (headVariables (headOf field))) ∙ m);
-          small = g .small;
-          range = z ∙ head-range n (headOf field) told (allBelow (variablesIn (g .done))) (g .range)
-              ∙ ap (λ (b : Bool). if b then 0 else 20) (sym (ap allBelow more-in ∙ below-append (variablesIn (g .done)) (headVariables (headOf field))));
-        }
-      where
-        fine-more : (v : ℕ) → member v (variablesIn (g .done)) || member v (headVariables (headOf field)) ≡ true → late v (g .its) ≡ false
-        fine-more v m = decided (member v (variablesIn (g .done))) (g .fine v)
-            (λ q. head-fine n (headOf field) refl told v (rest (member v (variablesIn (g .done))) (member v (headVariables (headOf field))) q m))
-          where
-            rest : (x y : Bool) → x ≡ false → x || y ≡ true → y ≡ true
-            rest true y q r = impossible (cc)
-            rest false y q r = r
-
-  -- All fields are judged.
-  pub judging-end : length l < at → answersVariables (ruleOf l) answer
-  unfolding variablesAnswer late
-  judging-end past = rw (g .is) (g .range ∙ rw (bounded, in-range))
-    where
-      whole : g .done ≡ ruleFields (g .its)
-      whole = sym (append-nil (g .done)) ∙ ap (λ (fs : Fields). g .done ++ fs) (sym (fields-past l at past)) ∙ sym (g .text) ∙ g .all
-
-      in-range : allBelow (ruleVariables (g .its)) ≡ allBelow (variablesIn (g .done))
-      in-range = sym (below-rule (g .its) (g .plain)) ∙ ap (λ (fs : Fields). allBelow (variablesIn fs)) (sym whole)
-
-      among : (v : ℕ) → late v (g .its) ≡ true → member v (variablesIn (g .done)) ≡ true
-      among v e =
-          ap (λ (fs : Fields). member v (variablesIn fs)) whole
-          ∙ ap (member v) (in-rule (g .its) (g .plain))
-          ∙ member-append v (variables (g .its .left)) (variables (g .its .right) ++ conditionsVariables (g .its .conditions))
-          ∙ ap (λ (b : Bool). member v (variables (g .its .left)) || b) (late-used v (g .its .conditions) (member v (variables (g .its .left))) (g .its .right) e)
-          ∙ or-true (member v (variables (g .its .left)))
-        where
-          or-true : (x : Bool) → x || true ≡ true
-          or-true true = refl
-          or-true false = refl
-
-      bounded : bound (g .its) ≡ true
-      bounded = never-late (g .its) (λ v. decided (late v (g .its)) (λ e. true-false e (g .fine v (among v e))) (λ e. e))
-
--- ---- one field
-
-module _ {l : List ℕ} {right conditions : ℕ} (h : RuleLine l right conditions) where
-  judged-in : {answer : ℕ} {x : Head} → Judged (h .its) answer x → JudgedIn (ruleOf l) answer x
-  judged-in j = rw (its-rule h) j
-
-  pub judge-small : {x : Head} {v : ℕ} → variable v ≡ x → v < most → JudgedIn (ruleOf l) 0 x
-  judge-small {x} {v} e k = judged-in (nothing (λ w i. let z : v ≡ w = cc in subst (λ (y : ℕ). y < most) z k) refl)
-
-  pub judge-constructor : {x : Head} {c : ℕ} → constructor c ≡ x → JudgedIn (ruleOf l) 0 x
-  judge-constructor e = judged-in (nothing (λ w i. impossible (cc)) refl)
-
-  pub judge-neither : {x : Head} → neither ≡ x → JudgedIn (ruleOf l) 0 x
-  judge-neither e = judged-in (nothing (λ w i. impossible (cc)) refl)
-
-  pub judge-early : (x : Head) (v : ℕ) (answer : Bool) → LateIn (ruleOf l) v answer → answer ≡ true → JudgedIn (ruleOf l) 19 x
-  judge-early x v answer e t = go (rw (its-rule h) at e)
-    where
-      go : Late v (h .its) answer → JudgedIn (ruleOf l) 19 x
-      go (one a w k) = judged-in (early w refl k)
-      go (no a k) = true-false t a
-
-  pub judge-large : {x : Head} {v : ℕ} (answer : Bool) → LateIn (ruleOf l) v answer → answer ≡ false → variable v ≡ x → most ≤ v → JudgedIn (ruleOf l) 20 x
-  judge-large {x} {v} answer e f i k = go (rw (its-rule h) at e)
-    where
-      go : Late v (h .its) answer → JudgedIn (ruleOf l) 20 x
-      go (one a w m) = true-false a f
-      go (no a m) = judged-in (large v refl (sym i) k (m v (omega arith) (omega arith)))

@@ -18,6 +18,9 @@ pub mod Shaping
 pub mod Binding
 pub mod Early
 pub mod Judging
+pub mod Keys
+pub mod Passing
+pub mod Ranging
 pub mod Calling
 pub mod Checking
 pub mod Answering

@@ -4,14 +4,14 @@ use mathlib.Core.Path.{_≡_}
 use mathlib.Core.Bool.{Bool, true, false, not, _&&_, _||_}
 use mathlib.Core.List.{List, [], _∷_}
 use Prim.Native.Nat.{ℕ, _+_, _-_, _^_, _≤_, _<_}
-use lib.Dec.{leb, ltb, eqb}
+use lib.Dec.{leb, ltb}
 use lib.ListN.{length}
 use lib.Bits.{bitOr}
 use Rattle.words.specs.Tests.{if_then_else_}
 use Rattle.checks.specs.Kinds.{variables as most}
 use Rattle.rules.specs.Rule.{Pat, Condition, Rule, variables, member, ruleVariables, bound}
 use Rattle.rules.specs.Text.{Fields, Head, variable, constructor, neither, headOf, ruleFields, PlainRule, ReadRule, rule, badField}
-use Rattle.rules.specs.Scan.{width, fieldsFrom}
+use Rattle.rules.specs.Scan.{fieldsFrom}
 use Rattle.rules.specs.Shape.{rightAt, conditionsAt}
 
 -- v is used where it is not bound yet, in the order of the run; seen: it is bound before
@@ -64,19 +64,6 @@ pub data Late (base : ℕ) (r : Rule) (answer : Bool) : Type 0 where
 abbrev pub LateIn : ReadRule → ℕ → Bool → Type 0
 LateIn (rule r) base answer = Late base r answer
 LateIn (badField n) base answer = Unit {0}
-
--- one variable's: 19 where it is used too early, 20 where it is out of range
-pub data Judged (r : Rule) (answer : ℕ) : Head → Type 0 where
-  nothing : {h : Head} → ((v : ℕ) → h ≡ variable v → v < most) → answer ≡ 0 → Judged r answer h
-  early : {h : Head} (v : ℕ) → answer ≡ 19 → late v r ≡ true → Judged r answer h
-  large : {h : Head} (v : ℕ) → answer ≡ 20 → h ≡ variable v → most ≤ v → late v r ≡ false → Judged r answer h
-
-abbrev pub JudgedIn : ReadRule → ℕ → Head → Type 0
-JudgedIn (rule r) answer h = Judged r answer h
-JudgedIn (badField n) answer h = Unit {0}
-
-unfoldable pub worseOf : ℕ → ℕ → ℕ
-worseOf answer found = if eqb found 20 then 20 else answer
 
 abbrev pub answersVariables : ReadRule → ℕ → Type 0
 answersVariables (rule r) answer = answer ≡ variablesAnswer r

@@ -8,6 +8,8 @@ pub mod Scan
 pub mod Condition
 pub mod Shape
 pub mod Bound
+pub mod Tree
+pub mod Far
 pub mod Line
 pub mod Check
 pub mod Answer

@@ -3,9 +3,9 @@ ghost use mathlib.Core.Path.{_≡_};
 ghost use Rattle.rules.specs.Text.{ruleOf};
 ghost use Rattle.rules.specs.Bound.{RuleLine};
 ghost use Rattle.rules.specs.Line.{callable as callableBy, CallsIn, lineOf};
-use crate::bound::variables_answer;
 use crate::condition::condition_at;
 use crate::shape::shape_of;
+use crate::variables::variables_answer;
 use checks::entries::kind_of;
 use checks::kinds::REC;
 

@@ -245,6 +245,34 @@ fn the_functions_over_words() {
     );
 }
 
+/// A term with these variables in this order.
+fn variables(far: &[u32]) -> String {
+    let cells: String = far.iter().map(|v| format!("1\t2\tv{v}\t")).collect();
+    cells + "1\t0"
+}
+
+#[test]
+fn a_line_with_any_number_of_variables_out_of_range_is_judged() {
+    // More than the tree of bound variables holds: several passes, close by, far apart, and with the lowest bits shared.
+    for step in [1, 65_537, 4_096] {
+        let far: Vec<u32> = (0..50_000u32).map(|i| 64 + i * step).collect();
+        let turned: Vec<u32> = far.iter().rev().copied().collect();
+        for (bound, used) in [(&far, &turned), (&turned, &far), (&far, &far)] {
+            let line = variables(bound) + "\t" + &variables(used) + "\n";
+            let mut table = vec![0; 8];
+            let all = words::translate_rules(&mut table, 0, line.as_bytes());
+            assert_eq!(all, [20, 1, 0, 0]);
+            for lost in [0, 16_384, 49_999] {
+                let mut less = bound.to_vec();
+                less.remove(lost);
+                let line = variables(&less) + "\t" + &variables(used) + "\n";
+                let one = words::translate_rules(&mut table, 0, line.as_bytes());
+                assert_eq!(one, [19, 1, 0, 0], "{step} {lost}");
+            }
+        }
+    }
+}
+
 #[test]
 fn a_table_full_of_one_rule_is_written_back() {
     // A left term of 680 constructors, each with five constants and the next one: close to 4,096 entries.

@@ -1,5 +1,5 @@
 //! 4,096 levels of each recursive form, on a thread of exactly the stated stack.
-use marshtrundle::{free_variables, run_many, with_stack, Entry, STACK};
+use marshtrundle::{free_variables, run_many, with_stack, words, Entry, STACK};
 
 mod common;
 
@@ -53,4 +53,18 @@ fn the_other_functions_take_64_kibibytes_at_most() {
         });
         assert_eq!(answers.unwrap().join().unwrap(), [Ok(()); 3]);
     }
+}
+
+#[test]
+fn the_functions_for_rules_take_256_kibibytes_at_most() {
+    let thread = std::thread::Builder::new().stack_size(256 << 10);
+    let answers = thread.spawn(|| {
+        let mut table = vec![0; 8 * 20];
+        let good = words::translate_rules(&mut table, 0, b"5\t2\tv0\tv1\t5\t2\tv1\tv0\n");
+        let far = words::translate_rules(&mut table, 10, b"5\t2\tv64\tv65\tv64\n");
+        let mut buffer = [0; 64];
+        let line = words::write_rule(&table, 10, 0, &mut buffer);
+        [good[0], far[0], line[0]]
+    });
+    assert_eq!(answers.unwrap().join().unwrap(), [0, 20, 0]);
 }

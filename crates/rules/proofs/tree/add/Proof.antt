@@ -1,0 +1,31 @@
+-- `rules::tree::add` meets its contract: the keys that are left were there before. Assumes nothing.
+use Rattle.rules.proofs.Keys.{keeps-all, keeps-over}
+use native.Mathlib.Omega.{arith}
+use borrow.Author.Needs.{needs}
+use Rattle.rules.proofs.tree.add.Statement.{statement}
+use Rattle.rules.proofs.tree.add.Tie as tie
+
+returns : tie.Need-returns
+returns c = (omega arith, keeps-all _ _)
+
+returns-3 : tie.Need-returns-3
+returns-3 c = (c .before .before .before .before .before .before .before .before .before .before .before .before .before .before .middle .ensures, keeps-over (c .before .before .before .before .before .before .before .before .before .before .before .before .before .before .before .before .before .before .before .before .before .put .ensures) (c .before .before .before .before .before .before .before .before .before .before .before .keep-below .ensures) (c .before .before .before .before .put-below .ensures))
+
+pub add-spec : {M : Type 1} → statement M
+add-spec =
+    tie.close
+    (tie.spec
+    (λ c κs. search needs)
+    (λ c. search needs)
+    (λ c. search needs)
+    returns
+    (λ c κs. search needs)
+    (λ c. search needs)
+    (λ c. search needs)
+    (λ c. search needs)
+    (λ c κs. search needs)
+    (λ c κs. search needs)
+    (λ c κs. search needs)
+    (λ c. search needs)
+    (λ c. search needs)
+    returns-3)

@@ -1,0 +1,45 @@
+-- `rules::tree::put` meets its contract: what is put is the only new key. Assumes nothing.
+use Rattle.rules.proofs.Keys.{key-put, keeps-all}
+use lib.ListN.{length-set}
+use Prim.Native.Nat.{_+_}
+use native.Mathlib.Omega.{arith}
+use borrow.Author.Needs.{needs}
+use Rattle.rules.proofs.tree.put.Statement.{statement}
+use Rattle.rules.proofs.tree.put.Tie as tie
+
+returns : tie.Need-returns
+returns c = keeps-all _ _
+
+returns-2 : tie.Need-returns-2
+returns-2 c = keeps-all _ _
+
+returns-3 : tie.Need-returns-3
+returns-3 c = keeps-all _ _
+
+slice-write-links-2 : tie.Need-slice-write-links-2
+slice-write-links-2 c = omega (arith, c .if3 .left, length-set (c .before .before .before .before .before .before .before .args .links .now) (c .before .before .before .before .before .before .before .args .link) (c .before .before .before .at .result + 1))
+
+returns-4 : tie.Need-returns-4
+returns-4 c = key-put _ _ _ (c .before .if2 .left)
+
+pub put-spec : {M : Type 1} → statement M
+put-spec =
+    tie.close
+    (tie.spec
+    (λ c κs. search needs)
+    (λ c. search needs)
+    returns
+    (λ c. search needs)
+    (λ c. search needs)
+    (λ c. search needs)
+    returns-2
+    (λ c. search needs)
+    returns-3
+    (λ c. search needs)
+    (λ c. search needs)
+    (λ c. search needs)
+    (λ c. search needs)
+    slice-write-links-2
+    (λ c. search needs)
+    (λ c. search needs)
+    returns-4)

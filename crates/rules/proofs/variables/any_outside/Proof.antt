@@ -1,0 +1,69 @@
+-- `rules::variables::any_outside` meets its contract. The loop's invariant: the rest of the fields decides. Assumes nothing.
+use Rattle.rules.proofs.Ranging.{outside-first, outside-rest, outside-none}
+use Rattle.rules.proofs.Scanning.{end-within}
+use Rattle.rules.specs.Far.{anyOutside}
+use Rattle.rules.specs.Scan.{fieldsFrom}
+use mathlib.Core.Path.{_≡_, refl, _∙_}
+use lib.ListN.{length}
+use Prim.Native.Nat.{_+_, _-_}
+use native.Mathlib.Omega.{arith}
+use borrow.Author.Needs.{needs}
+use Rattle.rules.proofs.variables.any_outside.Statement.{statement}
+use Rattle.rules.proofs.variables.any_outside.Tie as tie
+
+abbrev Inv-loop : tie.InvT-loop
+Inv-loop line at₀ at = anyOutside (fieldsFrom line at) ≡ anyOutside (fieldsFrom line 0)
+
+abbrev μ-loop : tie.MeasureT-loop
+μ-loop line at₀ at = length line + 1 - at
+
+loop-holds : tie.Need-loop-holds Inv-loop μ-loop
+loop-holds c = refl
+
+next-at-requires : tie.Need-next-at-requires Inv-loop μ-loop
+next-at-requires c κs = search needs
+
+sub-outside : tie.Need-sub-outside Inv-loop μ-loop
+sub-outside c = let w = end-within (c .before .before .before .before .args .line .now) (c .before .before .loop .at) (c .next-at .result) (c .before .loop-test .taken) (c .next-at .ensures) in omega (arith, w .0)
+
+part-outside-start : tie.Need-part-outside-start Inv-loop μ-loop
+part-outside-start c = let w = end-within (c .before .before .before .before .args .line .now) (c .before .before .loop .at) (c .next-at .result) (c .before .loop-test .taken) (c .next-at .ensures) in omega (arith, w .0, w .1)
+
+part-outside-end : tie.Need-part-outside-end Inv-loop μ-loop
+part-outside-end c = let w = end-within (c .before .before .before .before .args .line .now) (c .before .before .loop .at) (c .next-at .result) (c .before .loop-test .taken) (c .next-at .ensures) in omega (arith, w .0, w .1)
+
+outside-requires : tie.Need-outside-requires Inv-loop μ-loop
+outside-requires c κs = search needs
+
+returns : tie.Need-returns Inv-loop μ-loop
+returns c = outside-first (c .before .before .before .before .before .before .before .args .line .now) (c .before .before .before .before .before .loop .at) (c .before .before .before .next-at .result) (c .before .before .before .before .loop-test .taken) (c .before .before .before .next-at .ensures) (c .before .outside .result) (c .before .outside .ensures) (c .if1 .taken) ∙ c .before .before .before .before .before .loop .inv
+
+add-at : tie.Need-add-at Inv-loop μ-loop
+add-at c = let w = end-within (c .before .before .before .before .before .before .before .args .line .now) (c .before .before .before .before .before .loop .at) (c .before .before .before .next-at .result) (c .before .before .before .before .loop-test .taken) (c .before .before .before .next-at .ensures) in omega (arith, c .before .before .before .before .before .before .before .good, w .1)
+
+loop-less : tie.Need-loop-less Inv-loop μ-loop
+loop-less c = let w = end-within (c .before .before .before .before .before .before .before .args .line .now) (c .before .before .before .before .before .loop .at) (c .before .before .before .next-at .result) (c .before .before .before .before .loop-test .taken) (c .before .before .before .next-at .ensures) in omega (arith, w .0, w .1)
+
+loop-again : tie.Need-loop-again Inv-loop μ-loop
+loop-again c = outside-rest (c .before .before .before .before .before .before .before .args .line .now) (c .before .before .before .before .before .loop .at) (c .before .before .before .next-at .result) (c .before .before .before .before .loop-test .taken) (c .before .before .before .next-at .ensures) (c .before .outside .result) (c .before .outside .ensures) (c .if1 .left) ∙ c .before .before .before .before .before .loop .inv
+
+returns-2 : tie.Need-returns-2 Inv-loop μ-loop
+returns-2 c = outside-none (c .before .before .before .args .line .now) (c .before .loop .at) (c .loop-test .left) ∙ c .before .loop .inv
+
+pub any-outside-spec : {M : Type 1} → statement M
+any-outside-spec =
+    tie.close
+    (tie.spec
+    Inv-loop
+    μ-loop
+    loop-holds
+    next-at-requires
+    sub-outside
+    part-outside-start
+    part-outside-end
+    outside-requires
+    returns
+    add-at
+    loop-less
+    loop-again
+    returns-2)
