@@ -14,7 +14,7 @@ use lib.Pow.{pow-lt}
 use lib.Bits.{bitAnd, bitOr, or-lt, and-le-r}
 use borrow.Author.Tests.{eqb-true, eqb-false, eq-eqb, ne-eqb}
 use Rattle.words.specs.Words.{wordAt, rows}
-use Rattle.checks.specs.Kinds.{variablesBy}
+use Rattle.checks.specs.Kinds.{ours, variablesBy, operandsFromBy}
 use Rattle.words.proofs.Tests.{and-true}
 use Rattle.checks.specs.Good.{kindOf, operandCount, argumentOf, maskBy}
 use Rattle.checks.specs.Plain.{EntryBy}
@@ -22,7 +22,7 @@ use Rattle.meaning.specs.Bindings.{has}
 use Rattle.meaning.specs.Table.{PVAR, tableBy, operands}
 use Rattle.meaning.specs.Free.{In, here, there, Variable, var, part, Free, in-match, in-build, in-scope, in-operand}
 use Rattle.meaning.proofs.Tests.{decided}
-use Rattle.free.specs.Passes.{joined, joinedOperands, full, ruled, fuller, grows, grown, passed, changed, Of, pattern, strategy, BitsMeant, Settled}
+use Rattle.free.specs.Passes.{joined, joinedOperands, full, ruled, fuller, grows, grown, passed, changed, Of, pattern, strategy, BitsMeant, Settled, room, Spread}
 use Rattle.meaning.proofs.Bits.{has-nothing, has-and, has-or, has-one, not-has, or-grows}
 use Rattle.free.proofs.Entries.{other, operand-at, length-operands, Strategies, Patterns, Shape, is-plain, is-match, is-build, is-scope, is-variable, is-con, shape, entry-of}
 use Rattle.free.specs.Promises.{GoodTableBy}
@@ -149,11 +149,6 @@ module _ (W : ℕ) (t ms : List ℕ) (sound : BitsMeant W t ms) (e v : ℕ) wher
       pattern (omega arith) (part q i f)
 
 -- ---- a turn and a pass
-
--- how far the masks are from the full mask f
-pub room : ℕ → List ℕ → ℕ
-room f [] = 0
-room f (m ∷ ms) = (f - m) + room f ms
 
 -- a greater mask leaves less room
 room-set : (f : ℕ) (ms : List ℕ) (i m : ℕ) → i < length ms → getD ms i 0 < m → m ≤ f → room f (set ms i m) < room f ms
@@ -322,3 +317,28 @@ module _ (W : ℕ) (some : 0 < W) (t ms : List ℕ) (good : GoodTableBy W t) (s 
   turn-settled z e h =
       let none : changed W t (rows t) ms ≡ false = sym m ∙ z in
       rw (p ∙ does .still none) (does .none none e h)
+
+-- ---- masks that are spread
+
+pub spread-none : (W : ℕ) (t ms : List ℕ) → BitsMeant W t ms → Spread W t ms ms
+spread-none W t ms s = record { sound = s; least = omega arith }
+
+pub spread-on : {W : ℕ} {t ms ms′ ms″ : List ℕ} → Spread W t ms ms′ → Spread W t ms′ ms″ → Spread W t ms ms″
+spread-on a b = record { sound = b .sound; least = omega (arith, a .least, b .least) }
+
+-- One entry's turn.
+pub spread-turn : (W : ℕ) → 0 < W → (t ms : List ℕ) → GoodTableBy W t → State W t ms → (e : ℕ) → e < rows t → (ms′ : List ℕ) → ms′ ≡ grown W t ms e → Spread W t ms ms′
+spread-turn W some t ms good s e inside ms′ p =
+    let entry : EntryBy W t e = entry-of W t good e inside in
+    let least : room (full W) (grown W t ms e) ≤ room (full W) ms =
+    decided (grows W t ms e) (λ h. let k = grown-less W some t ms e s inside entry h in omega arith) (λ h. rw (grown-stays W some t ms e s inside entry h) (omega arith)) in
+    rw p (record { sound = grown-state W some t ms e s inside entry .sound; least = least })
+
+-- After one more pass, and masks spread: no more turns are left.
+pub spread-less : (W : ℕ) (t ms ms′ ms″ : List ℕ) (more : Bool) → turns W more ms′ < suc (room (full W) ms) → Spread W t ms′ ms″ → turns W more ms″ < suc (room (full W) ms)
+spread-less W t ms ms′ ms″ true l s = omega (arith, s .least)
+spread-less W t ms ms′ ms″ false l s = l
+
+-- Where a kind's operands begin.
+pub from-small : (k : ℕ) → operandsFromBy ours k ≤ 3
+from-small k = decided (eqb k 16) (λ z. rw z (omega arith)) (λ z. rw z (omega arith))

@@ -27,6 +27,11 @@ joinedOperands t ms e = joined ms 0 (operands t e)
 abbrev pub full : ℕ → ℕ
 full W = 2 ^ variablesBy W - 1
 
+-- how far the masks are from the full mask f
+unfoldable pub room : ℕ → List ℕ → ℕ
+room f [] = 0
+room f (m ∷ ms) = (f - m) + room f ms
+
 module _ (W : ℕ) (t : List ℕ) where
   -- what the rule of e gives: SCOPE removes its mask, a variable is its bit, and all others have their operands'
   unfoldable pub ruled : List ℕ → ℕ → ℕ
@@ -69,3 +74,8 @@ module _ (W : ℕ) (t : List ℕ) where
   -- no rule gives more than the masks have
   abbrev pub Settled : List ℕ → Type 0
   Settled ms = (e : ℕ) → e < rows t → grows ms e ≡ false
+
+  -- masks that grew from others, and stand for nothing else
+  pub record Spread (ms ms′ : List ℕ) : Type 0 where
+    pub sound : BitsMeant ms′
+    pub least : room (full W) ms′ ≤ room (full W) ms

@@ -11,6 +11,7 @@ ghost use Rattle.checks.specs.Plain.{Entry};
 ghost use Rattle.free.specs.Answered.{MaskOfBy};
 ghost use Rattle.free.specs.Passes.{joinedOperands, ruled, grown, grows, passed, changed, BitsMeant, Settled};
 ghost use Rattle.free.specs.Promises.{GoodTableBy, StrategyOf};
+use crate::order::spread_again;
 use checks::entries::kind_of;
 use checks::entries::mask;
 use checks::entries::operand;
@@ -58,7 +59,7 @@ fn rule(table: &[u32], masks: &[u64], e: u32) -> u64
 }
 
 // Adds to entry e's mask what its rule gives. Whether the mask grew.
-fn grow(table: &[u32], masks: &mut [u64], e: u32) -> bool
+pub fn grow(table: &[u32], masks: &mut [u64], e: u32) -> bool
     requires { ⌜ Entry (now table) e × (e < length (now masks)) ⌝ }
     ensures { λ r. ⌜ (r ≡ grows ours (now (table .entry)) (now (masks .entry)) e) × (now (masks .exit) ≡ grown ours (now (table .entry)) (now (masks .entry)) e) ⌝ }
 {
@@ -85,14 +86,19 @@ fn pass(table: &[u32], masks: &mut [u64]) -> bool
     any
 }
 
-// Passes until one adds nothing.
+// Passes until one adds nothing. A second that adds something met a CALL of a REC below it; then the masks are spread in the order of
+// the calls before the next.
 pub fn settle(table: &[u32], masks: &mut [u64])
     requires { ⌜ GoodTableBy ours (now table) × ((rows (now table) ≤ length (now masks)) × BitsMeant ours (now table) (now masks)) ⌝ }
     ensures { λ _. ⌜ BitsMeant ours (now (table .entry)) (now (masks .exit)) × Settled ours (now (table .entry)) (now (masks .exit)) ⌝ }
 {
-    let mut more = true;
+    let mut times: u32 = 0;
+    let mut more = pass(table, masks);
     while more {
         more = pass(table, masks);
+        if more {
+            times = spread_again(table, masks, times);
+        }
     }
 }
 

@@ -24,28 +24,74 @@ next-at-requires : tie.Need-next-at-requires Inv-loop μ-loop
 next-at-requires c κs = search needs
 
 sub-early : tie.Need-sub-early Inv-loop μ-loop
-sub-early c = let w = end-within (c .before .before .before .before .before .before .before .args .line .now) (c .before .before .before .loop .at) (c .next-at .result) (c .before .if1 .left) (c .next-at .ensures) in omega (arith, w .0)
+sub-early c =
+    let at-next-at = c in
+    let at-if1 = at-next-at .before in
+    let at-loop = at-if1 .before .before in
+    let start = at-loop .before .before .before .before in
+    let w = end-within (start .args .line .now) (at-loop .loop .at) (at-next-at .next-at .result) (at-if1 .if1 .left) (at-next-at
+    .next-at .ensures) in omega (arith, w .0)
 
 part-early-start : tie.Need-part-early-start Inv-loop μ-loop
-part-early-start c = let w = end-within (c .before .before .before .before .before .before .before .args .line .now) (c .before .before .before .loop .at) (c .next-at .result) (c .before .if1 .left) (c .next-at .ensures) in omega (arith, w .0, w .1)
+part-early-start c =
+    let at-next-at = c in
+    let at-if1 = at-next-at .before in
+    let at-loop = at-if1 .before .before in
+    let start = at-loop .before .before .before .before in
+    let w = end-within (start .args .line .now) (at-loop .loop .at) (at-next-at .next-at .result) (at-if1 .if1 .left) (at-next-at
+    .next-at .ensures) in omega (arith, w .0, w .1)
 
 part-early-end : tie.Need-part-early-end Inv-loop μ-loop
-part-early-end c = let w = end-within (c .before .before .before .before .before .before .before .args .line .now) (c .before .before .before .loop .at) (c .next-at .result) (c .before .if1 .left) (c .next-at .ensures) in omega (arith, w .0, w .1)
+part-early-end c =
+    let at-next-at = c in
+    let at-if1 = at-next-at .before in
+    let at-loop = at-if1 .before .before in
+    let start = at-loop .before .before .before .before in
+    let w = end-within (start .args .line .now) (at-loop .loop .at) (at-next-at .next-at .result) (at-if1 .if1 .left) (at-next-at
+    .next-at .ensures) in omega (arith, w .0, w .1)
 
 early-requires : tie.Need-early-requires Inv-loop μ-loop
 early-requires c κs = search needs
 
 returns-2 : tie.Need-returns-2 Inv-loop μ-loop
-returns-2 c = using-early (c .before .before .before .before .before .before .loop .inv) (c .before .before .before .next-at .result) (c .before .before .before .before .if1 .left) (c .before .before .before .next-at .ensures) (c .before .before .before .before .before .loop-test .taken) (c .before .early .result) (c .before .early .ensures) (c .if2 .taken)
+returns-2 c =
+    let at-if2 = c in
+    let at-early = at-if2 .before in
+    let at-next-at = at-early .before .before in
+    let at-if1 = at-next-at .before in
+    let at-loop-test = at-if1 .before in
+    let at-loop = at-loop-test .before in
+    using-early (at-loop .loop .inv) (at-next-at .next-at .result) (at-if1 .if1 .left) (at-next-at .next-at .ensures) (at-loop-test
+    .loop-test .taken) (at-early .early .result) (at-early .early .ensures) (at-if2 .if2 .taken)
 
 add-at : tie.Need-add-at Inv-loop μ-loop
-add-at c = let w = end-within (c .before .before .before .before .before .before .before .before .before .before .args .line .now) (c .before .before .before .before .before .before .loop .at) (c .before .before .before .next-at .result) (c .before .before .before .before .if1 .left) (c .before .before .before .next-at .ensures) in omega (arith, c .before .before .before .before .before .before .before .before .before .before .good, w .1)
+add-at c =
+    let at-next-at = c .before .before .before in
+    let at-if1 = at-next-at .before in
+    let at-loop = at-if1 .before .before in
+    let start = at-loop .before .before .before .before in
+    let w = end-within (start .args .line .now) (at-loop .loop .at) (at-next-at .next-at .result) (at-if1 .if1 .left) (at-next-at
+    .next-at .ensures) in omega (arith, start .good, w .1)
 
 loop-less : tie.Need-loop-less Inv-loop μ-loop
-loop-less c = let w = end-within (c .before .before .before .before .before .before .before .before .before .before .args .line .now) (c .before .before .before .before .before .before .loop .at) (c .before .before .before .next-at .result) (c .before .before .before .before .if1 .left) (c .before .before .before .next-at .ensures) in omega (arith, w .0, w .1)
+loop-less c =
+    let at-next-at = c .before .before .before in
+    let at-if1 = at-next-at .before in
+    let at-loop = at-if1 .before .before in
+    let start = at-loop .before .before .before .before in
+    let w = end-within (start .args .line .now) (at-loop .loop .at) (at-next-at .next-at .result) (at-if1 .if1 .left) (at-next-at
+    .next-at .ensures) in omega (arith, w .0, w .1)
 
 loop-again : tie.Need-loop-again Inv-loop μ-loop
-loop-again c = using-on (c .before .before .before .before .before .before .loop .inv) (c .before .before .before .next-at .result) (c .before .before .before .before .if1 .left) (c .before .before .before .next-at .ensures) (c .before .before .before .before .before .loop-test .taken) (c .before .early .result) (c .before .early .ensures) (c .if2 .left)
+loop-again c =
+    let at-if2 = c in
+    let at-early = at-if2 .before in
+    let at-next-at = at-early .before .before in
+    let at-if1 = at-next-at .before in
+    let at-loop-test = at-if1 .before in
+    let at-loop = at-loop-test .before in
+    using-on (at-loop .loop .inv) (at-next-at .next-at .result) (at-if1 .if1 .left) (at-next-at .next-at .ensures) (at-loop-test
+    .loop-test .taken) (at-early .early .result) (at-early .early .ensures) (at-if2 .if2 .left)
 
 returns-3 : tie.Need-returns-3 Inv-loop μ-loop
 returns-3 c = using-end (c .before .loop .inv) (c .loop-test .left)

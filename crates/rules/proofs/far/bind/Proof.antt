@@ -9,19 +9,34 @@ use Rattle.rules.proofs.far.bind.Statement.{statement}
 use Rattle.rules.proofs.far.bind.Tie as tie
 
 returns : tie.Need-returns
-returns c = (omega arith, bind-nothing (c .before .before .before .before .before .before .before .before .args .keys .now) (headOf (c .before .before .before .before .before .before .before .before .args .field .now)))
+returns c =
+    let start = c .before .before .before .before .before .before .before .before in
+    (omega arith, bind-nothing (start .args .keys .now) (headOf (start .args .field .now)))
 
 returns-2 : tie.Need-returns-2
-returns-2 c = (omega arith, bind-nothing (c .before .before .before .before .before .before .before .before .before .args .keys .now) (headOf (c .before .before .before .before .before .before .before .before .before .args .field .now)))
+returns-2 c =
+    let start = c .before .before .before .before .before .before .before .before .before in
+    (omega arith, bind-nothing (start .args .keys .now) (headOf (start .args .field .now)))
 
 returns-3 : tie.Need-returns-3
-returns-3 c = (c .before .before .before .before .add .ensures .0, bind-one (c .before .before .before .before .before .before .before .before .before .before .first .given .0 .0) (sym (ap headHeld (c .before .before .before .before .before .before .before .before .before .before .first .given .1)) ∙ c .before .before .before .before .before .before .before .before .before .before .before .before .head-of .ensures) (c .before .before .before .before .add .ensures .1))
+returns-3 c =
+    let at-add = c .before .before .before .before in
+    let at-first = at-add .before .before .before .before .before .before in
+    let at-head-of = at-first .before .before in (
+      at-add .add .ensures .0,
+      bind-one (at-first .first .given .0 .0) (sym (ap headHeld (at-first .first .given .1)) ∙ at-head-of
+          .head-of .ensures) (at-add .add .ensures .1),
+    )
 
 returns-4 : tie.Need-returns-4
-returns-4 c = (omega arith, bind-nothing (c .before .before .before .before .before .before .before .args .keys .now) (headOf (c .before .before .before .before .before .before .before .args .field .now)))
+returns-4 c =
+    let start = c .before .before .before .before .before .before .before in
+    (omega arith, bind-nothing (start .args .keys .now) (headOf (start .args .field .now)))
 
 returns-5 : tie.Need-returns-5
-returns-5 c = (omega arith, bind-nothing (c .before .before .before .before .before .before .args .keys .now) (headOf (c .before .before .before .before .before .before .args .field .now)))
+returns-5 c =
+    let start = c .before .before .before .before .before .before in
+    (omega arith, bind-nothing (start .args .keys .now) (headOf (start .args .field .now)))
 
 pub bind-spec : {M : Type 1} → statement M
 bind-spec =

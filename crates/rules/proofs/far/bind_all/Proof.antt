@@ -10,7 +10,8 @@ use Rattle.rules.proofs.far.bind_all.Statement.{statement}
 use Rattle.rules.proofs.far.bind_all.Tie as tie
 
 abbrev Inv-loop : tie.InvT-loop
-Inv-loop line from to low below keys₀ links₀ left₀ at₀ keys links left at = (length keys ≡ length keys₀) × (length links ≡ length links₀) × Binding line from to below at left keys₀ keys
+Inv-loop line from to low below keys₀ links₀ left₀ at₀ keys links left at =
+    (length keys ≡ length keys₀) × (length links ≡ length links₀) × Binding line from to below at left keys₀ keys
 
 abbrev μ-loop : tie.MeasureT-loop
 μ-loop line from to low below keys₀ links₀ left₀ at₀ keys links left at = length line + 1 - at
@@ -31,25 +32,66 @@ next-at-requires : tie.Need-next-at-requires Inv-loop μ-loop
 next-at-requires c κs = search needs
 
 sub-bind : tie.Need-sub-bind Inv-loop μ-loop
-sub-bind c = let w = end-within (c .before .before .before .before .before .before .before .args .line .now) (c .before .before .before .loop .at) (c .next-at .result) (c .before .if1 .left) (c .next-at .ensures) in omega (arith, w .0)
+sub-bind c =
+    let at-next-at = c in
+    let at-if1 = at-next-at .before in
+    let at-loop = at-if1 .before .before in
+    let start = at-loop .before .before .before .before in
+    let w = end-within (start .args .line .now) (at-loop .loop .at) (at-next-at .next-at .result) (at-if1 .if1 .left) (at-next-at
+    .next-at .ensures) in omega (arith, w .0)
 
 part-bind-start : tie.Need-part-bind-start Inv-loop μ-loop
-part-bind-start c = let w = end-within (c .before .before .before .before .before .before .before .args .line .now) (c .before .before .before .loop .at) (c .next-at .result) (c .before .if1 .left) (c .next-at .ensures) in omega (arith, w .0, w .1)
+part-bind-start c =
+    let at-next-at = c in
+    let at-if1 = at-next-at .before in
+    let at-loop = at-if1 .before .before in
+    let start = at-loop .before .before .before .before in
+    let w = end-within (start .args .line .now) (at-loop .loop .at) (at-next-at .next-at .result) (at-if1 .if1 .left) (at-next-at
+    .next-at .ensures) in omega (arith, w .0, w .1)
 
 part-bind-end : tie.Need-part-bind-end Inv-loop μ-loop
-part-bind-end c = let w = end-within (c .before .before .before .before .before .before .before .args .line .now) (c .before .before .before .loop .at) (c .next-at .result) (c .before .if1 .left) (c .next-at .ensures) in omega (arith, w .0, w .1)
+part-bind-end c =
+    let at-next-at = c in
+    let at-if1 = at-next-at .before in
+    let at-loop = at-if1 .before .before in
+    let start = at-loop .before .before .before .before in
+    let w = end-within (start .args .line .now) (at-loop .loop .at) (at-next-at .next-at .result) (at-if1 .if1 .left) (at-next-at
+    .next-at .ensures) in omega (arith, w .0, w .1)
 
 bind-requires : tie.Need-bind-requires Inv-loop μ-loop
 bind-requires c κs = search needs
 
 add-at : tie.Need-add-at Inv-loop μ-loop
-add-at c = let w = end-within (c .before .before .before .before .before .before .before .before .before .before .before .before .before .before .before .args .line .now) (c .before .before .before .before .before .before .before .before .before .before .before .loop .at) (c .before .before .before .before .before .before .before .before .next-at .result) (c .before .before .before .before .before .before .before .before .before .if1 .left) (c .before .before .before .before .before .before .before .before .next-at .ensures) in omega (arith, c .before .before .before .before .before .before .before .before .before .before .before .before .before .before .before .good, w .1)
+add-at c =
+    let at-next-at = c .before .before .before .before .before .before .before .before in
+    let at-if1 = at-next-at .before in
+    let at-loop = at-if1 .before .before in
+    let start = at-loop .before .before .before .before in
+    let w = end-within (start .args .line .now) (at-loop .loop .at) (at-next-at .next-at .result) (at-if1 .if1 .left) (at-next-at
+    .next-at .ensures) in omega (arith, start .good, w .1)
 
 loop-less : tie.Need-loop-less Inv-loop μ-loop
-loop-less c = let w = end-within (c .before .before .before .before .before .before .before .before .before .before .before .before .before .before .before .args .line .now) (c .before .before .before .before .before .before .before .before .before .before .before .loop .at) (c .before .before .before .before .before .before .before .before .next-at .result) (c .before .before .before .before .before .before .before .before .before .if1 .left) (c .before .before .before .before .before .before .before .before .next-at .ensures) in omega (arith, w .0, w .1)
+loop-less c =
+    let at-next-at = c .before .before .before .before .before .before .before .before in
+    let at-if1 = at-next-at .before in
+    let at-loop = at-if1 .before .before in
+    let start = at-loop .before .before .before .before in
+    let w = end-within (start .args .line .now) (at-loop .loop .at) (at-next-at .next-at .result) (at-if1 .if1 .left) (at-next-at
+    .next-at .ensures) in omega (arith, w .0, w .1)
 
 loop-again : tie.Need-loop-again Inv-loop μ-loop
-loop-again c = (omega (arith, c .before .before .before .before .bind .kept, c .before .before .before .before .before .before .before .before .before .before .before .loop .inv .0), omega (arith, c .before .before .before .before .bind .kept, c .before .before .before .before .before .before .before .before .before .before .before .loop .inv .1), binding-on (c .before .before .before .before .before .before .before .before .before .before .before .loop .inv .2) (c .before .before .before .before .before .before .before .before .next-at .result) (c .before .before .before .before .before .before .before .before .before .if1 .left) (c .before .before .before .before .before .before .before .before .next-at .ensures) (c .before .before .before .before .before .before .before .before .before .before .loop-test .taken) (c .before .before .before .before .bind .result) _ (c .before .before .before .before .bind .ensures .0) (c .before .before .before .before .bind .ensures .1))
+loop-again c =
+    let at-bind = c .before .before .before .before in
+    let at-next-at = at-bind .before .before .before .before in
+    let at-if1 = at-next-at .before in
+    let at-loop-test = at-if1 .before in
+    let at-loop = at-loop-test .before in (
+      omega (arith, at-bind .bind .kept, at-loop .loop .inv .0),
+      omega (arith, at-bind .bind .kept, at-loop .loop .inv .1),
+      binding-on
+          (at-loop .loop .inv .2) (at-next-at .next-at .result) (at-if1 .if1 .left) (at-next-at .next-at .ensures) (at-loop-test .loop-test
+          .taken) (at-bind .bind .result) _ (at-bind .bind .ensures .0) (at-bind .bind .ensures .1),
+    )
 
 same-length-3 : tie.Need-same-length-3 Inv-loop μ-loop
 same-length-3 c = c .before .loop .inv .0

@@ -9,7 +9,8 @@ use Rattle.rules.proofs.far.pass.Statement.{statement}
 use Rattle.rules.proofs.far.pass.Tie as tie
 
 abbrev Inv-loop : tie.InvT-loop
-Inv-loop line right conditions low keys₀ links₀ below₀ at₀ keys links below at = (length keys ≡ 16384) × (length links ≡ 36865) × Passing line right conditions low at below keys
+Inv-loop line right conditions low keys₀ links₀ below₀ at₀ keys links below at =
+    (length keys ≡ 16384) × (length links ≡ 36865) × Passing line right conditions low at below keys
 
 abbrev μ-loop : tie.MeasureT-loop
 μ-loop line right conditions low keys₀ links₀ below₀ at₀ keys links below at = length line + 1 - at
@@ -24,7 +25,14 @@ bind-all-requires : tie.Need-bind-all-requires Inv-loop μ-loop
 bind-all-requires c κs = search needs
 
 loop-holds : tie.Need-loop-holds Inv-loop μ-loop
-loop-holds c = (omega (arith, c .before .before .bind-all .kept), omega (arith, c .before .before .bind-all .kept), passing-begin (c .before .before .before .before .before .before .pre .0) _ (c .before .before .before .before .before .before .pre .1) 16384 _ _ (c .before .before .bind-all .ensures .1))
+loop-holds c =
+    let at-bind-all = c .before .before in
+    let start = at-bind-all .before .before .before .before in (
+      omega (arith, at-bind-all .bind-all .kept),
+      omega (arith, at-bind-all .bind-all .kept),
+      passing-begin (start .pre .0) _ (start .pre
+          .1) 16384 _ _ (at-bind-all .bind-all .ensures .1),
+    )
 
 condition-at-requires : tie.Need-condition-at-requires Inv-loop μ-loop
 condition-at-requires c κs = search needs
@@ -39,7 +47,11 @@ any-early-requires : tie.Need-any-early-requires Inv-loop μ-loop
 any-early-requires c κs = c .before .before .before .before .before .before .before .before .before .before .before .pre .0
 
 returns : tie.Need-returns Inv-loop μ-loop
-returns c = passing-early (c .before .before .before .before .before .before .loop .inv .2) _ (c .before .any-early .result) (c .before .any-early .ensures) (c .if1 .taken)
+returns c =
+    let at-if1 = c in
+    let at-any-early = at-if1 .before in
+    let at-loop = at-any-early .before .before .before .before .before in
+    passing-early (at-loop .loop .inv .2) _ (at-any-early .any-early .result) (at-any-early .any-early .ensures) (at-if1 .if1 .taken)
 
 slice-aggregate-bind-all-3 : tie.Need-slice-aggregate-bind-all-3 Inv-loop μ-loop
 slice-aggregate-bind-all-3 c = sym (c .before .before .before .before .before .before .before .loop .inv .0)
@@ -51,10 +63,42 @@ bind-all-requires-2 : tie.Need-bind-all-requires-2 Inv-loop μ-loop
 bind-all-requires-2 c κs = search needs
 
 loop-less : tie.Need-loop-less Inv-loop μ-loop
-loop-less c = omega (arith, passing-further (c .before .before .before .before .before .before .before .before .before .before .before .loop .inv .2) (c .before .before .before .before .before .before .before .before .before .before .loop-test .taken) (c .before .before .before .before .before .before .before .before .before .condition-at .result) (c .before .before .before .before .before .before .before .before .before .condition-at .ensures), (passing-on (c .before .before .before .before .before .before .before .before .before .before .before .loop .inv .2) (c .before .before .before .before .before .before .before .before .before .before .loop-test .taken) (c .before .before .before .before .before .before .before .before .before .condition-at .result) (c .before .before .before .before .before .before .before .before .before .condition-at .ensures) (c .before .before .before .before .before .before .any-early .result) (c .before .before .before .before .before .before .any-early .ensures) (c .before .before .before .before .before .if1 .left) (c .before .before .bind-all2 .result) (c .before .before .bind-all2 .ensures .0) _ (c .before .before .bind-all2 .ensures .1)) .inside)
+loop-less c =
+    let at-bind-all2 = c .before .before in
+    let at-if1 = at-bind-all2 .before .before .before in
+    let at-any-early = at-if1 .before in
+    let at-condition-at = at-any-early .before .before .before in
+    let at-loop-test = at-condition-at .before in
+    let at-loop = at-loop-test .before in
+    omega (
+      arith,
+      passing-further (at-loop .loop .inv .2) (at-loop-test .loop-test .taken) (at-condition-at .condition-at .result)
+          (at-condition-at .condition-at .ensures),
+      (passing-on (at-loop .loop .inv .2) (at-loop-test .loop-test .taken) (at-condition-at
+          .condition-at .result) (at-condition-at .condition-at .ensures) (at-any-early .any-early .result) (at-any-early .any-early .ensures)
+          (at-if1 .if1 .left) (at-bind-all2 .bind-all2 .result) (at-bind-all2 .bind-all2 .ensures .0) _ (at-bind-all2 .bind-all2 .ensures .1))
+          .inside,
+    )
 
 loop-again : tie.Need-loop-again Inv-loop μ-loop
-loop-again c = (omega (arith, c .before .before .bind-all2 .kept, c .before .before .before .before .before .before .before .before .before .before .before .loop .inv .0), omega (arith, c .before .before .bind-all2 .kept, c .before .before .before .before .before .before .before .before .before .before .before .loop .inv .1), passing-on (c .before .before .before .before .before .before .before .before .before .before .before .loop .inv .2) (c .before .before .before .before .before .before .before .before .before .before .loop-test .taken) (c .before .before .before .before .before .before .before .before .before .condition-at .result) (c .before .before .before .before .before .before .before .before .before .condition-at .ensures) (c .before .before .before .before .before .before .any-early .result) (c .before .before .before .before .before .before .any-early .ensures) (c .before .before .before .before .before .if1 .left) (c .before .before .bind-all2 .result) (c .before .before .bind-all2 .ensures .0) _ (c .before .before .bind-all2 .ensures .1))
+loop-again c =
+    let at-bind-all2 = c .before .before in
+    let at-if1 = at-bind-all2 .before .before .before in
+    let at-any-early = at-if1 .before in
+    let at-condition-at = at-any-early .before .before .before in
+    let at-loop-test = at-condition-at .before in
+    let at-loop = at-loop-test .before in (
+      omega (arith, at-bind-all2 .bind-all2 .kept, at-loop .loop .inv .0),
+      omega (
+        arith,
+        at-bind-all2 .bind-all2 .kept,
+        at-loop .loop .inv
+            .1,
+      ),
+      passing-on (at-loop .loop .inv .2) (at-loop-test .loop-test .taken) (at-condition-at .condition-at .result) (at-condition-at
+          .condition-at .ensures) (at-any-early .any-early .result) (at-any-early .any-early .ensures) (at-if1 .if1 .left) (at-bind-all2
+          .bind-all2 .result) (at-bind-all2 .bind-all2 .ensures .0) _ (at-bind-all2 .bind-all2 .ensures .1),
+    )
 
 slice-aggregate-any-early-3 : tie.Need-slice-aggregate-any-early-3 Inv-loop μ-loop
 slice-aggregate-any-early-3 c = sym (c .before .before .loop .inv .0)
@@ -66,7 +110,12 @@ any-early-requires-2 : tie.Need-any-early-requires-2 Inv-loop μ-loop
 any-early-requires-2 c κs = c .before .before .before .before .before .before .before .before .before .before .pre .0
 
 returns-2 : tie.Need-returns-2 Inv-loop μ-loop
-returns-2 c = passing-end (c .before .before .before .before .loop .inv .2) (c .before .before .before .loop-test .left) (c .any-early2 .result) (c .any-early2 .ensures)
+returns-2 c =
+    let at-any-early2 = c in
+    let at-loop-test = at-any-early2 .before .before .before in
+    let at-loop = at-loop-test .before in
+    passing-end (at-loop .loop .inv .2) (at-loop-test .loop-test .left) (at-any-early2 .any-early2 .result) (at-any-early2 .any-early2
+    .ensures)
 
 pub pass-spec : {M : Type 1} → statement M
 pass-spec =

@@ -9,7 +9,15 @@ returns : tie.Need-returns
 returns c = (omega arith, keeps-all _ _)
 
 returns-3 : tie.Need-returns-3
-returns-3 c = (c .before .before .before .before .before .before .before .before .before .before .before .before .before .before .middle .ensures, keeps-over (c .before .before .before .before .before .before .before .before .before .before .before .before .before .before .before .before .before .before .before .before .before .put .ensures) (c .before .before .before .before .before .before .before .before .before .before .before .keep-below .ensures) (c .before .before .before .before .put-below .ensures))
+returns-3 c =
+    let at-put-below = c .before .before .before .before in
+    let at-keep-below = at-put-below .before .before .before .before .before .before .before in
+    let at-middle = at-keep-below .before .before .before in
+    let at-put = at-middle .before .before .before .before .before .before .before in (
+      at-middle .middle .ensures,
+      keeps-over (at-put .put .ensures) (at-keep-below .keep-below .ensures) (at-put-below .put-below
+          .ensures),
+    )
 
 pub add-spec : {M : Type 1} → statement M
 add-spec =

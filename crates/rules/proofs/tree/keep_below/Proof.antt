@@ -34,10 +34,24 @@ add-i : tie.Need-add-i Inv-loop μ-loop
 add-i c = omega arith
 
 loop-less : tie.Need-loop-less Inv-loop μ-loop
-loop-less c = omega (arith, c .before .before .before .before .put-below .kept, c .before .before .before .before .before .before .before .before .before .loop .inv .0)
+loop-less c =
+    let at-put-below = c .before .before .before .before in
+    let at-loop = at-put-below .before .before .before .before .before in
+    omega (arith, at-put-below .put-below .kept, at-loop .loop .inv .0)
 
 loop-again : tie.Need-loop-again Inv-loop μ-loop
-loop-again c = (omega (arith, c .before .before .before .before .put-below .kept, c .before .before .before .before .before .before .before .before .before .loop .inv .0), omega (arith, c .before .before .before .before .put-below .kept, c .before .before .before .before .before .before .before .before .before .loop .inv .1), keeps-again (c .before .before .before .before .before .before .before .before .before .loop .inv .2) (record { place = c .before .before .before .before .before .before .before .before .before .loop .i; is = refl }) (c .before .before .before .before .put-below .ensures))
+loop-again c =
+    let at-put-below = c .before .before .before .before in
+    let at-loop = at-put-below .before .before .before .before .before in (
+      omega (arith, at-put-below .put-below .kept, at-loop .loop .inv .0),
+      omega (
+        arith,
+        at-put-below .put-below .kept,
+        at-loop .loop .inv
+            .1,
+      ),
+      keeps-again (at-loop .loop .inv .2) (record { place = at-loop .loop .i; is = refl }) (at-put-below .put-below .ensures),
+    )
 
 same-length : tie.Need-same-length Inv-loop μ-loop
 same-length c = c .before .loop .inv .0

@@ -17,7 +17,11 @@ returns-3 : tie.Need-returns-3
 returns-3 c = keeps-all _ _
 
 slice-write-links-2 : tie.Need-slice-write-links-2
-slice-write-links-2 c = omega (arith, c .if3 .left, length-set (c .before .before .before .before .before .before .before .args .links .now) (c .before .before .before .before .before .before .before .args .link) (c .before .before .before .at .result + 1))
+slice-write-links-2 c =
+    let at-if3 = c in
+    let at-at = at-if3 .before .before .before in
+    let start = at-at .before .before .before .before in
+    omega (arith, at-if3 .if3 .left, length-set (start .args .links .now) (start .args .link) (at-at .at .result + 1))
 
 returns-4 : tie.Need-returns-4
 returns-4 c = key-put _ _ _ (c .before .if2 .left)

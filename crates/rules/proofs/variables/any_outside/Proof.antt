@@ -24,31 +24,81 @@ next-at-requires : tie.Need-next-at-requires Inv-loop μ-loop
 next-at-requires c κs = search needs
 
 sub-outside : tie.Need-sub-outside Inv-loop μ-loop
-sub-outside c = let w = end-within (c .before .before .before .before .args .line .now) (c .before .before .loop .at) (c .next-at .result) (c .before .loop-test .taken) (c .next-at .ensures) in omega (arith, w .0)
+sub-outside c =
+    let at-next-at = c in
+    let at-loop-test = at-next-at .before in
+    let at-loop = at-loop-test .before in
+    let start = at-loop .before .before in
+    let w = end-within (start .args .line .now) (at-loop .loop .at) (at-next-at .next-at .result) (at-loop-test .loop-test .taken)
+    (at-next-at .next-at .ensures) in omega (arith, w .0)
 
 part-outside-start : tie.Need-part-outside-start Inv-loop μ-loop
-part-outside-start c = let w = end-within (c .before .before .before .before .args .line .now) (c .before .before .loop .at) (c .next-at .result) (c .before .loop-test .taken) (c .next-at .ensures) in omega (arith, w .0, w .1)
+part-outside-start c =
+    let at-next-at = c in
+    let at-loop-test = at-next-at .before in
+    let at-loop = at-loop-test .before in
+    let start = at-loop .before .before in
+    let w = end-within (start .args .line .now) (at-loop .loop .at) (at-next-at .next-at .result) (at-loop-test .loop-test .taken)
+    (at-next-at .next-at .ensures) in omega (arith, w .0, w .1)
 
 part-outside-end : tie.Need-part-outside-end Inv-loop μ-loop
-part-outside-end c = let w = end-within (c .before .before .before .before .args .line .now) (c .before .before .loop .at) (c .next-at .result) (c .before .loop-test .taken) (c .next-at .ensures) in omega (arith, w .0, w .1)
+part-outside-end c =
+    let at-next-at = c in
+    let at-loop-test = at-next-at .before in
+    let at-loop = at-loop-test .before in
+    let start = at-loop .before .before in
+    let w = end-within (start .args .line .now) (at-loop .loop .at) (at-next-at .next-at .result) (at-loop-test .loop-test .taken)
+    (at-next-at .next-at .ensures) in omega (arith, w .0, w .1)
 
 outside-requires : tie.Need-outside-requires Inv-loop μ-loop
 outside-requires c κs = search needs
 
 returns : tie.Need-returns Inv-loop μ-loop
-returns c = outside-first (c .before .before .before .before .before .before .before .args .line .now) (c .before .before .before .before .before .loop .at) (c .before .before .before .next-at .result) (c .before .before .before .before .loop-test .taken) (c .before .before .before .next-at .ensures) (c .before .outside .result) (c .before .outside .ensures) (c .if1 .taken) ∙ c .before .before .before .before .before .loop .inv
+returns c =
+    let at-if1 = c in
+    let at-outside = at-if1 .before in
+    let at-next-at = at-outside .before .before in
+    let at-loop-test = at-next-at .before in
+    let at-loop = at-loop-test .before in
+    let start = at-loop .before .before in
+    outside-first (start .args .line .now) (at-loop .loop .at) (at-next-at .next-at .result) (at-loop-test .loop-test .taken) (at-next-at
+    .next-at .ensures) (at-outside .outside .result) (at-outside .outside .ensures) (at-if1 .if1 .taken) ∙ at-loop .loop .inv
 
 add-at : tie.Need-add-at Inv-loop μ-loop
-add-at c = let w = end-within (c .before .before .before .before .before .before .before .args .line .now) (c .before .before .before .before .before .loop .at) (c .before .before .before .next-at .result) (c .before .before .before .before .loop-test .taken) (c .before .before .before .next-at .ensures) in omega (arith, c .before .before .before .before .before .before .before .good, w .1)
+add-at c =
+    let at-next-at = c .before .before .before in
+    let at-loop-test = at-next-at .before in
+    let at-loop = at-loop-test .before in
+    let start = at-loop .before .before in
+    let w = end-within (start .args .line .now) (at-loop .loop .at) (at-next-at .next-at .result) (at-loop-test .loop-test .taken)
+    (at-next-at .next-at .ensures) in omega (arith, start .good, w .1)
 
 loop-less : tie.Need-loop-less Inv-loop μ-loop
-loop-less c = let w = end-within (c .before .before .before .before .before .before .before .args .line .now) (c .before .before .before .before .before .loop .at) (c .before .before .before .next-at .result) (c .before .before .before .before .loop-test .taken) (c .before .before .before .next-at .ensures) in omega (arith, w .0, w .1)
+loop-less c =
+    let at-next-at = c .before .before .before in
+    let at-loop-test = at-next-at .before in
+    let at-loop = at-loop-test .before in
+    let start = at-loop .before .before in
+    let w = end-within (start .args .line .now) (at-loop .loop .at) (at-next-at .next-at .result) (at-loop-test .loop-test .taken)
+    (at-next-at .next-at .ensures) in omega (arith, w .0, w .1)
 
 loop-again : tie.Need-loop-again Inv-loop μ-loop
-loop-again c = outside-rest (c .before .before .before .before .before .before .before .args .line .now) (c .before .before .before .before .before .loop .at) (c .before .before .before .next-at .result) (c .before .before .before .before .loop-test .taken) (c .before .before .before .next-at .ensures) (c .before .outside .result) (c .before .outside .ensures) (c .if1 .left) ∙ c .before .before .before .before .before .loop .inv
+loop-again c =
+    let at-if1 = c in
+    let at-outside = at-if1 .before in
+    let at-next-at = at-outside .before .before in
+    let at-loop-test = at-next-at .before in
+    let at-loop = at-loop-test .before in
+    let start = at-loop .before .before in
+    outside-rest (start .args .line .now) (at-loop .loop .at) (at-next-at .next-at .result) (at-loop-test .loop-test .taken) (at-next-at
+    .next-at .ensures) (at-outside .outside .result) (at-outside .outside .ensures) (at-if1 .if1 .left) ∙ at-loop .loop .inv
 
 returns-2 : tie.Need-returns-2 Inv-loop μ-loop
-returns-2 c = outside-none (c .before .before .before .args .line .now) (c .before .loop .at) (c .loop-test .left) ∙ c .before .loop .inv
+returns-2 c =
+    let at-loop-test = c in
+    let at-loop = at-loop-test .before in
+    let start = at-loop .before .before in
+    outside-none (start .args .line .now) (at-loop .loop .at) (at-loop-test .loop-test .left) ∙ at-loop .loop .inv
 
 pub any-outside-spec : {M : Type 1} → statement M
 any-outside-spec =

@@ -7,10 +7,16 @@ use Rattle.rules.proofs.variables.outside.Statement.{statement}
 use Rattle.rules.proofs.variables.outside.Tie as tie
 
 returns : tie.Need-returns
-returns c = ap outsideRange (sym (ap headHeld (c .before .first .given .1)) ∙ c .before .before .before .head-of .ensures)
+returns c =
+    let at-first = c .before in
+    let at-head-of = at-first .before .before in
+    ap outsideRange (sym (ap headHeld (at-first .first .given .1)) ∙ at-head-of .head-of .ensures)
 
 returns-2 : tie.Need-returns-2
-returns-2 c = ap outsideRange (sym (ap headHeld (c .before .first2 .given .1)) ∙ c .before .before .before .head-of .ensures)
+returns-2 c =
+    let at-first2 = c .before in
+    let at-head-of = at-first2 .before .before in
+    ap outsideRange (sym (ap headHeld (at-first2 .first2 .given .1)) ∙ at-head-of .head-of .ensures)
 
 returns-3 : tie.Need-returns-3
 returns-3 c = ap outsideRange (sym (ap headHeld (c .enum-told .given .1)) ∙ c .before .before .head-of .ensures)

@@ -9,7 +9,11 @@ unbound-requires : tie.Need-unbound-requires
 unbound-requires c κs = search needs
 
 returns : tie.Need-returns
-returns c = answered-early (c .before .before .before .pre) 0 (c .before .unbound .result) (c .before .unbound .ensures) (c .if1 .taken)
+returns c =
+    let at-if1 = c in
+    let at-unbound = at-if1 .before in
+    let start = at-unbound .before .before in
+    answered-early (start .pre) 0 (at-unbound .unbound .result) (at-unbound .unbound .ensures) (at-if1 .if1 .taken)
 
 any-outside-requires : tie.Need-any-outside-requires
 any-outside-requires c κs = search needs
@@ -18,10 +22,26 @@ far-answer-requires : tie.Need-far-answer-requires
 far-answer-requires c κs = search needs
 
 returns-2 : tie.Need-returns-2
-returns-2 c = answer-far (c .before .before .before .before .before .before .pre) (c .before .before .before .before .unbound .result) (c .before .before .before .before .unbound .ensures) (c .before .before .before .if1 .left) (c .before .before .any-outside .result) (c .before .before .any-outside .ensures) (c .before .if2 .taken) (c .far-answer .result) (c .far-answer .ensures)
+returns-2 c =
+    let at-far-answer = c in
+    let at-if2 = at-far-answer .before in
+    let at-any-outside = at-if2 .before in
+    let at-if1 = at-any-outside .before in
+    let at-unbound = at-if1 .before in
+    let start = at-unbound .before .before in
+    answer-far (start .pre) (at-unbound .unbound .result) (at-unbound .unbound .ensures) (at-if1 .if1 .left) (at-any-outside .any-outside
+    .result) (at-any-outside .any-outside .ensures) (at-if2 .if2 .taken) (at-far-answer .far-answer .result) (at-far-answer .far-answer
+    .ensures)
 
 returns-3 : tie.Need-returns-3
-returns-3 c = answer-near (c .before .before .before .before .before .pre) (c .before .before .before .unbound .result) (c .before .before .before .unbound .ensures) (c .before .before .if1 .left) (c .before .any-outside .result) (c .before .any-outside .ensures) (c .if2 .left)
+returns-3 c =
+    let at-if2 = c in
+    let at-any-outside = at-if2 .before in
+    let at-if1 = at-any-outside .before in
+    let at-unbound = at-if1 .before in
+    let start = at-unbound .before .before in
+    answer-near (start .pre) (at-unbound .unbound .result) (at-unbound .unbound .ensures) (at-if1 .if1 .left) (at-any-outside
+    .any-outside .result) (at-any-outside .any-outside .ensures) (at-if2 .if2 .left)
 
 pub variables-answer-spec : {M : Type 1} → statement M
 variables-answer-spec =
