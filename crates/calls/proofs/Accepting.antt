@@ -575,6 +575,44 @@ module _ (W : ℕ) where
   pub checks-passed : (i : Input) → SizesFit W i → EntriesGood W i → NodesGood i → (tableCheckedBy W (i .table) ≡ checked 0 0) × (storeChecked (i .store) (i .mark) ≡ checked 0 0)
   checks-passed i z x y = (last-passes (table-test none i) (table-tested none i z) .1 x, last-passes (store-test none i) (store-tested none i z) .1 y)
 
+  -- ---- what is refused before the start is looked at
+
+  -- the start's test changes no refusal but 5
+  pub start-after : (w : Checked) (b : Bool) (n p : ℕ) → n ≢ 0 → n ≢ 5 → (orElse w (if b then checked 0 0 else checked 5 0) ≡ checked n p) ↔ (w ≡ checked n p)
+  start-after w b n p k l = go (eqb (w .answer) 0) refl b
+    where
+      go : (z : Bool) → eqb (w .answer) 0 ≡ z → (b : Bool) → ((if z then (if b then checked 0 0 else checked 5 0) else w) ≡ checked n p) ↔ (w ≡ checked n p)
+      go true q true = (λ e. absurd (k (sym (answer-of e))), λ e. absurd (k (sym (answer-of e) ∙ eqb-true _ _ q)))
+      go true q false = (λ e. absurd (l (sym (answer-of e))), λ e. absurd (k (sym (answer-of e) ∙ eqb-true _ _ q)))
+      go false q b = (λ e. e, λ e. e)
+
+  pub words-only : (g : Option (List ℕ)) (i : Input) (n p : ℕ) → n ≢ 0 → n ≢ 5
+      → (verdictWith g i ≡ checked n p) ↔ (wordsRefusedBy W g (i .table) (i .store) (i .bindings) (i .mark) ≡ checked n p)
+  unfolding refusedWithBy
+  words-only g i n p k l =
+      start-after (wordsRefusedBy W g (i .table) (i .store) (i .bindings) (i .mark)) (startFits (i .table) (i .bindings) (i .mark) (i .start) (i .subject)) n p k l
+
+  -- all is so: nothing is refused before
+  pub words-back : (g : Option (List ℕ)) (i : Input) → AllFit g i → EntriesGood W i → NodesGood i → EntriesObey g i → NodesObey g i
+      → wordsRefusedBy W g (i .table) (i .store) (i .bindings) (i .mark) ≡ checked 0 0
+  unfolding wordsRefusedBy
+  words-back g i z x y o h =
+      let k = checks-passed i (z .0) x y in
+      let u : signatureObeyed g (i .table) (i .store) (i .mark) ≡ checked 0 0 =
+      obeyed-in-turn g i ∙ ap (λ (c : Checked). orElse c (nodesTest g i)) (last-passes (entries-test g i) (entries-tested g i) .1 o) ∙ last-passes (nodes-test g i) (nodes-tested g i) .1 h in
+      rw (all-plain g i .1 z, k .0, k .1, u)
+
+  pub words-not-five : (g : Option (List ℕ)) (i : Input) → wordsRefusedBy W g (i .table) (i .store) (i .bindings) (i .mark) .answer ≢ 5
+  unfolding refusedWithBy
+  words-not-five g i e =
+      let w : wordsRefusedBy W g (i .table) (i .store) (i .bindings) (i .mark) ≡ checked 5 (wordsRefusedBy W g (i .table) (i .store) (i .bindings) (i .mark) .place) =
+      λ j. record { answer = e j; place = wordsRefusedBy W g (i .table) (i .store) (i .bindings) (i .mark) .place } in
+      let v : verdictWith g i ≡ checked 5 (wordsRefusedBy W g (i .table) (i .store) (i .bindings) (i .mark) .place) =
+      ap (λ (c : Checked). orElse c (if startFits (i .table) (i .bindings) (i .mark) (i .start) (i .subject) then checked 0 0 else checked 5 0)) w in
+      let f = refused-start g i _ .0 v in
+      let b = words-back g i (f .0) (f .1 .0) (f .1 .1 .0) (f .1 .1 .1 .0) (f .1 .1 .1 .1 .0) in
+      omega (arith, e, answer-of b)
+
   -- ---- what is accepted
 
   module _ (i : Input) where

@@ -2,18 +2,27 @@
 -- the contract, and is proved in proofs/Subjects.antt under its name.
 use mathlib.Core.Path.{_≡_}
 use mathlib.Core.Logic.{_↔_}
-use mathlib.Core.Option.{Option}
+use mathlib.Core.Option.{Option, none, some}
 use mathlib.Core.List.{List, [], _∷_}
 use Prim.Native.Nat.{ℕ, zero, suc, _*_, _≤_, _<_}
 use lib.ListN.{length, getD, take, drop}
+use Rattle.words.specs.Words.{rows}
 use Rattle.checks.specs.declared.Checked.{Checked}
+use Rattle.checks.specs.declared.kinds.Sort.the-variants.{Strategy}
+use Rattle.checks.specs.Kinds.{sortOf}
+use Rattle.checks.specs.Good.{kindOf, goodEntryBy, goodNode}
+use Rattle.checks.specs.Plain.{FaultyBy}
+use Rattle.checks.specs.Checked.{checked}
+use Rattle.checks.specs.Signature.{Signature, entryObeys, nodeObeys}
+use Rattle.checks.specs.Promises.{Lowest}
 use Rattle.meaning.specs.Table.{tableBy}
 use Rattle.meaning.specs.Derivation.{quiet}
 use Rattle.meaning.specs.Store.{Input, AcceptedBy}
 use Rattle.meaning.specs.Demands.{Says, limits, startVisit, Agreed, started}
 use Rattle.meaning.specs.Orderings.{Site, Every, Separate, Reordered, InOrder}
 use Rattle.calls.specs.Run.{atReturn, runWithBy, runOfBy}
-use Rattle.calls.specs.Promises.{Runs, Ended, Told, Movable}
+use Rattle.calls.specs.Promises.{Runs, Ended, Told, Movable, SizesFit, EntriesGood, NodesGood}
+use Rattle.calls.specs.Signed.{EntriesObey, NodesObey}
 use Rattle.calls.specs.declared.Outcome.{Outcome}
 use Rattle.calls.specs.Many.{Module, single, five, manyRefusedBy, manyAtReturn, manyOfBy}
 
@@ -86,3 +95,76 @@ Demand-3 W =
     → AcceptedBy W (started (turnInput W g c j) start units) → Runs W (started (turnInput W g c j) start units) o s′ b′
     → (x x′ : Ended) → Told (turnInput W g c j) (runOfBy W (turnInput W g c j)) x → Told (started (turnInput W g c j) start units) (atReturn o s′ b′) x′
     → Agreed x x′
+
+-- ---- which refusal is given, both ways
+
+-- the list has five words per subject
+abbrev pub ListFits : Module → Type 0
+ListFits c = length (c .results) ≡ 5 * length (c .subjects)
+
+-- what a lent signature asks of itself, and of the entries and the nodes; nothing where none is lent
+abbrev pub SignatureFits : Option (List ℕ) → Type 0
+SignatureFits none = Unit {0}
+SignatureFits (some g) = Signature g
+
+abbrev pub Obeys : Option (List ℕ) → Input → Type 0
+Obeys none i = Unit {0}
+Obeys (some g) i = EntriesObey g i × NodesObey g i
+
+-- what is asked of the start, of every subject and of the bindings
+pub record StartsFit (c : Module) : Type 0 where
+  pub inside : c .start < rows (c .table)
+  pub strategy : sortOf (kindOf (c .table) (c .start)) ≡ Strategy
+  pub subjects : (j : ℕ) → j < length (c .subjects) → getD (c .subjects) j 0 < c .mark
+  pub bound : (v : ℕ) → getD (c .bindings) v 0 ≤ c .mark
+
+-- what is handed over, as a run of the subject 0 has it: the sizes, the entries and the nodes are asked of it
+abbrev pub whole : Module → Input
+whole c = single c (c .store) (c .mark) 0
+
+-- Answer 2: the sizes do not fit, a lent signature's or the list's included.
+abbrev pub Refuses-sizes : ℕ → Type 0
+Refuses-sizes W =
+    (g : Option (List ℕ)) (c : Module) (r : Checked) (rs s : List ℕ) → RunsMany W g c r rs s
+    → (r .answer ≡ 2) ↔ (ListFits c → SizesFit W (whole c) → SignatureFits g → ⊥)
+
+-- An answer from 13 on with its place: the sizes fit, the place is the lowest bad entry, and the answer is its first fault.
+abbrev pub Refuses-entry : ℕ → Type 0
+Refuses-entry W =
+    (g : Option (List ℕ)) (c : Module) (r : Checked) (rs s : List ℕ) (n p : ℕ) → 12 < n → RunsMany W g c r rs s
+    → (r ≡ checked n p)
+    ↔ (ListFits c × SizesFit W (whole c) × SignatureFits g × Lowest (goodEntryBy W (c .table)) (rows (c .table)) p × FaultyBy W (c .table) p n)
+
+-- Answer 4 with its place: the place is the lowest bad node below the first mark.
+abbrev pub Refuses-node : ℕ → Type 0
+Refuses-node W =
+    (g : Option (List ℕ)) (c : Module) (r : Checked) (rs s : List ℕ) (p : ℕ) → RunsMany W g c r rs s
+    → (r ≡ checked 4 p) ↔ (ListFits c × SizesFit W (whole c) × SignatureFits g × EntriesGood W (whole c) × Lowest (goodNode (c .store)) (c .mark) p)
+
+-- Answers 10 and 11 with their places: a signature is lent, and the place is the lowest entry, or node, that does not obey it.
+abbrev pub Refuses-disobeying-entry : ℕ → Type 0
+Refuses-disobeying-entry W =
+    (g : List ℕ) (c : Module) (r : Checked) (rs s : List ℕ) (p : ℕ) → RunsMany W (some g) c r rs s
+    → (r ≡ checked 10 p)
+    ↔ (ListFits c × SizesFit W (whole c) × Signature g × EntriesGood W (whole c) × NodesGood (whole c) × Lowest (entryObeys g (c .table)) (rows (c .table)) p)
+
+abbrev pub Refuses-disobeying-node : ℕ → Type 0
+Refuses-disobeying-node W =
+    (g : List ℕ) (c : Module) (r : Checked) (rs s : List ℕ) (p : ℕ) → RunsMany W (some g) c r rs s
+    → (r ≡ checked 11 p)
+    ↔ (ListFits c × SizesFit W (whole c) × Signature g × EntriesGood W (whole c) × NodesGood (whole c) × EntriesObey g (whole c)
+    × Lowest (nodeObeys g (c .store)) (c .mark) p)
+
+-- Answer 5: all before it is so, and the start, a subject or a binding does not fit; without subjects too.
+abbrev pub Refuses-start : ℕ → Type 0
+Refuses-start W =
+    (g : Option (List ℕ)) (c : Module) (r : Checked) (rs s : List ℕ) → RunsMany W g c r rs s
+    → (r .answer ≡ 5)
+    ↔ (ListFits c × SizesFit W (whole c) × SignatureFits g × EntriesGood W (whole c) × NodesGood (whole c) × Obeys g (whole c) × (StartsFit c → ⊥))
+
+-- Answer 0: all of it is so.
+abbrev pub Accepts : ℕ → Type 0
+Accepts W =
+    (g : Option (List ℕ)) (c : Module) (r : Checked) (rs s : List ℕ) → RunsMany W g c r rs s
+    → (r ≡ checked 0 0)
+    ↔ (ListFits c × SizesFit W (whole c) × SignatureFits g × EntriesGood W (whole c) × NodesGood (whole c) × Obeys g (whole c) × StartsFit c)
