@@ -34,8 +34,8 @@ LIST = {
     17: ("MT_BAD_WORD", "Word", "BAD_WORD", "of-unused"),
     # of rules as text alone
     18: ("MT_BAD_RULE", "Text", "BAD_RULE", "told"),
-    19: ("MT_RULE_UNBOUND", "NothingBinds", "NOT_BOUND", "early"),
-    20: ("MT_RULE_VARIABLE", "NoSuchVariable", "BAD_VARIABLE", "large"),
+    19: ("MT_RULE_UNBOUND", "NothingBinds", "NOT_BOUND", "variablesAnswer"),
+    20: ("MT_RULE_VARIABLE", "NoSuchVariable", "BAD_VARIABLE", "variablesAnswer"),
     22: ("MT_RULE_CALL", "NoSuchStrategy", "BAD_REC", "ruleAnswer"),
     23: ("MT_NO_ENTRIES", "TooManyEntries", "FULL_TABLE", "told"),
     26: ("MT_SHORT_BUFFER", "ShortBuffer", "SHORT_BUFFER", "wrote"),
@@ -65,7 +65,8 @@ def specs():
     found |= pairs((ROOT / "crates/checks/specs/Plain.antt").read_text(), r"\b(of-\w+) : .*Faulty(?:By)? (\d+)")
     found |= pairs((ROOT / "crates/whole_job/specs/Whole.antt").read_text(), r"\b(answered) (\d+) ")
     found |= pairs((ROOT / "crates/rules/specs/Check.antt").read_text(), r"\b(told) used (\d+) ")
-    found |= pairs((ROOT / "crates/rules/specs/Bound.antt").read_text(), r"\b(early|large) : .*answer ≡ (\d+)")
+    bound = (ROOT / "crates/rules/specs/Bound.antt").read_text()
+    found |= {("variablesAnswer", int(n)) for n in re.findall(r"(?m)^variablesAnswer r = .* (\d+)\) else (\d+)$", bound)[0]}
     found |= pairs((ROOT / "crates/rules/specs/Line.antt").read_text(), r"(?m)^(ruleAnswer) f r = .* else (\d+)\) else ")
     found |= pairs((ROOT / "crates/write_rules/specs/Written.antt").read_text(), r"\b(wrote) (\d+) 0 0\b")
     # nothing is refused; and the writer's 5 is the run's number
