@@ -1,6 +1,6 @@
 /*
- * Calls the library by its C header: the job of document 01, the refusals, a signature, many subjects, the collection, rules as text,
- * and null with length 0 everywhere. Prints what is wrong, or one line that nothing is. Plain C99. Of the C library it takes puts alone, and declares it, so that it compiles
+ * Calls the library by its C header: the job of document 01, the refusals, a signature, many subjects, runs in steps, the collection, rules as
+ * text, and null with length 0 everywhere. Prints what is wrong, or one line that nothing is. Plain C99. Of the C library it takes puts alone, and declares it, so that it compiles
  * where the C library's headers are not at hand.
  */
 #include "marshtrundle.h"
@@ -325,6 +325,95 @@ static void many_subjects(void)
 /* The nodes 1 and 2 and the pair swapped: the node 5(0, 1), which nothing names, is gone. */
 static const uint32_t collected[32] = {1, 0, 0, 0, 0, 0, 0, 0, 2, 0, 0, 0, 0, 0, 0, 0, 5, 2, 1, 0, 0, 0, 0, 0};
 
+static uint32_t list[MT_WORK_WORDS + 2];
+
+static void fresh_steps(uint32_t word)
+{
+    size_t i;
+    fresh();
+    for (i = 0; i < MT_WORK_WORDS + 2; i++)
+        list[i] = word;
+}
+
+static int all_are(uint32_t word)
+{
+    size_t i;
+    for (i = 0; i < MT_WORK_WORDS + 2; i++)
+        if (list[i] != word)
+            return 0;
+    return 1;
+}
+
+static void start_refused(uint32_t answer, uint32_t place, uint32_t subject, uint32_t mark, const char *text)
+{
+    refused(answer, place, subject, mark, text);
+    hold(all_are(9), text);
+}
+
+static void steps(void)
+{
+    static const uint32_t zeros[64];
+    static const uint32_t fails[8] = {16 * MT_FAIL};
+    static const uint32_t loop[16] = {MT_ENTRY(MT_REC, 1), 0, 1, 0, 0, 0, 0, 0, MT_ENTRY(MT_CALL, 1)};
+    static const uint32_t declared[6] = {7, 0, 0, 7, 7, 2};
+    uint32_t size;
+    uint32_t made;
+    /* The swap takes ten visits: by any numbers of visits it ends as the run does. */
+    for (size = 1; size <= 11; size++) {
+        fresh_steps(9);
+        mt_start_run(table, 64, store, 32, bindings, 64, list, MT_WORK_WORDS + 2, 3, 0, 2, 10, numbers);
+        hold(is(numbers, MT_UNFINISHED, 0, 2, 3, 0), "the start makes no visit");
+        hold(same(store, given, 32) && same(bindings, zeros, 64), "the start writes the work list alone");
+        mt_step_run(table, 64, store, 32, bindings, 64, list, MT_WORK_WORDS + 2, 0, numbers);
+        hold(is(numbers, MT_UNFINISHED, 0, 2, 3, 0), "a step of no visits does nothing");
+        for (made = size; made < 10; made += size) {
+            mt_step_run(table, 64, store, 32, bindings, 64, list, MT_WORK_WORDS + 2, size, numbers);
+            hold(is(numbers, MT_UNFINISHED, 0, 2, 3, made), "a step makes its visits");
+            hold(same(bindings, zeros, 64), "the bindings are as given until the end");
+        }
+        mt_step_run(table, 64, store, 32, bindings, 64, list, MT_WORK_WORDS + 2, size, numbers);
+        hold(is(numbers, MT_DONE, 0, 3, 4, 10), "the last step: the numbers");
+        hold(same(store, after, 32), "the last step: the store");
+        hold(same(bindings, zeros, 64), "the last step: the bindings");
+        hold(all_are(0), "the last step: the work list");
+        mt_step_run(table, 64, store, 32, bindings, 64, list, MT_WORK_WORDS + 2, size, numbers);
+        hold(is(numbers, MT_NO_RUN, 0, 0, 0, 0), "a step on a work list of zeros");
+        hold(same(store, after, 32) && all_are(0), "a step on a work list of zeros writes nothing");
+    }
+    /* A step ends before the next visit's limit test. */
+    fresh_steps(9);
+    mt_start_run(table, 64, store, 32, bindings, 64, list, MT_WORK_WORDS, 3, 0, 2, 4, numbers);
+    mt_step_run(table, 64, store, 32, bindings, 64, list, MT_WORK_WORDS, 4, numbers);
+    hold(is(numbers, MT_UNFINISHED, 0, 2, 3, 4), "after the last unit");
+    mt_step_run(table, 64, store, 32, bindings, 64, list, MT_WORK_WORDS, 1, numbers);
+    hold(is(numbers, MT_OUT_OF_UNITS, 0, 2, 3, 4), "and then 6");
+    hold(list[MT_WORK_WORDS] == 9 && list[MT_WORK_WORDS + 1] == 9, "nothing behind the work list is written");
+    mt_start_run(loop, 16, store, 32, bindings, 64, list, MT_WORK_WORDS, 3, 0, 2, 5000, numbers);
+    mt_step_run(loop, 16, store, 32, bindings, 64, list, MT_WORK_WORDS, 4096, numbers);
+    hold(is(numbers, MT_UNFINISHED, 0, 2, 3, 4096), "4,096 levels");
+    mt_step_run(loop, 16, store, 32, bindings, 64, list, MT_WORK_WORDS, 0xffffffffu, numbers);
+    hold(is(numbers, MT_TOO_DEEP, 0, 2, 3, 4096), "and then 8");
+    fresh_steps(9);
+    mt_start_run_signed(fails, 8, store, 32, bindings, 64, list, MT_WORK_WORDS + 2, 3, 0, 2, 10, declared, 6, numbers);
+    hold(is(numbers, MT_UNFINISHED, 0, 2, 3, 0), "a start with a signature");
+    mt_step_run(fails, 8, store, 32, bindings, 64, list, MT_WORK_WORDS + 2, 1, numbers);
+    hold(is(numbers, MT_FAILED, 4096, 2, 3, 1), "a run that fails");
+    /* A start that is refused writes nothing. */
+    fresh_steps(9);
+    mt_start_run(table, 64, store, 32, bindings, 64, list, MT_WORK_WORDS - 1, 3, 0, 2, 10, numbers);
+    start_refused(MT_BAD_SIZES, 0, 2, 3, "a work list that is too short");
+    mt_start_run(table, 64, store, 32, bindings, 64, NULL, MT_WORK_WORDS, 3, 0, 2, 10, numbers);
+    start_refused(MT_BAD_SIZES, 0, 2, 3, "a null work list");
+    mt_start_run(table, 64, store, 32, bindings, 64, list, MT_WORK_WORDS + 2, 3, 6, 2, 10, numbers);
+    start_refused(MT_BAD_START, 0, 2, 3, "the start of a run in steps is a pattern");
+    mt_start_run_signed(table, 64, store, 32, bindings, 64, list, MT_WORK_WORDS + 2, 3, 0, 2, 10, declared, 5, numbers);
+    start_refused(MT_DISOBEYING_ENTRY, 4, 2, 3, "a start with a signature that is not obeyed");
+    mt_step_run(table, 64, store, 32, bindings, 63, list, MT_WORK_WORDS + 2, 1, numbers);
+    start_refused(MT_BAD_SIZES, 0, 0, 0, "a step with bad bindings");
+    mt_step_run(NULL, 0, NULL, 0, NULL, 0, NULL, 0, 1, numbers);
+    start_refused(MT_BAD_SIZES, 0, 0, 0, "a step with null everywhere");
+}
+
 static void soiled(uint32_t *work)
 {
     size_t i;
@@ -519,6 +608,7 @@ int main(void)
     refusals();
     signed_runs();
     many_subjects();
+    steps();
     collection();
     rules_as_text();
     empty_slices();

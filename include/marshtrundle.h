@@ -10,7 +10,7 @@
  * SLICES. A slice is a pointer and a number of 32-bit words, not of bytes. The pointer is aligned to 4 bytes and valid for
  * that many words. A null pointer is an empty slice. What is written (store, bindings, work, results, numbers) overlaps
  * nothing else that is passed in the same call. The table, the subjects and a signature are only read. mt_run_many and
- * mt_run_many_signed only read the bindings, and the checks only read. Of the functions for rules as text, mt_translate_rules writes
+ * mt_run_many_signed only read the bindings, mt_start_run and mt_start_run_signed write the work list alone, and the checks only read. Of the functions for rules as text, mt_translate_rules writes
  * the table and mt_write_rule the buffer; a text and a buffer are a pointer and a number of bytes, of any alignment.
  *
  * NUMBERS. `numbers` is where the answer goes. It is never null: it is aligned and valid for writing as many numbers of 32 or 64 bits
@@ -38,12 +38,18 @@
  *
  * THE WORK LIST of mt_collect. A word for each node of the store, or more. It may hold anything, and is zero afterwards.
  *
+ * THE WORK LIST of mt_start_run, mt_start_run_signed and mt_step_run. MT_WORK_WORDS words, or more. It may hold anything before the start. From the start to
+ * the end of the run it holds the pending work, and then it is zero. Between two calls nobody may touch the table, the store, the bindings
+ * and the work list; what the store holds above the given mark, and the work list, is the library's own until the run ends. Where that
+ * is broken a step still ends, reads and writes nothing outside what is lent, and gives some answer. A run may be left before its end: the nodes
+ * below the mark and the bindings are then as given, and the work list serves another start as it is.
+ *
  * THE STACK. Give a thread that calls a function whose name begins with mt_run MT_STACK bytes (2 MiB). A run nests at most
  * 4,096 visits, and each form of visit takes its own number of bytes. The deepest, CONG, takes 1.9 MiB in all; in this is a
  * copy of the table, 128 KiB whatever the table's size. It is measured, not proved: the Rust crate's tests run 4,096 levels
  * of each form on a thread of exactly 2 MiB, with one subject and with two. mt_translate_rules and mt_write_rule take less
- * than 256 KiB, the other functions less than 64 KiB. On a smaller stack a deep run ends in the thread's guard page, if it has
- * one: the code touches every page of a large frame in order.
+ * than 256 KiB, the other functions, mt_step_run among them, less than 64 KiB. On a smaller stack a deep run ends in the
+ * thread's guard page, if it has one: the code touches every page of a large frame in order.
  *
  * THE STORE. Eight words to a node. Node k has words 8k to 8k + 7:
  *   word 0       the constructor, 0 to 65,535
@@ -107,6 +113,9 @@ extern "C" {
 #define MT_CONSTRUCTORS 65536
 #define MT_UNDECLARED 7
 
+/* The least words of the work list of a run in steps: 80 for each of 4,096 levels. */
+#define MT_WORK_WORDS 327680
+
 /* The most bytes of a rule's line that a table of 4,096 entries can have, its line feed included. */
 #define MT_RULE_BYTES 53272
 
@@ -147,7 +156,7 @@ enum mt_kind {
 
 /*
  * The answers. They are asked in the order 2, 13 to 17, 4, 10, 11, 5, then comes the run.
- * In answers 2, 4, 5, 10, 11, 13 to 20, 22, 23 and 26 nothing is written but the numbers.
+ * In answers 2, 4, 5, 10, 11, 13 to 20, 22, 23, 26 and 27 nothing is written but the numbers.
  * In answers 0, 1, 6, 7, 8 and 12 the nodes below the given mark are unchanged, and every store word from the returned mark
  * to the end is zero. In answers 1, 6, 7, 8 and 12 the bindings are as given. No strategy catches 6, 7, 8 or 12.
  */
@@ -158,7 +167,7 @@ enum mt_answer {
                             failed */
     MT_BAD_SIZES = 2,    /* the table is empty, over 32,768 words or no multiple of 8; the store is over 1,048,576 words or
                             no multiple of 8; the bindings are not 64 words; the mark exceeds the store's nodes; the
-                            result list is not five words for each subject; the signature is over 65,536 words or has
+                            result list is not five words for each subject; the work list is too short; the signature is over 65,536 words or has
                             a word above 7 */
     MT_BAD_NODE = 4,     /* a node below the mark is malformed; the place is the lowest such node */
     MT_BAD_START = 5,    /* the start is outside the table or a pattern; the subject, or one of several, is not below
@@ -186,7 +195,11 @@ enum mt_answer {
     MT_RULE_VARIABLE = 20, /* a variable is above 63 */
     MT_RULE_CALL = 22,     /* a condition's number is no REC without free variables among the entries in use */
     MT_NO_ENTRIES = 23,    /* the rule's entries pass the lent length of the table, or 4,096 */
-    MT_SHORT_BUFFER = 26   /* the buffer is shorter than the rule's line */
+    /* 25 and 27 are given by the functions for runs in steps alone. */
+    MT_UNFINISHED = 25,    /* the run goes on, and is set aside before its next visit; the place is 0, subject and mark as given, the units
+                              those used so far */
+    MT_SHORT_BUFFER = 26,  /* the buffer is shorter than the rule's line */
+    MT_NO_RUN = 27         /* a step on a work list of zeros, which holds no run; the other numbers are 0 */
     /* 3 is no longer given: 13 to 17 stand in its place. 9 is an answer of the job program alone: its text is malformed. */
 };
 
@@ -222,6 +235,15 @@ void marshtrundle_run_many_signed(const uint32_t *table, size_t table_words, uin
                                   const uint32_t *subjects, size_t subjects_words, uint32_t units, uint32_t *results,
                                   size_t results_words, const uint32_t *signature, size_t signature_words,
                                   uint32_t numbers[2]);
+void marshtrundle_start(const uint32_t *table, size_t table_words, const uint32_t *store, size_t store_words,
+                        const uint32_t *bindings, size_t bindings_words, uint32_t *work, size_t work_words, uint32_t mark,
+                        uint32_t start, uint32_t subject, uint32_t units, uint32_t numbers[5]);
+void marshtrundle_start_signed(const uint32_t *table, size_t table_words, const uint32_t *store, size_t store_words,
+                               const uint32_t *bindings, size_t bindings_words, uint32_t *work, size_t work_words,
+                               uint32_t mark, uint32_t start, uint32_t subject, uint32_t units, const uint32_t *signature,
+                               size_t signature_words, uint32_t numbers[5]);
+void marshtrundle_step(const uint32_t *table, size_t table_words, uint32_t *store, size_t store_words, uint32_t *bindings,
+                       size_t bindings_words, uint32_t *work, size_t work_words, uint32_t visits, uint32_t numbers[5]);
 void marshtrundle_collect(uint32_t *store, size_t store_words, uint32_t *bindings, size_t bindings_words,
                           uint32_t *work, size_t work_words, uint32_t mark, uint32_t subject, uint32_t numbers[4]);
 void marshtrundle_free_variables(const uint32_t *table, size_t table_words, uint32_t entry, uint64_t numbers[3]);
@@ -301,6 +323,52 @@ static inline void mt_run_many_signed(const uint32_t *table, size_t table_words,
                                  subjects ? subjects_words : 0, units, results ? results : &none[4],
                                  results ? results_words : 0, signature ? signature : &none[5],
                                  signature ? signature_words : 0, numbers);
+}
+
+/*
+ * Starts a run that is made in steps, so that a window stays alive during a long pass. It checks as mt_run does, and a work list that is
+ * too short is refused with MT_BAD_SIZES. It makes no visit. `numbers` gets MT_UNFINISHED, 0, subject and mark as given, and 0; or the
+ * refusal, with nothing written. The work list alone is written.
+ */
+static inline void mt_start_run(const uint32_t *table, size_t table_words, const uint32_t *store, size_t store_words,
+                            const uint32_t *bindings, size_t bindings_words, uint32_t *work, size_t work_words, uint32_t mark,
+                            uint32_t start, uint32_t subject, uint32_t units, uint32_t numbers[5])
+{
+    uint32_t none[4] = {0, 0, 0, 0};
+    marshtrundle_start(table ? table : &none[0], table ? table_words : 0, store ? store : &none[1], store ? store_words : 0,
+                       bindings ? bindings : &none[2], bindings ? bindings_words : 0, work ? work : &none[3],
+                       work ? work_words : 0, mark, start, subject, units, numbers);
+}
+
+/* Starts as mt_start_run does, with a signature, which is asked as mt_run_signed asks it. The steps need it no more. */
+static inline void mt_start_run_signed(const uint32_t *table, size_t table_words, const uint32_t *store, size_t store_words,
+                                   const uint32_t *bindings, size_t bindings_words, uint32_t *work, size_t work_words,
+                                   uint32_t mark, uint32_t start, uint32_t subject, uint32_t units,
+                                   const uint32_t *signature, size_t signature_words, uint32_t numbers[5])
+{
+    uint32_t none[5] = {0, 0, 0, 0, 0};
+    marshtrundle_start_signed(table ? table : &none[0], table ? table_words : 0, store ? store : &none[1],
+                              store ? store_words : 0, bindings ? bindings : &none[2], bindings ? bindings_words : 0,
+                              work ? work : &none[3], work ? work_words : 0, mark, start, subject, units,
+                              signature ? signature : &none[4], signature ? signature_words : 0, numbers);
+}
+
+/*
+ * Makes `visits` visits of the run that the work list holds, and what follows the last of them up to the next one's limit test; or fewer, where
+ * the run ends. Table, store, bindings and work list are those of the start, as the last call left them. While the run goes on the answer is
+ * MT_UNFINISHED. At its end the five numbers, the store and the bindings are those of mt_run, whatever the numbers of visits were, and the
+ * work list is zero. After the last unit a step answers MT_UNFINISHED, and the next step of one visit or more MT_OUT_OF_UNITS. A step of
+ * no visits does nothing. Lengths that mt_start_run refuses are refused with MT_BAD_SIZES, and then a work list of zeros with
+ * MT_NO_RUN; the other numbers are 0 in both.
+ */
+static inline void mt_step_run(const uint32_t *table, size_t table_words, uint32_t *store, size_t store_words,
+                           uint32_t *bindings, size_t bindings_words, uint32_t *work, size_t work_words, uint32_t visits,
+                           uint32_t numbers[5])
+{
+    uint32_t none[4] = {0, 0, 0, 0};
+    marshtrundle_step(table ? table : &none[0], table ? table_words : 0, store ? store : &none[1], store ? store_words : 0,
+                      bindings ? bindings : &none[2], bindings ? bindings_words : 0, work ? work : &none[3],
+                      work ? work_words : 0, visits, numbers);
 }
 
 /*

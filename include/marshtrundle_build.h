@@ -408,7 +408,9 @@ static inline const char *mt_answer_text(uint32_t answer)
     case MT_RULE_VARIABLE: return "a rule's variable is above 63";
     case MT_RULE_CALL: return "a condition's entry is no REC in use without free variables";
     case MT_NO_ENTRIES: return "the table has no room for a rule's entries";
+    case MT_UNFINISHED: return "the run is set aside";
     case MT_SHORT_BUFFER: return "the buffer is shorter than the rule's line";
+    case MT_NO_RUN: return "the work list holds no run";
     default: return "no answer of this library";
     }
 }

@@ -39,6 +39,9 @@ LIST = {
     22: ("MT_RULE_CALL", "NoSuchStrategy", "BAD_REC", "ruleAnswer"),
     23: ("MT_NO_ENTRIES", "TooManyEntries", "FULL_TABLE", "told"),
     26: ("MT_SHORT_BUFFER", "ShortBuffer", "SHORT_BUFFER", "wrote"),
+    # of a run in steps alone
+    25: ("MT_UNFINISHED", "Unfinished", "UNFINISHED", "numbers"),
+    27: ("MT_NO_RUN", "NoRun", "NO_RUN", "numbers"),
 }
 
 
@@ -69,8 +72,9 @@ def specs():
     found |= {("variablesAnswer", int(n)) for n in re.findall(r"(?m)^variablesAnswer r = .* (\d+)\) else (\d+)$", bound)[0]}
     found |= pairs((ROOT / "crates/rules/specs/Line.antt").read_text(), r"(?m)^(ruleAnswer) f r = .* else (\d+)\) else ")
     found |= pairs((ROOT / "crates/write_rules/specs/Written.antt").read_text(), r"\b(wrote) (\d+) 0 0\b")
-    # nothing is refused; and the writer's 5 is the run's number
-    return found - {("checked", 0), ("wrote", 5)}
+    found |= pairs((ROOT / "crates/stepping/specs/Stepping.antt").read_text(), r"\b(numbers) (\d+) 0 ")
+    # nothing is refused; and the writer's 5 and the 2 of a run in steps are the run's numbers
+    return found - {("checked", 0), ("wrote", 5), ("numbers", 2)}
 
 
 def of_rules(found):

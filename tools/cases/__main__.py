@@ -21,6 +21,7 @@ import many
 import rules
 import runs
 import signed
+import steps
 
 SEED = "20261115"
 EXAMPLES = pathlib.Path(__file__).resolve().parent.parent.parent / "examples"
@@ -126,6 +127,26 @@ def many_sample(twin):
             lend.add("n" if 3 in slices else "m", body, line + b" :" + store_shown(store, lengths[1]) + b"\n")
 
 
+def stepped_sample(twin):
+    """Slices 6 and 9 are the work list, of which each word is the same before the call, and the steps. An answer is the label, the numbers of
+    each call, ` :`, the bindings, ` :`, the store, ` :`, the work list.
+    """
+    for case, answer in sample(twin, "stepped", 300):
+        (mark, start, subject, units), slices, triples, label = call_of(case)
+        assert all(k != 6 for k, _, _ in triples)
+        lengths, fills, patches = lent_by(mark, slices, triples)
+        (work, first), (count, visits) = slices[6], slices.get(9, (0, 0))
+        listed = [visits] * count
+        for k, w, v in triples:
+            if k == 9:
+                listed[w] = v
+        body = steps.bytes_of([*lengths, mark, start, subject, units, *fills], patches, work, first, listed, label)
+        numbers, bound, store, after = answer.split(b" :")
+        line = numbers + bound + b" :" + store_shown(store, lengths[1]) + b" :" + store_shown(after, work)
+        if len(body) <= 131072:
+            lend.add("q" if 3 in slices else "p", body, line + b"\n")
+
+
 def rules_sample(twin):
     """Tag `r` is the translator, with the text in slice 10, and `w` the writer, with the buffer in slice 11; MARK is the number of entries
     in use. An answer is the label, four numbers or three, and the words of the table or the buffer.
@@ -155,8 +176,8 @@ def job_sample(twin):
         lend.add("j", path.read_bytes(), jobs.framed(path.with_suffix(".answer").read_bytes()))
 
 
-CALLS = ((checks.write, None), (free.write, free_sample), (runs.write, run_sample), (signed.write, signed_sample), (many.write, many_sample), (collects.write, None),
-         (rules.write, rules_sample), (jobs.write, job_sample))
+CALLS = ((checks.write, None), (free.write, free_sample), (runs.write, run_sample), (signed.write, signed_sample), (many.write, many_sample),
+         (steps.write, stepped_sample), (collects.write, None), (rules.write, rules_sample), (jobs.write, job_sample))
 
 
 def write(folder, twin):

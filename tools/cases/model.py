@@ -1,5 +1,5 @@
 """A model of document 01, with what document 02 changes in it, written from their texts and sharing nothing with the crates: the
-two checks, the question of free variables, the run, also with a signature and on many subjects, the collection, and the job text.
+two checks, the question of free variables, the run, also with a signature, on many subjects and in steps, the collection, and the job text.
 What the executed cases must answer comes from it.
 """
 import re
@@ -151,13 +151,20 @@ def disobeying(t, s, mark, signature):
     return next(((11, k) for k in range(mark) if not declared(signature, *s[8 * k:8 * k + 2])), (0, 0))
 
 
-def refusal(t, s, b, mark, start, subjects, signature=None, results=None):
+def work_fits(words):
+    """80 words for each of 4,096 levels."""
+    return words >= 80 * 4096
+
+
+def refusal(t, s, b, mark, start, subjects, signature=None, results=None, work=None):
     """The answer and the place; 0 where nothing is refused. No signature is None, and not an empty one. A list of results is lent
-    where there are many subjects.
+    where there are many subjects, and a work list, of which the length is given, where a run is stepped.
     """
     if not table_fits(t) or not store_fits(s, mark) or len(b) != VARIABLES:
         return 2, 0
     if results is not None and len(results) != 5 * len(subjects) or signature is not None and not signature_fits(signature):
+        return 2, 0
+    if work is not None and not work_fits(work):
         return 2, 0
     bad = bad_entry(t)
     if bad == (0, 0):
@@ -174,14 +181,18 @@ class Cut(Exception):
 
 
 class Run:
-    def __init__(self, t, s, mark, units):
+    def __init__(self, t, s, mark, units, aside=None):
         self.entries = [t[i:i + 8] for i in range(0, len(t), 8)]
         self.nodes = [(s[i], tuple(s[i + 2:i + 2 + s[i + 1]])) for i in range(0, 8 * mark, 8)]
         self.room, self.units, self.used = len(s) // 8, units, 0
         # The pattern at which the last match gave up, caught or not.
         self.miss = 4096
+        # The visits after which it is set aside, before the next one's limit test.
+        self.aside = aside
 
     def visit(self, nesting):
+        if self.used == self.aside:
+            raise Cut(25, 0)
         if self.used == self.units:
             raise Cut(6, 0)
         if nesting > 4096:
@@ -320,12 +331,12 @@ class Run:
         return self.make(word[1], [self.build(q, b, n + 1) for q in word[2:2 + word[0] % 16]])
 
 
-def run(t, s, b, mark, start, subject, units, signature=None):
-    """The five numbers, the store and the bindings at return."""
+def run(t, s, b, mark, start, subject, units, signature=None, aside=None):
+    """The five numbers, the store and the bindings at return. Where a run is set aside after so many visits, the memory means nothing."""
     bad = refusal(t, s, b, mark, start, [subject], signature)
     if bad[0]:
         return [*bad, subject, mark, 0], s, b
-    r = Run(t, s, mark, units)
+    r = Run(t, s, mark, units, aside)
     clean = s[:8 * mark] + [0] * (len(s) - 8 * mark)
     try:
         got = r.strategy(start, subject, {v: w - 1 for v, w in enumerate(b) if w}, 1)
@@ -353,6 +364,27 @@ def run_many(t, s, b, mark, start, subjects, units, results, signature=None):
         numbers += five
         mark = five[3]
     return (0, 0), numbers, s
+
+
+def stepped(t, s, b, work, mark, start, subject, units, steps, signature=None):
+    """The five numbers of the start call and of each step; then store, bindings and work list. Where the start is not refused, the steps
+    listed are made, then at most two of the greatest number of visits, until the run ends; and then one of one visit, which finds a work
+    list of zeros. Where it is refused and the work list is all zero, there is that last one alone. A step runs the beginning again: what it
+    keeps between is the visits done.
+    """
+    zero = not any(work)
+    none = [27, 0, 0, 0, 0] if work_fits(len(work)) and table_fits(t) and store_fits(s, 0) and len(b) == VARIABLES else [2, 0, 0, 0, 0]
+    bad = refusal(t, s, b, mark, start, [subject], signature, work=len(work))
+    if bad[0]:
+        return [[*bad, subject, mark, 0]] + ([none] if zero else []), s, b, work
+    fives, done = [[25, 0, subject, mark, 0]], 0
+    for visits in [*steps, MOST, MOST]:
+        five, after, bound = run(t, s, b, mark, start, subject, units, signature, done + visits)
+        fives.append(five)
+        if five[0] != 25:
+            break
+        done = five[4]
+    return [*fives, none], after, bound, [0] * len(work)
 
 
 # The collection.

@@ -1,2 +1,3 @@
 // What the linker links: each call under its name in C, without `requires`. It refuses by number.
 pub mod exported;
+pub mod stepped;

@@ -8,6 +8,7 @@ pub mod Deterministic
 pub mod Compare
 pub mod Paper
 pub mod Limits
+pub mod Steps
 pub mod Unbound
 pub mod Last
 pub mod Apart

@@ -10,6 +10,7 @@ pub mod System
 pub mod Paper
 pub mod Compare
 pub mod Limits
+pub mod Steps
 pub mod Beginning
 pub mod Store
 pub mod Answer

@@ -17,6 +17,7 @@ mod memory;
 mod numbers;
 mod requests;
 mod show;
+mod steps;
 
 fn wide(b: u8) -> u32 {
     b as u32

@@ -14,7 +14,8 @@
 // 1 store, 2 bindings) is set to its VALUE. A collection takes no table: its work list is lent in the table's place. A run with a
 // signature has it behind the table: the table has ARGUMENT words, and the rest is the signature. A call over many subjects has
 // their number in the place of SUBJECT. Before its label stand the length of its result list and the subjects; every word of the result
-// list is 4294967295 before the call. The translator and the writer of rules have the number of entries in use in the place of SUBJECT.
+// list is 4294967295 before the call. A run in steps has before its label the length of the work list, what each of its words is before the
+// call, the number of steps and the visits of each. The translator and the writer of rules have the number of entries in use in the place of SUBJECT.
 // Of the translator START is the length of the text, which stands before the label. The writer's buffer has the lowest byte of each store word.
 ghost use Prim.Native.Nat.{_+_, _*_, _≤_};
 ghost use lib.ListN.{length};
@@ -100,7 +101,7 @@ fn fill_six(store: &mut [u32], n: u32)
 }
 
 // Sets every word from `from` on.
-fn spoil(words: &mut [u32], from: usize, word: u32) {
+pub fn spoil(words: &mut [u32], from: usize, word: u32) {
     let mut i = from;
     while i < words.len() {
         words[i] = word;

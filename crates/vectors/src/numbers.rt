@@ -40,3 +40,16 @@ pub fn number(text: &[u8], start: usize) -> Digits {
         next: i,
     }
 }
+
+// Reads a number of the text for each word, and gives the place after the last.
+pub fn read_words(text: &[u8], start: usize, words: &mut [u32]) -> usize {
+    let mut at = start;
+    let mut i: usize = 0;
+    while i < words.len() {
+        let d = number(text, at);
+        words[i] = d.value;
+        at = d.next;
+        i += 1;
+    }
+    at
+}

@@ -5,13 +5,16 @@ use crate::memory::make;
 use crate::memory::put_bytes;
 use crate::memory::put_words;
 use crate::numbers::number;
+use crate::numbers::read_words;
 use crate::show::show_checked;
 use crate::show::show_collected;
 use crate::show::show_free;
+use crate::show::show_label;
 use crate::show::show_many;
 use crate::show::show_run;
 use crate::show::show_translated;
 use crate::show::show_written;
+use crate::steps::call_steps;
 use checks::Checked;
 use checks::entries::check_table;
 use checks::nodes::check_store;
@@ -77,26 +80,6 @@ fn call(tag: u8, given: Given, table: &mut [u32], store: &mut [u32], bindings: &
         return true;
     }
     false
-}
-
-// Prints the label, which is the text from `start` on.
-fn show_label(text: &[u8], start: usize) {
-    if start <= text.len() {
-        io::write_all(STDOUT_FILENO, &text[start..]);
-    }
-}
-
-// Reads a number of the text for each word, and gives the place after the last.
-fn read_words(text: &[u8], start: usize, words: &mut [u32]) -> usize {
-    let mut at = start;
-    let mut i: usize = 0;
-    while i < words.len() {
-        let d = number(text, at);
-        words[i] = d.value;
-        at = d.next;
-        i += 1;
-    }
-    at
 }
 
 // The call over many subjects, with the signature that stands behind the first `at` words where one is lent.
@@ -250,8 +233,8 @@ fn call_write(given: Given, table: &[u32], store: &mut [u32]) -> bool {
     true
 }
 
-// Prints the label, makes the call of a case and prints what it gives back. Of a call over many subjects the label comes after them, of the
-// translator after its text.
+// Prints the label, makes the call of a case and prints what it gives back. Of a call over many subjects the label comes after them, of a
+// run in steps after those, of the translator after its text.
 fn answer_made(
     tag: u8,
     text: &[u8],
@@ -266,6 +249,12 @@ fn answer_made(
     }
     if tag == b'n' {
         return call_many(tag, text, next, given, table, store, bindings);
+    }
+    if tag == b'p' {
+        return call_steps(text, next, given, table, store, bindings, false);
+    }
+    if tag == b'q' {
+        return call_steps(text, next, given, table, store, bindings, true);
     }
     if tag == b'a' {
         return call_translate(text, next, given, table);

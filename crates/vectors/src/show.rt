@@ -8,6 +8,13 @@ use libc::STDOUT_FILENO;
 use rules::check::Translated;
 use write_rules::rule::Written;
 
+// Prints the label, which is the text from `start` on.
+pub fn show_label(text: &[u8], start: usize) {
+    if start <= text.len() {
+        io::write_all(STDOUT_FILENO, &text[start..]);
+    }
+}
+
 // Prints a space and a number.
 fn show_number(n: u64) {
     io::write_all(STDOUT_FILENO, b" ");
@@ -124,12 +131,30 @@ pub fn show_many(r: Checked, results: &[u32], store: &[u32], bindings: &[u32]) {
     show_memory(store, bindings);
 }
 
-// Prints what a run returns, and the memory that it leaves.
-pub fn show_run(r: Outcome, store: &[u32], bindings: &[u32]) {
+// Prints the five numbers that a run returns.
+pub fn show_outcome(r: Outcome) {
     show_number(r.answer as u64);
     show_number(r.place as u64);
     show_number(r.subject as u64);
     show_number(r.mark as u64);
     show_number(r.units as u64);
+}
+
+// Prints what a run returns, and the memory that it leaves.
+pub fn show_run(r: Outcome, store: &[u32], bindings: &[u32]) {
+    show_outcome(r);
     show_memory(store, bindings);
+}
+
+// Prints ` /` and what a step returns.
+pub fn show_step(r: Outcome) {
+    io::write_all(STDOUT_FILENO, b" /");
+    show_outcome(r);
+}
+
+// Prints the memory that a run in steps leaves, the work list last.
+pub fn show_aside(store: &[u32], bindings: &[u32], work: &[u32]) {
+    show_memory(store, bindings);
+    io::write_all(STDOUT_FILENO, b" :");
+    show_slice(work);
 }

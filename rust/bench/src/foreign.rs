@@ -86,6 +86,50 @@ extern "C" {
         signature_words: usize,
         numbers: *mut u32,
     );
+    fn marshtrundle_start(
+        table: *const u32,
+        table_words: usize,
+        store: *const u32,
+        store_words: usize,
+        bindings: *const u32,
+        bindings_words: usize,
+        work: *mut u32,
+        work_words: usize,
+        mark: u32,
+        start: u32,
+        subject: u32,
+        units: u32,
+        numbers: *mut u32,
+    );
+    fn marshtrundle_start_signed(
+        table: *const u32,
+        table_words: usize,
+        store: *const u32,
+        store_words: usize,
+        bindings: *const u32,
+        bindings_words: usize,
+        work: *mut u32,
+        work_words: usize,
+        mark: u32,
+        start: u32,
+        subject: u32,
+        units: u32,
+        signature: *const u32,
+        signature_words: usize,
+        numbers: *mut u32,
+    );
+    fn marshtrundle_step(
+        table: *const u32,
+        table_words: usize,
+        store: *mut u32,
+        store_words: usize,
+        bindings: *mut u32,
+        bindings_words: usize,
+        work: *mut u32,
+        work_words: usize,
+        visits: u32,
+        numbers: *mut u32,
+    );
     fn marshtrundle_collect(
         store: *mut u32,
         store_words: usize,
@@ -284,6 +328,110 @@ pub fn run_many_signed(
             results.len(),
             signature.as_ptr(),
             signature.len(),
+            numbers.as_mut_ptr(),
+        );
+    }
+    numbers
+}
+
+/// The words that a work list of a run in steps has at least.
+pub const WORK_WORDS: usize = 80 * 4_096;
+
+/// The start of a run in steps: answer, place, subject, mark and units used.
+#[allow(clippy::too_many_arguments)]
+pub fn start(
+    table: &[u32],
+    store: &[u32],
+    bindings: &[u32],
+    work: &mut [u32],
+    mark: u32,
+    start: u32,
+    subject: u32,
+    units: u32,
+) -> [u32; 5] {
+    let mut numbers = [0; 5];
+    // The four slices are borrowed for the call, the work list alone; `numbers` is
+    // a local of five words.
+    unsafe {
+        marshtrundle_start(
+            table.as_ptr(),
+            table.len(),
+            store.as_ptr(),
+            store.len(),
+            bindings.as_ptr(),
+            bindings.len(),
+            work.as_mut_ptr(),
+            work.len(),
+            mark,
+            start,
+            subject,
+            units,
+            numbers.as_mut_ptr(),
+        );
+    }
+    numbers
+}
+
+/// The start of a run in steps with a signature.
+#[allow(clippy::too_many_arguments)]
+pub fn start_signed(
+    table: &[u32],
+    store: &[u32],
+    bindings: &[u32],
+    work: &mut [u32],
+    mark: u32,
+    start: u32,
+    subject: u32,
+    units: u32,
+    signature: &[u32],
+) -> [u32; 5] {
+    let mut numbers = [0; 5];
+    // The five slices are borrowed for the call, the work list alone; `numbers` is
+    // a local of five words.
+    unsafe {
+        marshtrundle_start_signed(
+            table.as_ptr(),
+            table.len(),
+            store.as_ptr(),
+            store.len(),
+            bindings.as_ptr(),
+            bindings.len(),
+            work.as_mut_ptr(),
+            work.len(),
+            mark,
+            start,
+            subject,
+            units,
+            signature.as_ptr(),
+            signature.len(),
+            numbers.as_mut_ptr(),
+        );
+    }
+    numbers
+}
+
+/// A step of a run: answer, place, subject, mark and units used.
+pub fn step(
+    table: &[u32],
+    store: &mut [u32],
+    bindings: &mut [u32],
+    work: &mut [u32],
+    visits: u32,
+) -> [u32; 5] {
+    let mut numbers = [0; 5];
+    // The four slices are borrowed for the call, three of them alone; `numbers` is
+    // a local of five words.
+    unsafe {
+        marshtrundle_step(
+            table.as_ptr(),
+            table.len(),
+            store.as_mut_ptr(),
+            store.len(),
+            bindings.as_mut_ptr(),
+            bindings.len(),
+            work.as_mut_ptr(),
+            work.len(),
+            visits,
             numbers.as_mut_ptr(),
         );
     }

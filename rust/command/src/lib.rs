@@ -21,14 +21,15 @@ pub const BAD_USAGE: u8 = 64;
 pub const NO_INPUT: u8 = 66;
 
 /// How the command is used.
-pub const USAGE: &str = "usage: marshtrundle run FILE [--print] [--difference]
+pub const USAGE: &str = "usage: marshtrundle run FILE [--print] [--difference] [--steps N]
        marshtrundle check FILE
        marshtrundle free FILE
        marshtrundle print FILE [--entries] [--graph term|table]
        marshtrundle explain FILE [--all] [--html]
        marshtrundle rules FILE [--onto JOB | --back]
 
-  run      runs the job and writes its answer; --print writes the new term, --difference what changed in it
+  run      runs the job and writes its answer; --print writes the new term, --difference what changed in it; --steps runs it N visits at a
+           time, and draws on standard error how many of its units are used. The answer is the same
   check    says whether a run would refuse the job, and why
   free     says which variables the start leaves free
   print    writes the strategies and the subject; --entries every entry, --graph a graph for Graphviz
@@ -64,8 +65,8 @@ enum Stop {
     Text(TextFault),
 }
 
-/// Does what the words after the command's name ask for.
-pub fn command(words: &[String]) -> Said {
+/// Does what the words after the command's name ask for. `draw` is handed what is shown of a run in steps while it goes on.
+pub fn command(words: &[String], draw: &mut dyn FnMut(&str)) -> Said {
     if let [word] = words {
         if word == "--help" || word == "-h" || word == "help" {
             return Said {
@@ -74,7 +75,7 @@ pub fn command(words: &[String]) -> Said {
             };
         }
     }
-    match begin(words) {
+    match begin(words, draw) {
         Ok(said) => said,
         Err(Stop::Usage(what)) => Said {
             error: format!("marshtrundle: {what}\n{USAGE}"),
@@ -96,7 +97,7 @@ pub fn command(words: &[String]) -> Said {
     }
 }
 
-fn begin(words: &[String]) -> Result<Said, Stop> {
+fn begin(words: &[String], draw: &mut dyn FnMut(&str)) -> Result<Said, Stop> {
     let options = Options::of(words).map_err(Stop::Usage)?;
     let text = read(&options.file)?;
     if let Subcommand::Rules { onto, back: false } = &options.subcommand {
@@ -121,7 +122,18 @@ fn begin(words: &[String]) -> Result<Said, Stop> {
         show = show.length(length);
     }
     Ok(match options.subcommand {
-        Subcommand::Run { print, difference } => run(job, &names, show, print, difference),
+        Subcommand::Run {
+            print,
+            difference,
+            steps,
+        } => {
+            let before = job.clone();
+            let end = match steps {
+                None => ran(&mut job),
+                Some(visits) => ran_in_steps(&mut job, visits, draw),
+            };
+            told(&before, &job, end, &names, show, print, difference)
+        }
         Subcommand::Check => check(job, &names),
         Subcommand::Free => free(&job, &names),
         Subcommand::Print { entries, graph } => print(&job, show, entries, graph),
@@ -187,12 +199,39 @@ fn ran(job: &mut Job) -> Outcome {
     with_stack(|| job.run()).expect("a thread")
 }
 
-fn run(mut job: Job, names: &Names, show: Show<'_>, print: bool, difference: bool) -> Said {
-    let before = job.clone();
-    let end = ran(&mut job);
+/// Runs a job so many visits at a time, and draws a bar after each step that is not the last. Its width is 40.
+fn ran_in_steps(job: &mut Job, visits: u32, draw: &mut dyn FnMut(&str)) -> Outcome {
+    let units = job.units;
+    let mut drawn = false;
+    let end = job.run_in_steps(visits, |used| {
+        // Unfinished, so that the units are not 0.
+        let full = (u64::from(used) * 40 / u64::from(units.max(1))) as usize;
+        drawn = true;
+        draw(&format!(
+            "\r[{}{}] {used} of {units} units",
+            "#".repeat(full),
+            ".".repeat(40 - full)
+        ));
+    });
+    if drawn {
+        draw("\n");
+    }
+    end
+}
+
+/// What is said of a run that was made: the job before it and after it.
+fn told(
+    before: &Job,
+    job: &Job,
+    end: Outcome,
+    names: &Names,
+    show: Show<'_>,
+    print: bool,
+    difference: bool,
+) -> Said {
     let mut said = Said {
         output: job.answer(&end),
-        error: in_words(&job, names, end.answer),
+        error: in_words(job, names, end.answer),
         status: end.answer.number() as u8,
     };
     if !print && !difference {

@@ -11,12 +11,25 @@ pub(crate) struct Options {
 }
 
 pub(crate) enum Subcommand {
-    Run { print: bool, difference: bool },
+    Run {
+        print: bool,
+        difference: bool,
+        steps: Option<u32>,
+    },
     Check,
     Free,
-    Print { entries: bool, graph: Option<Graph> },
-    Explain { html: bool, all: bool },
-    Rules { onto: Option<String>, back: bool },
+    Print {
+        entries: bool,
+        graph: Option<Graph>,
+    },
+    Explain {
+        html: bool,
+        all: bool,
+    },
+    Rules {
+        onto: Option<String>,
+        back: bool,
+    },
 }
 
 #[derive(Clone, Copy)]
@@ -34,6 +47,7 @@ impl Options {
             "run" => Subcommand::Run {
                 print: false,
                 difference: false,
+                steps: None,
             },
             "check" => Subcommand::Check,
             "free" => Subcommand::Free,
@@ -65,6 +79,14 @@ impl Options {
             match (word, &mut options.subcommand) {
                 ("--print", Subcommand::Run { print, .. }) => *print = true,
                 ("--difference", Subcommand::Run { difference, .. }) => *difference = true,
+                ("--steps", Subcommand::Run { steps, .. }) => {
+                    *steps = Some(number(word, value()?)?);
+                    if *steps == Some(0) {
+                        return Err(
+                            "--steps is 1 or more: a step of no visits does nothing".to_owned()
+                        );
+                    }
+                }
                 ("--entries", Subcommand::Print { entries, .. }) => *entries = true,
                 ("--html", Subcommand::Explain { html, .. }) => *html = true,
                 ("--all", Subcommand::Explain { all, .. }) => *all = true,

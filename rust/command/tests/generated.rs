@@ -9,7 +9,7 @@ fn said(words: &[&str], file: &str) -> Said {
         .chain([&file])
         .map(|word| word.to_string())
         .collect();
-    command(&words)
+    command(&words, &mut |_| ())
 }
 
 #[test]

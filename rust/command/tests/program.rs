@@ -629,3 +629,54 @@ fn a_refused_rule_is_said_with_its_line_and_field() {
         assert_eq!(told(words, "").status, 64, "{words:?}");
     }
 }
+
+/// In steps of any size: the same answer, the same status, and a bar on standard error.
+#[test]
+fn a_job_is_run_in_steps() {
+    for file in std::fs::read_dir(root().join("examples")).unwrap() {
+        let path = file.unwrap().path();
+        if path.extension().map_or(true, |end| end != "job") {
+            continue;
+        }
+        let name = path.to_str().unwrap();
+        let whole = told(&["run", name], "");
+        for visits in ["1", "7", "1000", "4294967295"] {
+            let ran = told(&["run", name, "--steps", visits], "");
+            assert_eq!(
+                (&ran.output, ran.status),
+                (&whole.output, whole.status),
+                "{name}"
+            );
+            assert!(ran.error.ends_with(&whole.error), "{name}");
+        }
+    }
+    let loop_ = job(&["job 10 0 0 1", "e 7 0 1", "e 8 0 0", "n 1"]);
+    let ran = told(&["run", "-", "--steps", "4"], &loop_);
+    assert_eq!(ran.status, 6);
+    let bars: Vec<&str> = ran.error.lines().next().unwrap().split('\r').collect();
+    assert_eq!(
+        bars,
+        [
+            "",
+            "[################........................] 4 of 10 units",
+            "[################################........] 8 of 10 units",
+        ]
+    );
+    assert!(ran.error.contains("answer 6"));
+    // A run that ends in its first step draws nothing, and neither does a refusal.
+    assert_eq!(
+        told(&["run", "examples/swap.job", "--steps", "10"], "").error,
+        ""
+    );
+    let refused = job(&["job 10 0 0 1", "e 20 0", "n 1"]);
+    let ran = told(&["run", "-", "--steps", "1"], &refused);
+    assert_eq!(ran.status, 13);
+    assert!(ran.error.starts_with("marshtrundle: answer 13"));
+    for words in [
+        &["run", "-", "--steps", "0"][..],
+        &["run", "-", "--steps"],
+        &["check", "-", "--steps", "1"],
+    ] {
+        assert_eq!(told(words, &loop_).status, 64);
+    }
+}

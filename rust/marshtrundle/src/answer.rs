@@ -41,6 +41,12 @@ pub enum Answer {
     /// 12: a BUILD met this variable, and it is unbound. The strategy is wrong, and nothing in it caught that. Subject, mark and
     /// bindings are as given.
     Unbound(Var),
+    /// 25: a run in steps goes on, and is set aside before its next visit. Subject and mark are as given. [`words::start`](crate::words::start)
+    /// and [`words::step`](crate::words::step) alone give it; a [`Stepper`](crate::Stepper) stands for it.
+    Unfinished,
+    /// 27: a step on a work list of zeros, which holds no run. Nothing was written. [`words::step`](crate::words::step) alone gives it: a
+    /// [`Stepper`](crate::Stepper) has a run.
+    NoRun,
 }
 
 impl Answer {
@@ -65,6 +71,8 @@ impl Answer {
             15 => Answer::BadEntry(place, Fault::Operand),
             16 => Answer::BadEntry(place, Fault::Sort),
             17 => Answer::BadEntry(place, Fault::Word),
+            25 => Answer::Unfinished,
+            27 => Answer::NoRun,
             other => panic!("the archive answers {other}, which this crate does not know"),
         }
     }
@@ -92,6 +100,8 @@ impl Answer {
             Answer::OutOfRoom => 7,
             Answer::TooDeep => 8,
             Answer::Unbound(_) => 12,
+            Answer::Unfinished => 25,
+            Answer::NoRun => 27,
         }
     }
 
@@ -110,11 +120,13 @@ impl Answer {
             | Answer::BadStart
             | Answer::OutOfUnits
             | Answer::OutOfRoom
-            | Answer::TooDeep => 0,
+            | Answer::TooDeep
+            | Answer::Unfinished
+            | Answer::NoRun => 0,
         }
     }
 
-    /// True for answers 2, 4, 5, 10, 11 and 13 to 17: the input is malformed and nothing was run.
+    /// True for answers 2, 4, 5, 10, 11, 13 to 17 and 27: the input is malformed, or there is no run to step, and nothing was run.
     pub fn is_refusal(self) -> bool {
         matches!(
             self,
@@ -124,6 +136,7 @@ impl Answer {
                 | Answer::DisobeyingEntry(_)
                 | Answer::DisobeyingNode(_)
                 | Answer::BadStart
+                | Answer::NoRun
         )
     }
 
@@ -156,6 +169,8 @@ impl fmt::Display for Answer {
             Answer::OutOfRoom => f.write_str("the store has no room"),
             Answer::TooDeep => f.write_str("a visit is nested too deep"),
             Answer::Unbound(var) => write!(f, "variable {} is built and unbound", var.number()),
+            Answer::Unfinished => f.write_str("the run is set aside"),
+            Answer::NoRun => f.write_str("the work list holds no run"),
         }
     }
 }
@@ -266,14 +281,14 @@ mod tests {
 
     #[test]
     fn every_answer_has_its_own_number() {
-        for number in (0..=2).chain(4..=8).chain(10..=17) {
+        for number in (0..=2).chain(4..=8).chain(10..=17).chain([25, 27]) {
             assert_eq!(Answer::told(number, 0).number(), number);
         }
     }
 
     #[test]
     fn no_other_number_is_an_answer() {
-        for number in [3, 9, 18, 27, u32::MAX] {
+        for number in [3, 9, 18, 24, 26, 28, u32::MAX] {
             assert!(std::panic::catch_unwind(|| Answer::told(number, 0)).is_err());
         }
     }

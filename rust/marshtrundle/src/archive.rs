@@ -1,4 +1,4 @@
-//! The ten functions of the archive, as safe functions over slices of words. This is the only module with `unsafe` in it.
+//! The thirteen functions of the archive, as safe functions over slices of words. This is the only module with `unsafe` in it.
 //!
 //! The archive asks one thing of its caller: each pointer is aligned and valid for its words, and what is lent for writing
 //! overlaps nothing else. Rust's references give this, empty slices too. So every word and every number is allowed here.
@@ -64,6 +64,50 @@ extern "C" {
         results_words: usize,
         signature: *const u32,
         signature_words: usize,
+        numbers: *mut u32,
+    );
+    fn marshtrundle_start(
+        table: *const u32,
+        table_words: usize,
+        store: *const u32,
+        store_words: usize,
+        bindings: *const u32,
+        bindings_words: usize,
+        work: *mut u32,
+        work_words: usize,
+        mark: u32,
+        start: u32,
+        subject: u32,
+        units: u32,
+        numbers: *mut u32,
+    );
+    fn marshtrundle_start_signed(
+        table: *const u32,
+        table_words: usize,
+        store: *const u32,
+        store_words: usize,
+        bindings: *const u32,
+        bindings_words: usize,
+        work: *mut u32,
+        work_words: usize,
+        mark: u32,
+        start: u32,
+        subject: u32,
+        units: u32,
+        signature: *const u32,
+        signature_words: usize,
+        numbers: *mut u32,
+    );
+    fn marshtrundle_step(
+        table: *const u32,
+        table_words: usize,
+        store: *mut u32,
+        store_words: usize,
+        bindings: *mut u32,
+        bindings_words: usize,
+        work: *mut u32,
+        work_words: usize,
+        visits: u32,
         numbers: *mut u32,
     );
     fn marshtrundle_collect(
@@ -240,6 +284,108 @@ pub fn run_many_signed(
             results.len(),
             signature.as_ptr(),
             signature.len(),
+            numbers.as_mut_ptr(),
+        );
+    }
+    numbers
+}
+
+/// Starts a run that is made in steps: answer, place, subject, mark and units used. The work list has at least [`WORK_WORDS`](crate::WORK_WORDS)
+/// words, and holds the run until its end. The answer is 25, or a refusal, which writes nothing.
+#[allow(clippy::too_many_arguments)]
+pub fn start(
+    table: &[u32],
+    store: &[u32],
+    bindings: &[u32],
+    work: &mut [u32],
+    mark: u32,
+    start: u32,
+    subject: u32,
+    units: u32,
+) -> [u32; 5] {
+    let mut numbers = [0; 5];
+    // SAFETY: as in `run`. The work list and `numbers` are mutable references; the rest is only read.
+    unsafe {
+        marshtrundle_start(
+            table.as_ptr(),
+            table.len(),
+            store.as_ptr(),
+            store.len(),
+            bindings.as_ptr(),
+            bindings.len(),
+            work.as_mut_ptr(),
+            work.len(),
+            mark,
+            start,
+            subject,
+            units,
+            numbers.as_mut_ptr(),
+        );
+    }
+    numbers
+}
+
+/// Starts a run in steps with a signature. An empty signature declares nothing.
+#[allow(clippy::too_many_arguments)]
+pub fn start_signed(
+    table: &[u32],
+    store: &[u32],
+    bindings: &[u32],
+    work: &mut [u32],
+    mark: u32,
+    start: u32,
+    subject: u32,
+    units: u32,
+    signature: &[u32],
+) -> [u32; 5] {
+    let mut numbers = [0; 5];
+    // SAFETY: as in `start`. The signature is only read.
+    unsafe {
+        marshtrundle_start_signed(
+            table.as_ptr(),
+            table.len(),
+            store.as_ptr(),
+            store.len(),
+            bindings.as_ptr(),
+            bindings.len(),
+            work.as_mut_ptr(),
+            work.len(),
+            mark,
+            start,
+            subject,
+            units,
+            signature.as_ptr(),
+            signature.len(),
+            numbers.as_mut_ptr(),
+        );
+    }
+    numbers
+}
+
+/// Makes so many visits of the run that a work list holds, or fewer where it ends: answer, place, subject, mark and units used. Table, store,
+/// bindings and work list are those of the start, as the last call left them. The answer is 25 while the run goes on. At its end the five
+/// numbers, the store and the bindings are those of [`run`], and the work list is zero; a step on a zero work list answers 27.
+pub fn step(
+    table: &[u32],
+    store: &mut [u32],
+    bindings: &mut [u32],
+    work: &mut [u32],
+    visits: u32,
+) -> [u32; 5] {
+    let mut numbers = [0; 5];
+    // SAFETY: as in `run`. Store, bindings, work list and `numbers` are mutable references. The archive reads and writes nothing outside them,
+    // whatever they hold.
+    unsafe {
+        marshtrundle_step(
+            table.as_ptr(),
+            table.len(),
+            store.as_mut_ptr(),
+            store.len(),
+            bindings.as_mut_ptr(),
+            bindings.len(),
+            work.as_mut_ptr(),
+            work.len(),
+            visits,
             numbers.as_mut_ptr(),
         );
     }

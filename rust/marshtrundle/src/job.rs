@@ -17,6 +17,7 @@
 use crate::answer::Outcome;
 use crate::bindings::{Bindings, Var, VARIABLES};
 use crate::kind;
+use crate::steps::{Stepper, WorkList};
 use crate::store::{Node, Store};
 use crate::table::{Entry, Table};
 use crate::NODES;
@@ -97,6 +98,31 @@ impl Job {
             self.subject,
             self.units,
         )
+    }
+
+    /// Runs the job so many visits at a time, at least one. `between` is told the visits made so far before each step but the first. The
+    /// outcome, the store and the bindings are those of [`run`](Job::run).
+    pub fn run_in_steps(&mut self, visits: u32, between: impl FnMut(u32)) -> Outcome {
+        let mark = self.store.mark();
+        let mut work = WorkList::new();
+        let began = Stepper::start(
+            &self.table,
+            &mut self.store,
+            &mut self.bindings,
+            &mut work,
+            self.start,
+            self.subject,
+            self.units,
+        );
+        match began {
+            Ok(run) => run.finish(visits, between),
+            Err(answer) => Outcome {
+                answer,
+                subject: self.subject,
+                mark,
+                units: 0,
+            },
+        }
     }
 
     /// The text of the answer, once the job has run: the five numbers, and where something was run the nodes and the bindings.

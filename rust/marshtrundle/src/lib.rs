@@ -114,7 +114,8 @@
 //! - [`Signature`] declares the child count of each constructor. The builders refuse what does not obey it, and [`run_signed`]
 //!   and [`run_many_signed`] refuse a table or a store that does not.
 //! - [`Table::add_rules`] translates rules as text, and [`Table::rule_line`] writes a rule back; [`RuleError`] says the line and the field.
-//! - [`words`] has the library's ten functions over plain slices of words.
+//! - [`Stepper`] makes a run in steps, so that a window stays alive during a long pass; its work stands in a [`WorkList`].
+//! - [`words`] has the library's thirteen functions over plain slices of words.
 //!
 //! # What is promised
 //!
@@ -151,6 +152,7 @@ mod rule_text;
 mod rules;
 pub mod show;
 mod signature;
+mod steps;
 mod store;
 pub mod strategy;
 mod table;
@@ -163,6 +165,7 @@ pub use many::{run_many, run_many_signed, Outcomes};
 pub use miss::Miss;
 pub use rule_text::{RuleError, RULE_BYTES};
 pub use signature::Signature;
+pub use steps::{Step, Stepper, WorkList, WORK_WORDS};
 pub use store::{Node, Store, Term};
 pub use strategy::{Pattern, Strategy};
 pub use table::{Entry, Table, TableBuilder};
@@ -172,7 +175,7 @@ pub use table::{Entry, Table, TableBuilder};
 #[doc = include_str!("../README.md")]
 mod readme {}
 
-/// The library's ten functions over plain slices of words, for callers that keep their own tables and stores.
+/// The library's thirteen functions over plain slices of words, for callers that keep their own tables and stores.
 ///
 /// They take any words of any length, and give the numbers of document 01 back.
 ///
@@ -184,7 +187,7 @@ mod readme {}
 pub mod words {
     pub use crate::archive::{
         check_store, check_table, collect, free_variables, run, run_many, run_many_signed,
-        run_signed, translate_rules, write_rule,
+        run_signed, start, start_signed, step, translate_rules, write_rule,
     };
 }
 

@@ -1,5 +1,7 @@
 //! 4,096 levels of each recursive form, on a thread of exactly the stated stack.
-use marshtrundle::{free_variables, run_many, with_stack, words, Entry, STACK};
+use marshtrundle::{
+    free_variables, run_many, with_stack, words, Entry, Stepper, WorkList, STACK,
+};
 
 mod common;
 
@@ -52,6 +54,39 @@ fn the_other_functions_take_64_kibibytes_at_most() {
             [free, deep.table.check(), deep.store.check()]
         });
         assert_eq!(answers.unwrap().join().unwrap(), [Ok(()); 3]);
+    }
+}
+
+#[test]
+fn in_steps_every_form_takes_64_kibibytes_at_most() {
+    for deep in (0..)
+        .map_while(|k| common::fitting(k))
+        .chain((0..).map_while(common::too_deep))
+    {
+        let thread = std::thread::Builder::new().stack_size(64 << 10);
+        let name = deep.name;
+        let (answer, units) = (deep.answer, deep.units);
+        let mut deep = Box::new(deep);
+        let mut work = WorkList::new();
+        let ended = thread.spawn(move || {
+            let subject = deep.subject;
+            let (table, store, bindings) = (&deep.table, &mut deep.store, &mut deep.bindings);
+            let run = Stepper::start(
+                table,
+                store,
+                bindings,
+                &mut work,
+                Entry::FIRST,
+                subject,
+                4_000_000,
+            );
+            run.map(|run| run.finish(1_000, |_| ()))
+        });
+        let end = ended.unwrap().join().unwrap().unwrap();
+        assert_eq!(end.answer, answer, "{name}");
+        if let Some(units) = units {
+            assert_eq!(end.units, units, "{name}");
+        }
     }
 }
 

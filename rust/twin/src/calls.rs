@@ -8,7 +8,7 @@
 //! word.
 //!
 //! The slices: 0 table, 1 store, 2 bindings, 3 signature, 4 subjects, 5 results,
-//! 10 text and 11 buffer (a byte in each word).
+//! 6 work list, 9 steps, 10 text and 11 buffer (a byte in each word).
 //!
 //! The tags and their answers, where WORDS are ` INDEX=VALUE` for each word that
 //! is not zero, or one sum where there are more than 512 words:
@@ -19,14 +19,22 @@
 //! `m`, many subjects: `LABEL ANSWER PLACE`, the bindings' WORDS, ` :`, the
 //! store's WORDS, ` :`, the results' WORDS. SUBJECT is 0.
 //!
+//! `p`, a stepped run: a start call, then the step calls that the steps list,
+//! then steps of 4,294,967,295 visits until the run ends, then one step of one
+//! visit more. Where the start is refused, a step of one visit is made where the
+//! work list is all zero, and else none. `LABEL`, the start's five numbers, ` /`
+//! and five numbers for each step, ` :`, the bindings' WORDS, ` :`, the store's
+//! WORDS, ` :`, the work list's WORDS.
+//!
 //! `r`, the translator: `LABEL ANSWER LINE FIELD ENTRIES`, the table's WORDS. MARK
 //! is the number of entries in use; START, SUBJECT and UNITS are 0. `w`, the
 //! writer: `LABEL ANSWER PLACE LENGTH`, the buffer's WORDS. START is the entry.
 
-use crate::checks::WIDTH;
+use crate::checks::{UNFINISHED, WIDTH};
 use crate::engine::{run_lent, Lent};
 use crate::many::run_many;
 use crate::rules::{translate, write_rule};
+use crate::steps::{start_run, step_run};
 use crate::text::{field, label, show_slice, RunCase};
 use std::collections::BTreeMap;
 use std::fmt::Write;
@@ -46,6 +54,10 @@ pub const SIGNATURE: u32 = 3;
 pub const SUBJECTS: u32 = 4;
 /// The number of the results.
 pub const RESULTS: u32 = 5;
+/// The number of the work list.
+pub const WORK: u32 = 6;
+/// The number of the steps.
+pub const STEPS: u32 = 9;
 /// The number of the text.
 pub const TEXT: u32 = 10;
 /// The number of the buffer.
@@ -58,6 +70,8 @@ pub enum Call {
     Run,
     /// Many subjects.
     Many,
+    /// A stepped run.
+    Step,
     /// The translator of rules.
     Translate,
     /// The writer of a rule.
@@ -65,9 +79,10 @@ pub enum Call {
 }
 
 /// The calls and their tags.
-const TAGS: [(Call, &str); 4] = [
+const TAGS: [(Call, &str); 5] = [
     (Call::Run, "l"),
     (Call::Many, "m"),
+    (Call::Step, "p"),
     (Call::Translate, "r"),
     (Call::Write, "w"),
 ];
@@ -96,24 +111,26 @@ fn narrow(words: &[u64]) -> Result<Vec<u32>, String> {
         .collect()
 }
 
-/// The words that a slice begins with.
-fn base(slice: u32, length: usize, fill: u64, mark: u32) -> Vec<u64> {
-    let mut words = vec![fill; length];
-    if slice == STORE {
-        let below = (WIDTH * mark as usize).min(length);
-        words[..below].fill(0);
+/// The word that a slice begins with at an index.
+fn base(slice: u32, index: usize, fill: u64, mark: u32) -> u64 {
+    if slice == STORE && index < WIDTH * mark as usize {
+        0
+    } else {
+        fill
     }
-    words
 }
 
 /// A fill that leaves few patches: 0, or a word that much of the slice has.
 fn fill_of(slice: u32, words: &[u64], mark: u32) -> u64 {
     let patches = |fill: &u64| {
-        let before = base(slice, words.len(), *fill, mark);
-        before.iter().zip(words).filter(|(a, b)| a != b).count()
+        let differs = |&(index, &word): &(usize, &u64)| word != base(slice, index, *fill, mark);
+        words.iter().enumerate().filter(differs).count()
     };
     let middle = words.get(words.len() / 2).copied().unwrap_or(0);
     let last = words.last().copied().unwrap_or(0);
+    if patches(&last) == 0 {
+        return last;
+    }
     let fills = [0, middle, last];
     fills.into_iter().min_by_key(patches).unwrap_or(0)
 }
@@ -153,9 +170,8 @@ impl CallCase {
         for (&slice, words) in &slices {
             let fill = fill_of(slice, words, run.mark);
             write!(heads, " {} {} {}", slice, words.len(), fill).expect("a string takes all text");
-            let before = base(slice, words.len(), fill, run.mark);
-            for (index, (&word, &old)) in words.iter().zip(&before).enumerate() {
-                if word != old {
+            for (index, &word) in words.iter().enumerate() {
+                if word != base(slice, index, fill, run.mark) {
                     count += 1;
                     write!(patches, " {} {} {}", slice, index, word)
                         .expect("a string takes all text");
@@ -197,7 +213,8 @@ impl CallCase {
             if length > CASE_WORDS {
                 return Err("a slice is too long".to_string());
             }
-            slices.insert(slice, base(slice, length, fill, mark));
+            let words = (0..length).map(|index| base(slice, index, fill, mark));
+            slices.insert(slice, words.collect::<Vec<u64>>());
         }
         let patches: usize = field(&mut fields)?;
         for _ in 0..patches {
@@ -229,6 +246,7 @@ impl CallCase {
         match self.call {
             Call::Run => self.answer_run(),
             Call::Many => self.answer_many(),
+            Call::Step => self.answer_steps(),
             Call::Translate => self.answer_translate(),
             Call::Write => self.answer_write(),
         }
@@ -253,9 +271,9 @@ impl CallCase {
             &mut (),
         );
         let mut line = format!("{} {}", run.label, outcome);
-        show_slice(&mut line, &wide(&run.bindings));
+        show_slice(&mut line, &run.bindings);
         line.push_str(" :");
-        show_slice(&mut line, &wide(&run.store));
+        show_slice(&mut line, &run.store);
         line
     }
 
@@ -280,10 +298,56 @@ impl CallCase {
             lent,
         );
         let mut line = format!("{} {} {}", run.label, answer, place);
-        show_slice(&mut line, &wide(&run.bindings));
+        show_slice(&mut line, &run.bindings);
         for words in [&run.store, &results] {
             line.push_str(" :");
-            show_slice(&mut line, &wide(words));
+            show_slice(&mut line, words);
+        }
+        line
+    }
+
+    /// Answers a stepped run.
+    fn answer_steps(self) -> String {
+        let signature = self.words(SIGNATURE);
+        let mut work = self.words(WORK).unwrap_or_default();
+        let zeros = work.iter().all(|&word| word == 0);
+        let steps = self.words(STEPS).unwrap_or_default();
+        let mut run = self.run;
+        let first = start_run(
+            &run.table,
+            &mut run.store,
+            &mut run.bindings,
+            run.mark,
+            run.start,
+            run.subject,
+            run.units,
+            signature.as_deref(),
+            &mut work,
+        );
+        let mut line = format!("{} {}", run.label, first);
+        let mut step = |visits: u32| {
+            let end = step_run(
+                &run.table,
+                &mut run.store,
+                &mut run.bindings,
+                visits,
+                &mut work,
+            );
+            write!(line, " / {}", end).expect("a string takes all text");
+            end.answer
+        };
+        let mut answer = first.answer;
+        let mut rest = steps.into_iter();
+        while answer == UNFINISHED {
+            answer = step(rest.next().unwrap_or(u32::MAX));
+        }
+        // One step after the end, or on a work list of zeros.
+        if first.answer == UNFINISHED || zeros {
+            step(1);
+        }
+        for words in [&run.bindings, &run.store, &work] {
+            line.push_str(" :");
+            show_slice(&mut line, words);
         }
         line
     }
@@ -297,7 +361,7 @@ impl CallCase {
             "{} {} {} {} {}",
             run.label, end.answer, end.line, end.field, end.entries
         );
-        show_slice(&mut line, &wide(&run.table));
+        show_slice(&mut line, &run.table);
         line
     }
 

@@ -65,6 +65,10 @@ pub const BAD_OPERAND: u32 = 15;
 pub const BAD_SORT: u32 = 16;
 /// 02, wish 4: "a non-zero unused word".
 pub const BAD_WORD: u32 = 17;
+/// 02, wish 8: "an unfinished run answers 25".
+pub const UNFINISHED: u32 = 25;
+/// 02, wish 8: "a step on a zero one gives 27".
+pub const NO_RUN: u32 = 27;
 
 /// Whether an answer is that of a run that began: done, failed, cut off, or
 /// ended at an unbound variable. Every other answer is a refusal.

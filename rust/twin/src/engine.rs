@@ -7,7 +7,7 @@
 
 use crate::checks::{
     first_operand, kind, kind_of, mask_of, DONE, FAILED, NO_NESTING, NO_ROOM, NO_UNITS, UNBOUND,
-    VARIABLES, WIDTH,
+    UNFINISHED, VARIABLES, WIDTH,
 };
 use crate::refusals::{refusal, Input};
 
@@ -98,6 +98,8 @@ enum Stop {
     Units,
     Room,
     Nesting,
+    /// 02, wish 8: the step's visits are done.
+    Pause,
     /// 02, wish 3: BUILD met this variable, and it is unbound.
     Unbound(u32),
 }
@@ -123,6 +125,8 @@ struct Machine<'a, W> {
     /// 02, wish 10: the pattern entry at which the last match that failed gave
     /// up. Nothing takes it back: the last in time is meant, caught or not.
     miss: u32,
+    /// 02, wish 8: the visits after which the run is set aside.
+    pause: u64,
     watcher: &'a mut W,
 }
 
@@ -161,7 +165,13 @@ impl<'a, W: Watcher> Machine<'a, W> {
     /// 01: "Before each visit: if all units are used, answer 6; else if its
     /// nesting would exceed 4,096, answer 8. A visit that passes both is
     /// counted."
+    ///
+    /// 02, wish 8: a step goes "up to the next one's limit test", so it ends
+    /// before that test.
     fn visit(&mut self, nesting: u32) -> Result<(), End> {
+        if u64::from(self.used) == self.pause {
+            return Err(End::CutOff(Stop::Pause));
+        }
         if self.used == self.units {
             return Err(End::CutOff(Stop::Units));
         }
@@ -552,6 +562,7 @@ pub fn run_lent<W: Watcher>(
         subjects: &[subject],
         signature: lent.signature,
         results: None,
+        work: None,
     });
     if let Some((answer, place)) = refused {
         return Outcome {
@@ -577,6 +588,26 @@ pub(crate) fn run_accepted<W: Watcher>(
     units: u32,
     watcher: &mut W,
 ) -> Outcome {
+    let never = u64::MAX;
+    run_paused(
+        table, store, bindings, mark, start, subject, units, never, watcher,
+    )
+}
+
+/// Runs an input that nothing refuses up to the limit test of the visit after so
+/// many, or to its end.
+#[allow(clippy::too_many_arguments)]
+pub(crate) fn run_paused<W: Watcher>(
+    table: &[u32],
+    store: &mut [u32],
+    bindings: &mut [u32],
+    mark: u32,
+    start: u32,
+    subject: u32,
+    units: u32,
+    pause: u64,
+    watcher: &mut W,
+) -> Outcome {
     // 01: "Subject and mark come back as given in all answers but 0."
     let given = |answer, place, units| Outcome {
         answer,
@@ -595,6 +626,7 @@ pub(crate) fn run_accepted<W: Watcher>(
         used: 0,
         units,
         miss: NO_MISS,
+        pause,
         watcher,
     };
     // 01: "The start is at nesting 1".
@@ -619,6 +651,8 @@ pub(crate) fn run_accepted<W: Watcher>(
         Err(End::CutOff(Stop::Units)) => given(NO_UNITS, 0, used),
         Err(End::CutOff(Stop::Room)) => given(NO_ROOM, 0, used),
         Err(End::CutOff(Stop::Nesting)) => given(NO_NESTING, 0, used),
+        // 02, wish 8: "an unfinished run answers 25, its other numbers as for 6."
+        Err(End::CutOff(Stop::Pause)) => given(UNFINISHED, 0, used),
         // 02, wish 3: "leaving the same memory".
         Err(End::CutOff(Stop::Unbound(variable))) => given(UNBOUND, variable, used),
     };

@@ -6,8 +6,8 @@
 //!
 //! The files in reading order: `checks` (the table check, the store check, the
 //! signature), `refusals` (their order), `free` (free variables), `engine` (the
-//! run), `many` (many subjects), `collect` (the collection), `rules`
-//! (rules as text), `job` (the job program), then `text` and `calls` (cases as
+//! run), `many` (many subjects), `collect` (the collection), `steps` (the
+//! stepped run), `rules` (rules as text), `job` (the job program), then `text` and `calls` (cases as
 //! lines), `random`, `generate` and `statistics`.
 //!
 //! A run may go 4,096 visits deep, and each visit is a call. So runs belong on
@@ -28,6 +28,7 @@ pub mod random;
 pub mod refusals;
 pub mod rules;
 pub mod statistics;
+pub mod steps;
 pub mod text;
 
 pub use checks::{check_store, check_table};
@@ -37,6 +38,7 @@ pub use free::free_variables;
 pub use job::job;
 pub use many::run_many;
 pub use rules::{translate, write_rule, Translated, Written};
+pub use steps::{start_run, step_run};
 
 /// The stack, in bytes, that is ample for 4,096 nested visits in any build.
 pub const STACK_BYTES: usize = 256 << 20;

@@ -34,6 +34,7 @@ pub fn run_many(
         subjects,
         signature: lent.signature,
         results: Some(results.len()),
+        work: None,
     });
     if let Some(refusal) = refused {
         return refusal;

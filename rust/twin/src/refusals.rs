@@ -27,6 +27,8 @@ pub struct Input<'a> {
     pub signature: Option<&'a [u32]>,
     /// The length of the result list, for the call with many subjects.
     pub results: Option<usize>,
+    /// The length of the work list, for the start of a stepped run.
+    pub work: Option<usize>,
 }
 
 /// Whether a length, the mark or a count word of the signature is bad.
@@ -42,6 +44,15 @@ fn bad_sizes(input: &Input) -> bool {
             .results
             .map_or(false, |words| bad_results(input, words))
         || input.signature.map_or(false, bad_signature)
+        || input.work.map_or(false, bad_work)
+}
+
+/// Whether the work list of a stepped run is too short.
+///
+/// 02, wish 8: "a work list shorter than 48 words for each of 4,096 levels gives
+/// 2"; wish 9: it "takes 80 words a level".
+pub fn bad_work(words: usize) -> bool {
+    words < 80 * 4_096
 }
 
 /// Whether a result list has the wrong length.

@@ -1,7 +1,7 @@
 //! What the generated cases cover, counted.
 
 use crate::calls::{Call, CallCase, RESULTS, SIGNATURE, SUBJECTS};
-use crate::checks::{kind, ran, BAD_TEXT, DONE, FAILED, NO_ROOM, UNBOUND};
+use crate::checks::{kind, ran, BAD_TEXT, DONE, FAILED, NO_ROOM, UNBOUND, UNFINISHED};
 use crate::engine::{run_watched, Lent, Watcher};
 use crate::free::free_variables;
 use crate::generate::{free_case, job_text, run_case};
@@ -384,12 +384,15 @@ pub fn of_calls(make: fn(u64, u64) -> CallCase, seed: u64, count: u64) -> String
     let mut each = Answers::new();
     let mut writer = Answers::new();
     let mut added: BTreeMap<&str, u64> = BTreeMap::new();
+    let mut steps = Steps::default();
     for index in 0..count {
         let case = make(seed, index);
         count_subjects(&case, &mut subjects, &mut each);
         let (call, mark) = (case.call, case.run.mark);
         empty += u64::from(case.lent.values().any(|words| words.is_empty()));
-        let numbers = numbers_of(&case.answer());
+        let line = case.answer();
+        count_steps(call, &line, &mut steps);
+        let numbers = numbers_of(&line);
         if call == Call::Write {
             *writer.entry(numbers[0] as u32).or_default() += 1;
             continue;
@@ -414,6 +417,23 @@ pub fn of_calls(make: fn(u64, u64) -> CallCase, seed: u64, count: u64) -> String
             made, empty
         ),
     );
+    if !steps.last.is_empty() {
+        say(text, format_args!("stepped runs by their steps"));
+        for name in SPANS {
+            if let Some(number) = steps.sizes.get(name) {
+                say(text, format_args!("  {}: {}", name, number));
+            }
+        }
+        say(text, format_args!("their last answers"));
+        say_answers(text, &steps.last, steps.last.values().sum());
+        say(
+            text,
+            format_args!(
+                "steps of no visits {}; a step that ends after the last unit {}; a step on zeros {}",
+                steps.idle, steps.edge, steps.zeros
+            ),
+        );
+    }
     if !writer.is_empty() {
         say(text, format_args!("translations by the entries added"));
         for name in SPANS {
@@ -435,6 +455,46 @@ pub fn of_calls(make: fn(u64, u64) -> CallCase, seed: u64, count: u64) -> String
         say_answers(text, &each, each.values().sum());
     }
     report
+}
+
+/// What the answers of stepped runs show.
+#[derive(Default)]
+struct Steps {
+    sizes: BTreeMap<&'static str, u64>,
+    last: Answers,
+    idle: u64,
+    edge: u64,
+    zeros: u64,
+}
+
+/// Counts the steps of a stepped run from its answer's line.
+fn count_steps(call: Call, line: &str, steps: &mut Steps) {
+    if call != Call::Step {
+        return;
+    }
+    let fives: Vec<Vec<u64>> = line
+        .split(" :")
+        .next()
+        .unwrap_or("")
+        .split(" /")
+        .map(numbers_of)
+        .collect();
+    steps.zeros += u64::from(fives.last().map_or(false, |five| five[0] == 27));
+    if fives[0][0] != u64::from(UNFINISHED) {
+        return;
+    }
+    let ends = &fives[1..fives.len() - 1];
+    *steps.sizes.entry(span(ends.len() as u32)).or_default() += 1;
+    let last = &ends[ends.len() - 1];
+    *steps.last.entry(last[0] as u32).or_default() += 1;
+    for (before, after) in fives.iter().zip(ends) {
+        if after[0] == u64::from(UNFINISHED) {
+            steps.idle += u64::from(before[4] == after[4]);
+        }
+    }
+    // The run was set aside after its last visit, before 6 was found.
+    let before = &fives[fives.len() - 3];
+    steps.edge += u64::from(last[0] == 6 && before[4] == last[4]);
 }
 
 /// Counts the subjects of an accepted call with many, and their answers.

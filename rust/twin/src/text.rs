@@ -222,15 +222,14 @@ pub fn sum(words: &[u32]) -> u32 {
 
 /// Appends a slice's words as [`show_words`] does, or their sum where there are
 /// more than [`SHOWN_STORE_WORDS`]. The sum is taken modulo 2^64.
-pub(crate) fn show_slice(line: &mut String, words: &[u64]) {
+pub(crate) fn show_slice<N: Copy + Into<u64>>(line: &mut String, words: &[N]) {
+    let words = words.iter().map(|&word| word.into());
     if words.len() > SHOWN_STORE_WORDS {
-        let sum = words
-            .iter()
-            .fold(0u64, |h, &word| h.wrapping_mul(31).wrapping_add(word));
+        let sum = words.fold(0u64, |h, word| h.wrapping_mul(31).wrapping_add(word));
         write!(line, " {}", sum).expect("a string takes all text");
         return;
     }
-    for (index, &word) in words.iter().enumerate() {
+    for (index, word) in words.enumerate() {
         if word != 0 {
             write!(line, " {}={}", index, word).expect("a string takes all text");
         }

@@ -5,7 +5,7 @@
 //! compared; so are the two checks of its words. What is handed to a run and what
 //! it leaves is collected by the proved function and by the plain one, and the
 //! four numbers and every word of store, bindings and work list are compared. COUNT
-//! runs with a signature, COUNT calls with many subjects, some with a signature,
+//! runs with a signature, a tenth of COUNT runs in steps, COUNT calls with many subjects, some with a signature,
 //! refused ones too, and the questions go through the proved function and the
 //! plain one. So do COUNT texts of rules and rules to write: the numbers, every
 //! word of the table and every byte of the buffer are compared. It ends with 1 where two of them differ, and with 2 where the words
@@ -16,8 +16,8 @@
 use bench::engines::ENGINES;
 use bench::foreign;
 use std::process::ExitCode;
-use twin::calls::{Call, CallCase, BUFFER, RESULTS, SIGNATURE, SUBJECTS, TEXT};
-use twin::generate::{free_case, many_case, rules_case, run_case, signed_case};
+use twin::calls::{Call, CallCase, BUFFER, RESULTS, SIGNATURE, STEPS, SUBJECTS, TEXT, WORK};
+use twin::generate::{free_case, many_case, rules_case, run_case, signed_case, stepped_case};
 use twin::text::{FreeCase, RunCase};
 
 /// Whether the three engines agree on a case.
@@ -169,6 +169,90 @@ fn many_agrees(case: &CallCase) -> bool {
     numbers == [answer, place] && proved == plain
 }
 
+/// The numbers of an outcome.
+fn five(end: twin::Outcome) -> [u32; 5] {
+    [end.answer, end.place, end.subject, end.mark, end.units]
+}
+
+/// Whether the proved functions and the plain ones agree on a run in steps: the
+/// five numbers of the start and of each step, and every word of store, bindings
+/// and work list where the run has ended or is refused. After the last step
+/// comes one more, on a work list of zeros.
+fn steps_agree(case: &CallCase) -> bool {
+    let signature = case.words(SIGNATURE);
+    let work = case.words(WORK).expect("a work list is lent");
+    let run = &case.run;
+    let mut proved = (run.store.clone(), run.bindings.clone(), work.clone());
+    let mut plain = proved.clone();
+    let (mark, start, subject, units) = (run.mark, run.start, run.subject, run.units);
+    let first = match &signature {
+        Some(signature) => foreign::start_signed(
+            &run.table,
+            &proved.0,
+            &proved.1,
+            &mut proved.2,
+            mark,
+            start,
+            subject,
+            units,
+            signature,
+        ),
+        None => foreign::start(
+            &run.table,
+            &proved.0,
+            &proved.1,
+            &mut proved.2,
+            mark,
+            start,
+            subject,
+            units,
+        ),
+    };
+    let lent = signature.as_deref();
+    let (store, bindings, list) = (&mut plain.0, &mut plain.1, &mut plain.2);
+    let other = twin::start_run(
+        &run.table, store, bindings, mark, start, subject, units, lent, list,
+    );
+    let mut agree = first == five(other);
+    let mut steps = case
+        .words(STEPS)
+        .expect("steps are lent")
+        .into_iter()
+        .chain([u32::MAX; 2]);
+    let mut answer = first[0];
+    while agree && answer == UNFINISHED {
+        let visits = steps
+            .next()
+            .expect("two steps of the greatest number end a run");
+        answer = step_both(&run.table, &mut proved, &mut plain, visits, &mut agree);
+    }
+    if agree && work.len() >= foreign::WORK_WORDS && proved.2.iter().all(|&word| word == 0) {
+        agree = proved == plain;
+        step_both(&run.table, &mut proved, &mut plain, 1, &mut agree);
+    }
+    agree && proved == plain
+}
+
+/// The answer of a run that is set aside.
+const UNFINISHED: u32 = 25;
+
+/// Store, bindings and work list.
+type Memory = (Vec<u32>, Vec<u32>, Vec<u32>);
+
+/// A step of both; the proved answer.
+fn step_both(
+    table: &[u32],
+    proved: &mut Memory,
+    plain: &mut Memory,
+    visits: u32,
+    agree: &mut bool,
+) -> u32 {
+    let numbers = foreign::step(table, &mut proved.0, &mut proved.1, &mut proved.2, visits);
+    let end = twin::step_run(table, &mut plain.0, &mut plain.1, visits, &mut plain.2);
+    *agree &= numbers == five(end);
+    numbers[0]
+}
+
 /// Whether the proved function and the plain one agree on a text of rules: the
 /// four numbers and every word of the table.
 fn translation_agrees(case: &CallCase) -> bool {
@@ -230,6 +314,11 @@ fn compare(first: u64, last: u64, count: u64) -> u64 {
                 println!("call {} with many subjects of seed {} differs", index, seed);
                 differ += 1;
             }
+            // A work list is long, so that one case in ten is a run in steps.
+            if index % 10 == 0 && !steps_agree(&stepped_case(seed, index)) {
+                println!("run in steps {} of seed {} differs", index, seed);
+                differ += 1;
+            }
             if !rules_agree(&rules_case(seed, index)) {
                 println!("rules {} of seed {} differ", index, seed);
                 differ += 1;
@@ -255,10 +344,11 @@ fn main() -> ExitCode {
     let differ = twin::with_big_stack(move || compare(first, last, count));
     let each = (last - first + 1) * count;
     println!(
-        "{} runs, {} signed runs, {} calls with many subjects, {} collections, {} texts of rules or rules to write and {} questions compared, {} differ",
+        "{} runs, {} signed runs, {} calls with many subjects, {} runs in steps, {} collections, {} texts of rules or rules to write and {} questions compared, {} differ",
         each,
         each,
         each,
+        (last - first + 1) * count.div_ceil(10),
         2 * each,
         each,
         each,

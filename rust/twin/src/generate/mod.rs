@@ -4,8 +4,8 @@
 //! `terms` makes stores, `plans` makes tables that do something on them, `damage`
 //! makes them bad, `runs` puts limits around them and damages some, `frees` and
 //! `jobs` do the same for the other two questions, `signed` lends a
-//! signature, `subjects` makes calls with many subjects, `rules` makes rules as
-//! text and rules to write.
+//! signature, `subjects` makes calls with many subjects, `stepped` makes stepped
+//! runs, `rules` makes rules as text and rules to write.
 
 mod damage;
 mod frees;
@@ -14,6 +14,7 @@ mod plans;
 mod rules;
 mod runs;
 mod signed;
+mod stepped;
 mod subjects;
 mod terms;
 
@@ -24,6 +25,7 @@ pub fn call_cases(kind: &str) -> Option<fn(u64, u64) -> CallCase> {
     match kind {
         "signed" => Some(signed_case),
         "many" => Some(many_case),
+        "stepped" => Some(stepped_case),
         "rules" => Some(rules_case),
         _ => None,
     }
@@ -34,4 +36,5 @@ pub use jobs::job_text;
 pub use rules::rules_case;
 pub use runs::run_case;
 pub use signed::signed_case;
+pub use stepped::stepped_case;
 pub use subjects::many_case;

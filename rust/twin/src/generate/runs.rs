@@ -76,7 +76,7 @@ fn around(terms: &Terms, table: Vec<u32>, start: u32, subject: u32, room: u32) -
 }
 
 /// Runs a copy of the case with so many units; the outcome and greatest mark.
-fn probe(case: &RunCase, units: u32) -> (Outcome, u32) {
+pub(super) fn probe(case: &RunCase, units: u32) -> (Outcome, u32) {
     let mut store = case.store.clone();
     let mut bindings = case.bindings.clone();
     let mut peak = Peak { mark: case.mark };

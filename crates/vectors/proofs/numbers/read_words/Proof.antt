@@ -1,10 +1,10 @@
--- `vectors::requests::read_words` is safe and ends. Assumes nothing.
+-- `vectors::numbers::read_words` is safe and ends. Assumes nothing.
 use mathlib.Core.Path.{_≡_}
 use Prim.Native.Nat.{_-_, _≤_}
 use lib.ListN.{length}
 use borrow.Author.Needs.{needs}
-use Rattle.vectors.proofs.requests.read_words.Statement.{statement}
-use Rattle.vectors.proofs.requests.read_words.Tie as tie
+use Rattle.vectors.proofs.numbers.read_words.Statement.{statement}
+use Rattle.vectors.proofs.numbers.read_words.Tie as tie
 
 abbrev Inv-loop : tie.InvT-loop
 Inv-loop text start words₀ at₀ i₀ words at i = (i ≤ length words₀) × (length words ≡ length words₀)

@@ -1,0 +1,11 @@
+-- Laws that belong to no one function.
+pub mod Holding
+pub mod Rowing
+pub mod Copying
+pub mod Opening
+pub mod Restoring
+pub mod Stacked
+pub mod Padding
+pub mod Turning
+pub mod Going
+pub mod Fairness

@@ -1,0 +1,3 @@
+-- What the list of frames means, and what the machine's functions promise.
+pub mod Stack
+pub mod Machine

@@ -1,0 +1,108 @@
+// Rows of eight words, and the node that a visit makes.
+use crate::FULL;
+use crate::Machine;
+use crate::SUCCEEDED;
+use turns::turn::few;
+use words::put_row;
+ghost use mathlib.Core.Path.{_≡_};
+ghost use Prim.Native.Nat.{ℕ, _+_, _*_, _%_, _≤_, _<_};
+ghost use lib.ListN.{length, getD};
+ghost use Rattle.meaning.specs.Store.{row as nodeRow};
+ghost use Rattle.turns.specs.Ways.{kids};
+ghost use Rattle.machine.specs.Stack.{rowAt};
+ghost use Rattle.machine.specs.Machine.{childOr0, Node};
+
+// The eight words of row r; zeros outside the words.
+pub fn row_at(words: &[u32], r: u32) -> [u32; 8]
+    requires { ⌜ length (now words) % 8 ≡ 0 ⌝ }
+    ensures { λ a. ⌜ a ≡ rowAt (now (words .entry)) r ⌝ }
+{
+    let c = 8 * (r as usize);
+    if c < words.len() {
+        return [
+            words[c],
+            words[c + 1],
+            words[c + 2],
+            words[c + 3],
+            words[c + 4],
+            words[c + 5],
+            words[c + 6],
+            words[c + 7],
+        ];
+    }
+    [0; 8]
+}
+
+// The eight words of row r, which lies inside the words.
+pub fn row_inside(words: &[u32], r: u32) -> [u32; 8]
+    requires { ⌜ 8 * r + 8 ≤ length (now words) ⌝ }
+    ensures { λ a. ⌜ a ≡ rowAt (now (words .entry)) r ⌝ }
+{
+    let c = 8 * (r as usize);
+    [
+        words[c],
+        words[c + 1],
+        words[c + 2],
+        words[c + 3],
+        words[c + 4],
+        words[c + 5],
+        words[c + 6],
+        words[c + 7],
+    ]
+}
+
+// Child j of a row, which has n of them; 0 where there is none.
+fn child(row: [u32; 8], n: u32, j: u32) -> u32
+    requires { ⌜ j < 6 ⌝ }
+    ensures { λ r. ⌜ r ≡ childOr0 row n j ⌝ }
+{
+    if j < n { row[2 + (j as usize)] } else { 0 }
+}
+
+// The eight words of the node that a row says: zeros after its last child.
+fn padded(row: [u32; 8]) -> [u32; 8]
+    ensures { λ r. ⌜ r ≡ nodeRow (getD row 0 0) (kids row) ⌝ }
+{
+    let n = few(row[1]);
+    [
+        row[0],
+        n,
+        child(row, n, 0),
+        child(row, n, 1),
+        child(row, n, 2),
+        child(row, n, 3),
+        child(row, n, 4),
+        child(row, n, 5),
+    ]
+}
+
+// The node of a row at the mark; no room where the mark equals the store's nodes.
+pub fn put_node(store: &mut [u32], m: Machine, i: u32, row: [u32; 8]) -> Machine
+    requires { ⌜ (length (now store) % 8 ≡ 0) × (length (now store) ≤ 1048576) ⌝ }
+    ensures { λ r. ⌜ Node (now (store .entry)) i m row r (now (store .exit)) ⌝ }
+{
+    let k = m.mark;
+    if store.len() < 8 * (k as usize) + 8 {
+        return Machine {
+            x: 0,
+            mode: FULL,
+            y: 0,
+            level: i,
+            mark: m.mark,
+            place: m.place,
+            fuel: m.fuel,
+            mask: m.mask,
+        };
+    }
+    put_row(store, k, padded(row));
+    Machine {
+        x: 0,
+        mode: SUCCEEDED,
+        y: k,
+        level: i,
+        mark: k + 1,
+        place: m.place,
+        fuel: m.fuel,
+        mask: m.mask,
+    }
+}

@@ -1,0 +1,4 @@
+pub mod Rows
+pub mod Ways
+pub mod Resumed
+pub mod Begun

@@ -1,0 +1,3 @@
+-- What a turn and a frame mean.
+pub mod Ways
+pub mod Turns
