@@ -601,6 +601,36 @@ static void empty_slices(void)
     hold(is(numbers, MT_OUT_OF_UNITS, 0, 2, 3, 0), "no units");
 }
 
+static void indexed_runs(void)
+{
+    /* A BUILD of the pair 5(1, 2), which stands; a store of three nodes and its index behind it. */
+    static const uint32_t build[32] = {241, 0, 1, 0, 0, 0, 0, 0, 306, 5, 2, 3, 0, 0, 0, 0, 304, 1, 0, 0, 0, 0, 0, 0, 304, 2};
+    static const uint32_t signed_pair[6] = {7, 0, 0, 7, 7, 2};
+    static const uint32_t all[3] = {0, 1, 2};
+    uint32_t lent[31], free_bindings[64] = {0}, found[15];
+    size_t i;
+    for (i = 0; i < 31; i++)
+        lent[i] = i < 24 ? after[i] : 9;
+    mt_run_indexed(build, 32, lent, 31, 24, free_bindings, 64, 3, 0, 0, 10, numbers);
+    hold(is(numbers, MT_DONE, 0, 2, 3, 4), "indexed: the pair is found in a full store");
+    for (i = 24; i < 31 && lent[i] == 0; i++)
+        continue;
+    hold(i == 31 && same(lent, after, 24), "indexed: the index is zero and the store as it was");
+    mt_run(build, 32, lent, 24, free_bindings, 64, 3, 0, 0, 10, numbers);
+    hold(numbers[MT_ANSWER] == MT_OUT_OF_ROOM, "indexed: without an index there is no room");
+    mt_run_indexed_signed(build, 32, lent, 30, 24, free_bindings, 64, 3, 0, 0, 10, signed_pair, 6, numbers);
+    hold(is(numbers, MT_DONE, 0, 2, 3, 4), "indexed: with a signature");
+    mt_run_many_indexed(build, 32, lent, 30, 24, free_bindings, 64, 3, 0, all, 3, 10, found, 15, numbers);
+    hold(numbers[MT_ANSWER] == MT_DONE && is(found + 10, MT_DONE, 0, 2, 3, 4), "indexed: many subjects");
+    mt_run_many_indexed_signed(build, 32, lent, 30, 24, free_bindings, 64, 3, 0, all, 3, 10, found, 15, signed_pair, 5, numbers);
+    hold(numbers[MT_ANSWER] == MT_DISOBEYING_ENTRY && numbers[MT_PLACE] == 1, "indexed: many subjects and a short signature");
+    mt_run_indexed(build, 32, lent, 29, 24, free_bindings, 64, 3, 0, 0, 10, numbers);
+    hold(is(numbers, MT_BAD_SIZES, 0, 0, 3, 0), "indexed: an index one word short");
+    lent[8] = 1;
+    mt_run_indexed(build, 32, lent, 30, 24, free_bindings, 64, 3, 0, 9, 10, numbers);
+    hold(is(numbers, MT_TWIN_NODE, 1, 9, 3, 0), "indexed: a twin, before a bad start");
+}
+
 int main(void)
 {
     the_job();
@@ -609,6 +639,7 @@ int main(void)
     signed_runs();
     many_subjects();
     steps();
+    indexed_runs();
     collection();
     rules_as_text();
     empty_slices();

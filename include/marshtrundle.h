@@ -36,6 +36,12 @@
  * term, then runs each condition's REC on its starting term and matches the outcome, and then builds the right term, all in a scope
  * of the rule's variables. The right term and a starting term have only variables that were matched before.
  *
+ * THE INDEX of mt_run_indexed, mt_run_many_indexed and their forms with a signature. One slice, `lent`, holds the store's words and
+ * behind them the index's; `words` says how many are the store's. Where it says more than there are, all are. The index has at least
+ * two words for each node of the store, so that `lent` has at least words + words / 4. It may hold anything before. After a call that
+ * was not refused it is all zero; after one that was it is as lent. With an index a node that stands below the mark with the same
+ * eight words is not made again: two terms are equal exactly when their numbers are. So no two given nodes may have the same words.
+ *
  * THE WORK LIST of mt_collect. A word for each node of the store, or more. It may hold anything, and is zero afterwards.
  *
  * THE WORK LIST of mt_start_run, mt_start_run_signed and mt_step_run. MT_WORK_WORDS words, or more. It may hold anything before the start. From the start to
@@ -155,8 +161,8 @@ enum mt_kind {
 };
 
 /*
- * The answers. They are asked in the order 2, 13 to 17, 4, 10, 11, 5, then comes the run.
- * In answers 2, 4, 5, 10, 11, 13 to 20, 22, 23, 26 and 27 nothing is written but the numbers.
+ * The answers. They are asked in the order 2, 13 to 17, 4, 10, 11, 21, 5, then comes the run.
+ * In answers 2, 4, 5, 10, 11, 13 to 23, 26 and 27 nothing is written but the numbers.
  * In answers 0, 1, 6, 7, 8 and 12 the nodes below the given mark are unchanged, and every store word from the returned mark
  * to the end is zero. In answers 1, 6, 7, 8 and 12 the bindings are as given. No strategy catches 6, 7, 8 or 12.
  */
@@ -188,11 +194,13 @@ enum mt_answer {
     MT_BAD_OPERAND = 15,  /* an operand is outside the table, or not above its own entry; CALL's is outside the table */
     MT_BAD_SORT = 16,     /* an operand is no strategy, or no pattern, where one is needed; CALL's is no REC */
     MT_BAD_WORD = 17,     /* a word behind the operands is not zero */
-    /* 18 to 20, 22, 23 and 26 are given by the functions for rules as text alone. 18 to 23 come with the first bad line, and are asked
-       in this order within it. */
+    /* 18 to 20, 22, 23 and 26 are given by the functions for rules as text alone, 21 by those with an index. 18 to 20, 22 and 23 come
+       with the first bad line, and are asked in this order within it. */
     MT_BAD_RULE = 18,      /* the line is no rule's text; the field is its first bad one, one past the last where it is cut short */
     MT_RULE_UNBOUND = 19,  /* a variable of the right term or of a starting term is bound by nothing before it */
     MT_RULE_VARIABLE = 20, /* a variable is above 63 */
+    MT_TWIN_NODE = 21,     /* with an index alone: a node below the mark has the eight words of an earlier one; the place is the
+                              lowest such node */
     MT_RULE_CALL = 22,     /* a condition's number is no REC without free variables among the entries in use */
     MT_NO_ENTRIES = 23,    /* the rule's entries pass the lent length of the table, or 4,096 */
     /* 25 and 27 are given by the functions for runs in steps alone. */
@@ -206,7 +214,7 @@ enum mt_answer {
 /* Where each number stands in `numbers`. */
 enum mt_number {
     MT_ANSWER = 0,  /* one of enum mt_answer */
-    MT_PLACE = 1,   /* the pattern's entry in answer 1, the bad entry in 10 and 13 to 17, the bad node in 4 and 11, the variable in 12,
+    MT_PLACE = 1,   /* the pattern's entry in answer 1, the bad entry in 10 and 13 to 17, the bad node in 4, 11 and 21, the variable in 12,
                        and 0 otherwise */
     MT_SUBJECT = 2, /* a run, mt_collect: the new subject in answer 0, and the given one otherwise */
     MT_MARK = 3,    /* a run, mt_collect: the new mark in answer 0, and the given one otherwise */
@@ -244,6 +252,22 @@ void marshtrundle_start_signed(const uint32_t *table, size_t table_words, const 
                                size_t signature_words, uint32_t numbers[5]);
 void marshtrundle_step(const uint32_t *table, size_t table_words, uint32_t *store, size_t store_words, uint32_t *bindings,
                        size_t bindings_words, uint32_t *work, size_t work_words, uint32_t visits, uint32_t numbers[5]);
+void marshtrundle_run_indexed(const uint32_t *table, size_t table_words, uint32_t *lent, size_t lent_words, uint32_t words,
+                              uint32_t *bindings, size_t bindings_words, uint32_t mark, uint32_t start,
+                              uint32_t subject, uint32_t units, uint32_t numbers[5]);
+void marshtrundle_run_indexed_signed(const uint32_t *table, size_t table_words, uint32_t *lent, size_t lent_words,
+                                     uint32_t words, uint32_t *bindings, size_t bindings_words, uint32_t mark,
+                                     uint32_t start, uint32_t subject, uint32_t units, const uint32_t *signature,
+                                     size_t signature_words, uint32_t numbers[5]);
+void marshtrundle_run_many_indexed(const uint32_t *table, size_t table_words, uint32_t *lent, size_t lent_words,
+                                   uint32_t words, const uint32_t *bindings, size_t bindings_words, uint32_t mark,
+                                   uint32_t start, const uint32_t *subjects, size_t subjects_words, uint32_t units,
+                                   uint32_t *results, size_t results_words, uint32_t numbers[2]);
+void marshtrundle_run_many_indexed_signed(const uint32_t *table, size_t table_words, uint32_t *lent, size_t lent_words,
+                                          uint32_t words, const uint32_t *bindings, size_t bindings_words, uint32_t mark,
+                                          uint32_t start, const uint32_t *subjects, size_t subjects_words,
+                                          uint32_t units, uint32_t *results, size_t results_words,
+                                          const uint32_t *signature, size_t signature_words, uint32_t numbers[2]);
 void marshtrundle_collect(uint32_t *store, size_t store_words, uint32_t *bindings, size_t bindings_words,
                           uint32_t *work, size_t work_words, uint32_t mark, uint32_t subject, uint32_t numbers[4]);
 void marshtrundle_free_variables(const uint32_t *table, size_t table_words, uint32_t entry, uint64_t numbers[3]);
@@ -323,6 +347,65 @@ static inline void mt_run_many_signed(const uint32_t *table, size_t table_words,
                                  subjects ? subjects_words : 0, units, results ? results : &none[4],
                                  results ? results_words : 0, signature ? signature : &none[5],
                                  signature ? signature_words : 0, numbers);
+}
+
+/*
+ * Runs as mt_run does, with an index behind the store's words (see THE INDEX). Where mt_run answers 0 or 1 this does too, with equal
+ * terms, bindings and units, and its mark is never higher; so it is with 6, 8 and 12. Where mt_run answers 7 this may go further: a
+ * node that stands wants no room. After 11 and before 5 it asks for MT_TWIN_NODE.
+ */
+static inline void mt_run_indexed(const uint32_t *table, size_t table_words, uint32_t *lent, size_t lent_words,
+                                  uint32_t words, uint32_t *bindings, size_t bindings_words, uint32_t mark,
+                                  uint32_t start, uint32_t subject, uint32_t units, uint32_t numbers[5])
+{
+    uint32_t none[3] = {0, 0, 0};
+    marshtrundle_run_indexed(table ? table : &none[0], table ? table_words : 0, lent ? lent : &none[1],
+                             lent ? lent_words : 0, words, bindings ? bindings : &none[2],
+                             bindings ? bindings_words : 0, mark, start, subject, units, numbers);
+}
+
+/* The same with a signature, as mt_run_signed. */
+static inline void mt_run_indexed_signed(const uint32_t *table, size_t table_words, uint32_t *lent, size_t lent_words,
+                                         uint32_t words, uint32_t *bindings, size_t bindings_words, uint32_t mark,
+                                         uint32_t start, uint32_t subject, uint32_t units, const uint32_t *signature,
+                                         size_t signature_words, uint32_t numbers[5])
+{
+    uint32_t none[4] = {0, 0, 0, 0};
+    marshtrundle_run_indexed_signed(table ? table : &none[0], table ? table_words : 0, lent ? lent : &none[1],
+                                    lent ? lent_words : 0, words, bindings ? bindings : &none[2],
+                                    bindings ? bindings_words : 0, mark, start, subject, units,
+                                    signature ? signature : &none[3], signature ? signature_words : 0, numbers);
+}
+
+/* Runs as mt_run_many does, with an index, which is built once and cleared once. */
+static inline void mt_run_many_indexed(const uint32_t *table, size_t table_words, uint32_t *lent, size_t lent_words,
+                                       uint32_t words, const uint32_t *bindings, size_t bindings_words, uint32_t mark,
+                                       uint32_t start, const uint32_t *subjects, size_t subjects_words, uint32_t units,
+                                       uint32_t *results, size_t results_words, uint32_t numbers[2])
+{
+    uint32_t none[5] = {0, 0, 0, 0, 0};
+    marshtrundle_run_many_indexed(table ? table : &none[0], table ? table_words : 0, lent ? lent : &none[1],
+                                  lent ? lent_words : 0, words, bindings ? bindings : &none[2],
+                                  bindings ? bindings_words : 0, mark, start, subjects ? subjects : &none[3],
+                                  subjects ? subjects_words : 0, units, results ? results : &none[4],
+                                  results ? results_words : 0, numbers);
+}
+
+/* The same with a signature. */
+static inline void mt_run_many_indexed_signed(const uint32_t *table, size_t table_words, uint32_t *lent,
+                                              size_t lent_words, uint32_t words, const uint32_t *bindings,
+                                              size_t bindings_words, uint32_t mark, uint32_t start,
+                                              const uint32_t *subjects, size_t subjects_words, uint32_t units,
+                                              uint32_t *results, size_t results_words, const uint32_t *signature,
+                                              size_t signature_words, uint32_t numbers[2])
+{
+    uint32_t none[6] = {0, 0, 0, 0, 0, 0};
+    marshtrundle_run_many_indexed_signed(table ? table : &none[0], table ? table_words : 0, lent ? lent : &none[1],
+                                         lent ? lent_words : 0, words, bindings ? bindings : &none[2],
+                                         bindings ? bindings_words : 0, mark, start, subjects ? subjects : &none[3],
+                                         subjects ? subjects_words : 0, units, results ? results : &none[4],
+                                         results ? results_words : 0, signature ? signature : &none[5],
+                                         signature ? signature_words : 0, numbers);
 }
 
 /*

@@ -397,6 +397,7 @@ static inline const char *mt_answer_text(uint32_t answer)
     case MT_TOO_DEEP: return "a visit is nested too deep";
     case MT_DISOBEYING_ENTRY: return "an entry's constructor is not declared with its number of operands";
     case MT_DISOBEYING_NODE: return "a node's constructor is not declared with its number of children";
+    case MT_TWIN_NODE: return "a node has the words of an earlier one";
     case MT_UNBOUND: return "a variable is built that has no binding";
     case MT_BAD_KIND: return "an entry is bad: unknown kind or wrong number of operands";
     case MT_BAD_ARGUMENT: return "an entry is bad: argument out of range";

@@ -36,6 +36,7 @@ LIST = {
     18: ("MT_BAD_RULE", "Text", "BAD_RULE", "told"),
     19: ("MT_RULE_UNBOUND", "NothingBinds", "NOT_BOUND", "variablesAnswer"),
     20: ("MT_RULE_VARIABLE", "NoSuchVariable", "BAD_VARIABLE", "variablesAnswer"),
+    21: ("MT_TWIN_NODE", "TwinNode", "REPEATED_NODE", "found"),  # with an index alone
     22: ("MT_RULE_CALL", "NoSuchStrategy", "BAD_REC", "ruleAnswer"),
     23: ("MT_NO_ENTRIES", "TooManyEntries", "FULL_TABLE", "told"),
     26: ("MT_SHORT_BUFFER", "ShortBuffer", "SHORT_BUFFER", "wrote"),
@@ -63,7 +64,7 @@ def specs():
     found = {("number " + name, int(n)) for name, n in pairs(answer, r"(?m)^number \(?(\w+)(?: \w+\))? = (\d+)$")}
     found |= {("returned", int(n)) for n in re.findall(r"\banswer = (\d+);", answer)}
     found |= pairs(answer, r"\b(asGiven) i (\d+) ")
-    for path in ("crates/checks/specs/Checked.antt", "crates/checks/specs/Signature.antt", "crates/calls/specs/Refused.antt"):
+    for path in ("crates/checks/specs/Checked.antt", "crates/checks/specs/Signature.antt", "crates/calls/specs/Refused.antt", "crates/calls/specs/Indexed.antt"):
         found |= pairs((ROOT / path).read_text(), r"\b(checked|found) (\d+) ")
     found |= pairs((ROOT / "crates/checks/specs/Plain.antt").read_text(), r"\b(of-\w+) : .*Faulty(?:By)? (\d+)")
     found |= pairs((ROOT / "crates/whole_job/specs/Whole.antt").read_text(), r"\b(answered) (\d+) ")

@@ -1,6 +1,6 @@
 """cases DIR TWIN: writes DIR/stdin, the cases that the program vectors executes, and DIR/stdout, what it must write.
 
-The cases of checks.py, free.py, runs.py, signed.py, many.py, collects.py and jobs.py come with the answers of model.py, those of rules.py with
+The cases of checks.py, free.py, runs.py, signed.py, many.py, indexed.py, collects.py and jobs.py come with the answers of model.py, those of rules.py with
 the answers of the model in it. After those of a call
 stands a sample of what the program TWIN of rust/twin generates, with its own answers; last the jobs of examples/, with the answers stored there.
 A further call has a module here with a function write, and a line in CALLS.
@@ -15,6 +15,7 @@ sys.dont_write_bytecode = True
 import checks
 import collects
 import free
+import indexed
 import jobs
 import lend
 import many
@@ -24,6 +25,8 @@ import signed
 import steps
 
 SEED = "20261115"
+# The longest store that vectors lends.
+STORE_WORDS = 1048584
 EXAMPLES = pathlib.Path(__file__).resolve().parent.parent.parent / "examples"
 
 
@@ -127,6 +130,41 @@ def many_sample(twin):
             lend.add("n" if 3 in slices else "m", body, line + b" :" + store_shown(store, lengths[1]) + b"\n")
 
 
+def sum_of(text, words):
+    """The sum of a slice of so many words that an answer shows."""
+    if words > 512:
+        return int(text) % 2**32
+    shown = dict(map(int, pair.split(b"=")) for pair in text.split())
+    return lend.summed([shown.get(i, 0) for i in range(words)])
+
+
+def indexed_sample(twin):
+    """Slice 7 is the index, which stands behind the store here. An answer is that of a run, ` :` and the index. Runs alone, without a
+    signature.
+    """
+    for case, answer in sample(twin, "indexed", 300):
+        (mark, start, subject, units), slices, triples, label = call_of(case)
+        if case[:1] != b"l" or 3 in slices:
+            continue
+        own, size, each = slices[1][0], *slices[7]
+        lengths, fills, patches = lent_by(mark, slices, [t for t in triples if t[0] < 3])
+        above = 2**32 - 1 if fills[0] & 1 else 0
+        index = [each] * size
+        for k, w, v in triples:
+            if k == 7:
+                index[w] = v
+        patches += [(1, own + i, v) for i, v in enumerate(index) if v != (above if own + i >= 8 * mark else 0)]
+        body = [lengths[0], own + size, lengths[2], mark, start, subject, units, fills[0], 0, own, 0, len(patches), *[x for p in patches for x in p]]
+        text = (" ".join(map(str, body)) + " " + label).encode()
+        head, store, after = answer.split(b" :")
+        if own + size > 512:
+            words = b" %d" % ((sum_of(store, own) * 31**size + sum_of(after, size)) % 2**32)
+        else:
+            words = store + b"".join(b" %d=%s" % (own + int(i), v) for i, v in (pair.split(b"=") for pair in after.split()))
+        if len(text) <= 131072 and own + size <= STORE_WORDS:
+            lend.add("i", text, head + b" :" + words + b"\n")
+
+
 def stepped_sample(twin):
     """Slices 6 and 9 are the work list, of which each word is the same before the call, and the steps. An answer is the label, the numbers of
     each call, ` :`, the bindings, ` :`, the store, ` :`, the work list.
@@ -177,7 +215,7 @@ def job_sample(twin):
 
 
 CALLS = ((checks.write, None), (free.write, free_sample), (runs.write, run_sample), (signed.write, signed_sample), (many.write, many_sample),
-         (steps.write, stepped_sample), (collects.write, None), (rules.write, rules_sample), (jobs.write, job_sample))
+         (indexed.write, indexed_sample), (steps.write, stepped_sample), (collects.write, None), (rules.write, rules_sample), (jobs.write, job_sample))
 
 
 def write(folder, twin):

@@ -156,7 +156,18 @@ def work_fits(words):
     return words >= 80 * 4096
 
 
-def refusal(t, s, b, mark, start, subjects, signature=None, results=None, work=None):
+def repeated(s, mark):
+    """21 with the lowest node below the mark that has the words of an earlier one."""
+    seen = set()
+    for k in range(mark):
+        row = tuple(s[8 * k:8 * k + 8])
+        if row in seen:
+            return 21, k
+        seen.add(row)
+    return 0, 0
+
+
+def refusal(t, s, b, mark, start, subjects, signature=None, results=None, work=None, index=None):
     """The answer and the place; 0 where nothing is refused. No signature is None, and not an empty one. A list of results is lent
     where there are many subjects, and a work list, of which the length is given, where a run is stepped.
     """
@@ -166,11 +177,15 @@ def refusal(t, s, b, mark, start, subjects, signature=None, results=None, work=N
         return 2, 0
     if work is not None and not work_fits(work):
         return 2, 0
+    if index is not None and len(index) < 2 * (len(s) // 8):
+        return 2, 0
     bad = bad_entry(t)
     if bad == (0, 0):
         bad = bad_node(s, mark)
     if bad == (0, 0) and signature is not None:
         bad = disobeying(t, s, mark, signature)
+    if bad == (0, 0) and index is not None:
+        bad = repeated(s, mark)
     if bad == (0, 0) and (not is_start(t, start) or any(k >= mark for k in subjects) or any(w > mark for w in b)):
         bad = 5, 0
     return bad
@@ -181,7 +196,9 @@ class Cut(Exception):
 
 
 class Run:
-    def __init__(self, t, s, mark, units, aside=None):
+    def __init__(self, t, s, mark, units, aside=None, shared=False):
+        # Whether a node that stands with the same words is not made again.
+        self.shared = shared
         self.entries = [t[i:i + 8] for i in range(0, len(t), 8)]
         self.nodes = [(s[i], tuple(s[i + 2:i + 2 + s[i + 1]])) for i in range(0, 8 * mark, 8)]
         self.room, self.units, self.used = len(s) // 8, units, 0
@@ -200,6 +217,8 @@ class Run:
         self.used += 1
 
     def make(self, con, kids):
+        if self.shared and (con, tuple(kids)) in self.nodes:
+            return self.nodes.index((con, tuple(kids)))
         if len(self.nodes) == self.room:
             raise Cut(7, 0)
         self.nodes.append((con, tuple(kids)))
@@ -331,12 +350,14 @@ class Run:
         return self.make(word[1], [self.build(q, b, n + 1) for q in word[2:2 + word[0] % 16]])
 
 
-def run(t, s, b, mark, start, subject, units, signature=None, aside=None):
-    """The five numbers, the store and the bindings at return. Where a run is set aside after so many visits, the memory means nothing."""
-    bad = refusal(t, s, b, mark, start, [subject], signature)
+def run(t, s, b, mark, start, subject, units, signature=None, aside=None, index=None):
+    """The five numbers, the store and the bindings at return. index: the words of one, where it is lent. Where a run is set aside after so
+    many visits, the memory means nothing.
+    """
+    bad = refusal(t, s, b, mark, start, [subject], signature, index=index)
     if bad[0]:
         return [*bad, subject, mark, 0], s, b
-    r = Run(t, s, mark, units, aside)
+    r = Run(t, s, mark, units, aside, index is not None)
     clean = s[:8 * mark] + [0] * (len(s) - 8 * mark)
     try:
         got = r.strategy(start, subject, {v: w - 1 for v, w in enumerate(b) if w}, 1)
@@ -350,17 +371,17 @@ def run(t, s, b, mark, start, subject, units, signature=None, aside=None):
     return [0, 0, got[0], len(r.nodes), r.used], clean, [got[1].get(v, -1) + 1 for v in range(VARIABLES)]
 
 
-def run_many(t, s, b, mark, start, subjects, units, results, signature=None):
+def run_many(t, s, b, mark, start, subjects, units, results, signature=None, index=None):
     """Answer and place, and the words of results and store at return: those of single calls in turn, each with the bindings given
     and the mark left by the one before. Where there are no subjects, or the call is refused, nothing is written.
     """
-    bad = refusal(t, s, b, mark, start, subjects, signature, results)
+    bad = refusal(t, s, b, mark, start, subjects, signature, results, index=index)
     if bad[0]:
         return bad, results, s
     numbers = []
     for subject in subjects:
-        assert refusal(t, s, b, mark, start, [subject], signature) == (0, 0)
-        five, s, _ = run(t, s, b, mark, start, subject, units, signature)
+        assert refusal(t, s, b, mark, start, [subject], signature, index=index) == (0, 0)
+        five, s, _ = run(t, s, b, mark, start, subject, units, signature, index=index)
         numbers += five
         mark = five[3]
     return (0, 0), numbers, s

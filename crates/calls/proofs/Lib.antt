@@ -7,3 +7,4 @@ pub mod Turns
 pub mod Subjects
 pub mod Small
 pub mod Uses
+pub mod IndexedTurns

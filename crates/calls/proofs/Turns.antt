@@ -46,7 +46,7 @@ module _ (W : ℕ) where
   abbrev pub words : Outcome → List ℕ
   words r = r .answer ∷ r .place ∷ r .subject ∷ r .mark ∷ r .units ∷ []
 
-  kept-back : {w w′ : List ℕ} {m : ℕ} → Kept w m w′ → Kept w′ m w
+  pub kept-back : {w w′ : List ℕ} {m : ℕ} → Kept w m w′ → Kept w′ m w
   kept-back k = record { long = sym (k .long); same = sym (k .same) }
 
   -- a store that passes the check, and one with the same nodes below the mark
@@ -62,7 +62,7 @@ module _ (W : ℕ) where
   kept-good {w} {w′} {m} l k h j i = good-of-node w′ j (kept-filled k (record { fits = l; node = λ x y. node-of-good w x (h x y) }) .node j i)
 
   -- a store of the length of one that fits, with a mark inside and good nodes below it
-  store-again : (s w : List ℕ) (m n : ℕ) → storeChecked s m ≡ checked 0 0 → length w ≡ length s → n ≤ rows w → AllGood (goodNode w) n → storeChecked w n ≡ checked 0 0
+  pub store-again : (s w : List ℕ) (m n : ℕ) → storeChecked s m ≡ checked 0 0 → length w ≡ length s → n ≤ rows w → AllGood (goodNode w) n → storeChecked w n ≡ checked 0 0
   store-again s w m n e l f h =
       let p = store-passes s m e in
       store-passed w n (record { whole = ap (λ (k : ℕ). k % 8) l ∙ p .0 .0 .whole; most = omega (arith, l, p .0 .0 .most) }, f) h
@@ -73,7 +73,7 @@ module _ (W : ℕ) where
       store-again s w m m e (k .long) (omega (arith, k .long, p .0 .1)) (kept-good (p .0 .1) k (p .1))
 
   -- words cleared from the mark on are those below it
-  cleared-same : {w w′ : List ℕ} {m : ℕ} → Kept w m w′ → clearedFrom w′ (8 * m) ≡ clearedFrom w (8 * m)
+  pub cleared-same : {w w′ : List ℕ} {m : ℕ} → Kept w m w′ → clearedFrom w′ (8 * m) ≡ clearedFrom w (8 * m)
   unfolding clearedFrom
   cleared-same {w} {w′} {m} k = λ z. k .same z ++ replicate (k .long z - 8 * m) 0
 
@@ -96,21 +96,21 @@ module _ (W : ℕ) where
     pub obeyed : NodesObey W g (single c w m 0)
 
   -- a run's numbers are those of what comes back
-  ran-numbers : (i : Input) (r : Ran ℕ) → words (numbers (i .subject) (i .mark) (i .units) r) ≡ five (returnedBy W i r)
+  pub ran-numbers : (i : Input) (r : Ran ℕ) → words (numbers (i .subject) (i .mark) (i .units) r) ≡ five (returnedBy W i r)
   unfolding numbers returnedBy
   ran-numbers i (ended k b s u) = refl
   ran-numbers i (lost l u) = refl
   ran-numbers i (cut c l u) = refl
 
   -- a run leaves the store as long as it was
-  ran-long : (w : List ℕ) (m : ℕ) (r : Ran ℕ) → Leaves w m r → length (wordsOf r) ≡ length w
+  pub ran-long : (w : List ℕ) (m : ℕ) (r : Ran ℕ) → Leaves w m r → length (wordsOf r) ≡ length w
   unfolding wordsOf
   ran-long w m (ended k b s u) v = v .1 .long
   ran-long w m (lost l u) v = v .long
   ran-long w m (cut c l u) v = v .long
 
   -- runs that are the same below the mark have the same numbers
-  same-numbers : (k m u : ℕ) {r r′ : Ran ℕ} → SameBelow r r′ → numbers k m u r ≡ numbers k m u r′
+  pub same-numbers : (k m u : ℕ) {r r′ : Ran ℕ} → SameBelow r r′ → numbers k m u r ≡ numbers k m u r′
   unfolding numbers
   same-numbers k m u (same-ended p) = refl
   same-numbers k m u same-lost = refl
@@ -134,11 +134,11 @@ module _ (W : ℕ) where
       bound = λ v. omega (arith, γ .bound v, s .more);
     }
 
-    entries-still : (g : Option (List ℕ)) (w : List ℕ) (m k : ℕ) → EntriesObey W g (single c (c .store) (c .mark) 0) → EntriesObey W g (single c w m k)
+    pub entries-still : (g : Option (List ℕ)) (w : List ℕ) (m k : ℕ) → EntriesObey W g (single c (c .store) (c .mark) 0) → EntriesObey W g (single c w m k)
     entries-still none w m k o = tt
     entries-still (some g) w m k o = o
 
-    nodes-still : (g : Option (List ℕ)) (w : List ℕ) (m k : ℕ) → NodesObey W g (single c w m 0) → NodesObey W g (single c w m k)
+    pub nodes-still : (g : Option (List ℕ)) (w : List ℕ) (m k : ℕ) → NodesObey W g (single c w m 0) → NodesObey W g (single c w m k)
     nodes-still none w m k o = tt
     nodes-still (some g) w m k o = o
 
@@ -148,7 +148,7 @@ module _ (W : ℕ) where
         rw (not-refused-with W g (single c w m k) .1 ((γ .signature, (entries-still g w m k (γ .entries), nodes-still g w m k (s .obeyed))), accepted-single s k l))
 
     -- the same nodes below the mark stand likewise
-    stands-kept : {w w′ : List ℕ} {m : ℕ} → Kept w m w′ → Stands g c w m → Stands g c w′ m
+    pub stands-kept : {w w′ : List ℕ} {m : ℕ} → Kept w m w′ → Stands g c w m → Stands g c w′ m
     stands-kept {w} {w′} {m} k s = record { more = s .more; store = store-kept w w′ m (s .store) k; obeyed = nodes-kept g c k (s .obeyed) }
 
     -- what a turn leaves: w are the words that the engine had, s those of the single call

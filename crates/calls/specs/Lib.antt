@@ -1,8 +1,9 @@
 -- What the calls that run refuse and return, for every input, and what is promised of it in the reader's words: `runOf` is the contract
--- of `run`, `runWith` of `run_signed`, `manyOf` of `run_many`.
+-- of `run`, `runWith` of `run_signed`, `manyOf` of `run_many`, `indexedOf` and `indexedManyOf` of those with an index.
 pub mod Refused
 pub mod Run
 pub mod Many
+pub mod Indexed
 pub mod Promises
 pub mod Signed
 pub mod Subjects

@@ -11,7 +11,7 @@ use Rattle.meaning.specs.Table.{operands}
 use Rattle.meaning.specs.Rules.{agree, when}
 use Rattle.meaning.specs.Store.{children}
 use Rattle.leaves.specs.Answers.{nodeIn, unitsIn, failedWord}
-use Rattle.leaves.specs.Record.{markOf, missOf, standing, held}
+use Rattle.leaves.specs.Record.{markOf, notesOf, standing, held}
 use borrow.Author.Tests.{not-true, not-false}
 use Rattle.leaves.proofs.Patterns.{agreed-count}
 use Rattle.leaves.specs.Visits.{plan, ruled, countOf, agreeing, Entries, Gives}

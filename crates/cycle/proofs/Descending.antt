@@ -23,14 +23,15 @@ use Rattle.leaves.specs.declared.answers.Attempt.the-variants.{Ended, Cut as Of
 use Rattle.leaves.specs.Answers.{packed, nodeIn, unitsIn, failedWord, answerOf, attemptOf}
 use Rattle.meaning.specs.Limits.{at}
 use Rattle.leaves.specs.Noted.{Standing}
-use Rattle.leaves.specs.Record.{recordLong, markOf, missOf, standing, held, back, Framed}
-use Rattle.leaves.specs.Visits.{visit, plan, ruled, out, countOf, rowAt, noded, Entries, Steady, Roomy, Gives}
+use Rattle.leaves.specs.Record.{recordLong, markOf, notesOf, standing, held, back, Framed}
+use Rattle.leaves.specs.Visits.{visit, plan, ruled, out, countOf, rowAt, noded, Entries, Steady, Gives}
 use Rattle.cycle.specs.Cycle.{Ready}
 use Rattle.leaves.proofs.AnswerWords.{node-packed, units-packed, gave-failed, failed-few, attempt-done, attempt-failed, attempt-cut}
 use Rattle.leaves.proofs.Asking.{Tagged, goes-on, caught, cut-off, not-done}
-use Rattle.leaves.proofs.Keeping.{apply-leaves, steady-kept, steady-after, roomy, leaves-done, leaves-failed}
+use Rattle.leaves.proofs.Keeping.{LeavesFitting, apply-leaves, steady-kept, leaves-done, leaves-failed}
+use Rattle.index.specs.Run.{Fits}
 use Rattle.leaves.proofs.Patterns.{operand-below}
-use Rattle.leaves.proofs.Holding.{further, held-back, mark-back, miss-back, framed-back, length-back, framed-refl, framed-trans}
+use Rattle.leaves.proofs.Holding.{further, held-back, mark-back, notes-back, framed-back, length-back, framed-refl, framed-trans}
 use Rattle.leaves.proofs.Children.{six-at, part-length, part-next, part-end}
 use Rattle.leaves.proofs.Walking.{failing}
 use Rattle.cycle.proofs.Ruling.{ruled-path, ruled-one}
@@ -69,18 +70,18 @@ module _ (w : List ℕ) (k j : ℕ) (l : j < countOf w k) where
   set-next x = rw (add-one j) (sym (set-split (children w k) j x among))
 
 -- entry x was visited on node y with the bindings b, and the word of its answer tells a
-module _ {w : List ℕ} {m : ℕ} {b : Bindings ℕ} (steady : Steady w m b) {t : List ℕ} (entries : Entries t) (n x y u : ℕ) (below : y < m) (z : ℕ)
-    (got : ℕ) (st′ w′ : List ℕ) (is : out got st′ w′ ≡ visit t n (apply x y b) w (at m z) u) {a : Answer} (read : a ≡ answerOf got) where
-  leaves : Leaves w m (visit t n (apply x y b) w (at m z) u)
-  leaves = apply-leaves steady t entries n x y z u below
+module _ {w : List ℕ} {m : Standing} {b : Bindings ℕ} (steady : Steady w m b) {t : List ℕ} (entries : Entries t) (n x y u : ℕ) (below : y < m .mark)
+    (got : ℕ) (st′ w′ : List ℕ) (is : out got st′ w′ ≡ visit t n (apply x y b) w m u) {a : Answer} (read : a ≡ answerOf got) where
+  leaves : LeavesFitting w m (visit t n (apply x y b) w m u)
+  leaves = apply-leaves steady t entries n x y u below
 
-  kept-done : {z v : ℕ} → a ≡ Done z v → Kept w m w′
-  kept-done {z} {v} q = leaves-done w m _ leaves got st′ w′ is a read z v q .1
+  kept-done : {z v : ℕ} → a ≡ Done z v → Kept w (m .mark) w′
+  kept-done {z} {v} q = leaves-done w m _ leaves got st′ w′ is a read z v q .0 .1
 
-  roomy-done : {z v : ℕ} → a ≡ Done z v → Roomy w′ (markOf st′)
-  roomy-done {z} {v} q = roomy (steady-after steady w′ (standing st′) z v (held st′) (leaves-done w m _ leaves got st′ w′ is a read z v q))
+  fits-done : {z v : ℕ} → a ≡ Done z v → Fits w′ (markOf st′) (notesOf st′)
+  fits-done {z} {v} q = leaves-done w m _ leaves got st′ w′ is a read z v q .1
 
-  kept-failed : {v : ℕ} → a ≡ Failed v → Kept w m w′
+  kept-failed : {v : ℕ} → a ≡ Failed v → Kept w (m .mark) w′ × Fits w′ (m .mark) (notesOf st′)
   kept-failed {v} q = leaves-failed w m _ leaves got st′ w′ is a read v q
 
 -- PATH i
@@ -148,15 +149,15 @@ module _ {t w st : List ℕ} {e s i : ℕ} (n : ℕ) (ready : Ready t w st e s) 
         pub gives-path-stops : Tagged a 1 2 → Returns got st′ w′
         gives-path-stops q = record { is = not-done t n w (standing st) (unitsIn s) _ got st′ w′ is a read keep _ q ∙ sym asks; frame = gives .frame }
 
-        pub roomy-path : {z v : ℕ} → a ≡ Done z v → Roomy w′ (markOf st′)
-        roomy-path q = roomy-done (ready .steady) (ready .entries) n x y (unitsIn s) below (missOf st) got st′ w′ is read q
+        pub fits-path : {z v : ℕ} → a ≡ Done z v → Fits w′ (markOf st′) (notesOf st′)
+        fits-path q = fits-done (ready .steady) (ready .entries) n x y (unitsIn s) below got st′ w′ is read q
 
         pub gives-path : {z v r : ℕ} {was st″ w″ : List ℕ} → a ≡ Done z v → was ≡ rowAt w′ (nodeIn s) → Gives (noded (set was (1 + i) z) st′ w′ v) st′ r st″ w″ → Returns r st″ w″
         gives-path {z} {v} {r} {was} {st″} q we made = record {
           is = made .is ∙ sym (
               asks ∙ goes-on t n w (standing st) (unitsIn s) _ got st′ w′ is a read _ fail z v q
               ∙ ap (λ gs. plan t n (again (nodeIn s) (constructorOf w (nodeIn s)) gs (held st′)) w′ (standing st′) v) (ap (λ j. put (children w (nodeIn s)) j z) from-one ∙ put-set (children w (nodeIn s)) (i - 1) z)
-              ∙ remade (ready .steady) (ready .subject) has-child t n z v st′ (kept-done (ready .steady) (ready .entries) n x y (unitsIn s) below (missOf st) got st′ w′ is read q) we
+              ∙ remade (ready .steady) (ready .subject) has-child t n z v st′ (kept-done (ready .steady) (ready .entries) n x y (unitsIn s) below got st′ w′ is read q) we
               ∙ ap (λ j. noded (set was j z) st′ w′ v) (sym place)
               );
           frame = framed-trans further st st′ st″ (gives .frame) (made .frame);
@@ -164,11 +165,11 @@ module _ {t w st : List ℕ} {e s i : ℕ} (n : ℕ) (ready : Ready t w st e s) 
 
 -- the mark of the start, with what was noted since
 abbrev tried : List ℕ → List ℕ → Standing
-tried st₀ st = at (markOf st₀) (missOf st)
+tried st₀ st = at (markOf st₀) (notesOf st)
 
 -- what a turn of ONE's loop has: mark and bindings are those of the start, and the rest of the children is the whole
 pub record Trying (t w₀ st₀ : List ℕ) (n e s c x : ℕ) (w st : List ℕ) (u i : ℕ) : Type 0 where
-  pub steady : Steady w (markOf st₀) (held st₀)
+  pub steady : Steady w (tried st₀ st) (held st₀)
   pub mark : markOf st ≡ markOf st₀
   pub holds : held st ≡ held st₀
   pub frame : Framed st₀ st
@@ -253,7 +254,7 @@ module _ {t w₀ st₀ : List ℕ} {e s : ℕ} (n : ℕ) (ready : Ready t w₀ s
 
       module _ {got : ℕ} {st′ w′ : List ℕ} (gives : Gives (visit t n (apply x (nodeIn g) (held st)) w (standing st) (unitsIn g)) st got st′ w′) {a : Attempt} (attempted : a ≡ attemptOf (answerOf got)) where
         was : out got st′ w′ ≡ visit t n (apply x y (held st₀)) w (tried st₀ st) u
-        was = gives .is ∙ (λ z. visit t n (apply x (node-is z) (turn .holds z)) w (at (turn .mark z) (missOf st)) (units-is z))
+        was = gives .is ∙ (λ z. visit t n (apply x (node-is z) (turn .holds z)) w (at (turn .mark z) (notesOf st)) (units-is z))
 
         framed : Framed st₀ st′
         framed = framed-trans further st₀ st st′ (turn .frame) (gives .frame)
@@ -277,15 +278,15 @@ module _ {t w₀ st₀ : List ℕ} {e s : ℕ} (n : ℕ) (ready : Ready t w₀ s
           did-not : yes ≡ false → answerOf got ≡ Failed v
           did-not p = attempt-failed (answerOf got) z v (sym attempted ∙ q ∙ ap (λ b. Ended b z v) p)
 
-          pub roomy-one : yes ≡ true → Roomy w′ (markOf st′)
-          roomy-one p = roomy-done (turn .steady) (ready .entries) n x y u below-mark (missOf st) got st′ w′ was refl (did p)
+          pub fits-one : yes ≡ true → Fits w′ (markOf st′) (notesOf st′)
+          fits-one p = fits-done (turn .steady) (ready .entries) n x y u below-mark got st′ w′ was refl (did p)
 
           pub gives-one : {r : ℕ} {words st″ w″ : List ℕ} → yes ≡ true → words ≡ rowAt w′ (nodeIn s) → Gives (noded (set words (2 + i) z) st′ w′ v) st′ r st″ w″ → Gave r st″ w″
           gives-one {r} {words} {st″} p we made = record {
             is = made .is ∙ sym (
                 goes-on t n w (tried st₀ st) u _ got st′ w′ was (answerOf got) refl follows others z v (did p)
                 ∙ ap (λ gs. plan t n (again (nodeIn s) (constructorOf w (nodeIn s)) gs (held st′)) w′ (standing st′) v) (set-next w (nodeIn s) i has-next z)
-                ∙ remade (turn .steady) (ready .subject) has-next t n z v st′ (kept-done (turn .steady) (ready .entries) n x y u below-mark (missOf st) got st′ w′ was refl (did p)) we
+                ∙ remade (turn .steady) (ready .subject) has-next t n z v st′ (kept-done (turn .steady) (ready .entries) n x y u below-mark got st′ w′ was refl (did p)) we
                 ) ∙ asks-next;
             frame = framed-trans further st₀ st′ st″ framed (made .frame);
           }
@@ -293,11 +294,11 @@ module _ {t w₀ st₀ : List ℕ} {e s : ℕ} (n : ℕ) (ready : Ready t w₀ s
           -- mark and mask are put back, and the next child is tried
           pub one-again : yes ≡ false → Trying t w₀ st₀ n e s c x w′ (back st₀ st′) v (i + 1)
           one-again p =
-              let kept = kept-failed (turn .steady) (ready .entries) n x y u below-mark (missOf st) got st′ w′ was refl (did-not p) in
+              let (kept, fits) = kept-failed (turn .steady) (ready .entries) n x y u below-mark got st′ w′ was refl (did-not p) in
               let kids = kept-children kept (nodeIn s) (ready .subject) in
               let con = kept-constructor kept (nodeIn s) (ready .subject) in
               record {
-                steady = steady-kept (turn .steady) kept;
+                steady = rw (notes-back further st₀ st′ long′) (steady-kept (turn .steady) (standing st′) kept fits);
                 mark = mark-back further st₀ st′ long′;
                 holds = held-back further st₀ st′ long′ framed;
                 frame = framed-back further st₀ st′ long′ framed;
@@ -305,6 +306,6 @@ module _ {t w₀ st₀ : List ℕ} {e s : ℕ} (n : ℕ) (ready : Ready t w₀ s
                 long = kept .long ∙ turn .long;
                 count = turn .count ∙ sym (kept-count kept (nodeIn s) (ready .subject));
                 few = failed-few got v (answerOf got) refl (did-not p);
-                rest = (λ j. plan t n (oneOf x (take (i + 1) (kids j)) (drop (i + 1) (kids j)) (held st₀) (again (nodeIn s) (con j))) w′ (at (markOf st₀) (miss-back further st₀ st′ long′ j)) v)
+                rest = (λ j. plan t n (oneOf x (take (i + 1) (kids j)) (drop (i + 1) (kids j)) (held st₀) (again (nodeIn s) (con j))) w′ (at (markOf st₀) (notes-back further st₀ st′ long′ j)) v)
                     ∙ sym (caught t n w (tried st₀ st) u _ got st′ w′ was (answerOf got) refl keep follows others v (did-not p)) ∙ asks-next;
               }

@@ -18,15 +18,16 @@ use Rattle.leaves.proofs.answers.Answer.{the-type}
 use Rattle.leaves.specs.declared.answers.Answer.{Answer}
 use Rattle.leaves.specs.declared.answers.Answer.the-variants.{Done, Failed, Cut}
 use Rattle.leaves.specs.Answers.{packed, nodeIn, unitsIn, unitsWord, nestingWord, failedWord, answerOf}
-use Rattle.leaves.specs.Record.{recordLong, markOf, missOf, standing, missing, held, back, Framed}
+use Rattle.leaves.specs.Record.{recordLong, markOf, notesOf, standing, missing, held, back, Framed}
 use Rattle.leaves.specs.Visits.{visit, ruled, out, countOf, Entries, Steady, Gives}
 use Rattle.cycle.specs.Cycle.{Ready, Last, VisitsToFailure}
 use Rattle.leaves.proofs.AnswerWords.{answer-failed, out-failed, node-packed, units-packed, done-node, done-units, failed-few}
 use Rattle.leaves.proofs.Asking.{Tagged}
 use Rattle.leaves.proofs.Kind.{applied}
-use Rattle.leaves.proofs.Keeping.{apply-leaves, steady-kept, steady-after, leaves-done, leaves-failed, node-small}
+use Rattle.leaves.proofs.Keeping.{LeavesFitting, steady-missing, apply-leaves, steady-kept, steady-after, leaves-done, leaves-failed, node-small}
+use Rattle.index.specs.Run.{noting}
 use Rattle.leaves.proofs.Patterns.{operand-below}
-use Rattle.leaves.proofs.Holding.{further, held-back, mark-back, miss-back, length-back, held-missing, mark-missing, miss-missing, framed-missing, framed-back, framed-refl, framed-trans}
+use Rattle.leaves.proofs.Holding.{further, held-back, mark-back, notes-back, length-back, held-missing, mark-missing, notes-missing, framed-missing, framed-back, framed-refl, framed-trans}
 use Rattle.leaves.proofs.Limited.{units-out, nesting-out}
 use Rattle.cycle.proofs.Ruling.{ready-operand, ruled-rec, ruled-call}
 use Rattle.cycle.proofs.Returning.{gives-itself}
@@ -124,8 +125,8 @@ module _ {t w₀ st₀ : List ℕ} {start given deep : ℕ} {w st : List ℕ} {e
     inside : nodeIn (s - 1) < markOf st
     inside = ready-same .subject
 
-    leaves : Leaves w (markOf st) (visit t (d - 1) (apply x (nodeIn (s - 1)) (held st)) w (standing st) (unitsIn (s - 1)))
-    leaves = apply-leaves (turn .ready .steady) t (turn .ready .entries) (d - 1) x (nodeIn (s - 1)) (missOf st) (unitsIn (s - 1)) inside
+    leaves : LeavesFitting w (standing st) (visit t (d - 1) (apply x (nodeIn (s - 1)) (held st)) w (standing st) (unitsIn (s - 1)))
+    leaves = apply-leaves (turn .ready .steady) t (turn .ready .entries) (d - 1) x (nodeIn (s - 1)) (unitsIn (s - 1)) inside
 
     long′ : length st′ ≡ recordLong
     long′ = gives .frame .long ∙ turn .ready .long
@@ -136,7 +137,7 @@ module _ {t w₀ st₀ : List ℕ} {start given deep : ℕ} {w st : List ℕ} {e
     pub seq-turn : {y z v : ℕ} → y ≡ wordAt t e 3 → kindOf t e ≡ 4 → a ≡ Done z v → length w′ ≡ length w → Turn t w₀ st₀ start given deep w′ st′ y got (d - 1)
     seq-turn {y} {z} {v} ye h q l =
         let n = done-node got z v (sym read ∙ q) in
-        let lv = leaves-done w (markOf st) _ leaves got st′ w′ (gives .is) a read z v q in
+        let lv = leaves-done w (standing st) _ leaves got st′ w′ (gives .is) a read z v q in
         record {
           deeper = omega (arith, turn .deeper);
           long = l ∙ turn .long;
@@ -146,11 +147,11 @@ module _ {t w₀ st₀ : List ℕ} {start given deep : ℕ} {w st : List ℕ} {e
             long = long′;
             inside = rw ye (operand-below t (turn .ready .entries) e 1 (turn .ready .inside) (λ z. omega (arith, h, z)) (omega arith));
             steady = steady-after (turn .ready .steady) w′ (standing st′) z v (held st′) lv;
-            subject = subst (λ k. k < markOf st′) (n .0) (lv .2 .subject);
+            subject = subst (λ k. k < markOf st′) (n .0) (lv .0 .2 .subject);
           };
           frame = framed-trans further st₀ st st′ (turn .frame) (gives .frame);
           wide = gives .frame .long ∙ turn .wide;
-          word = omega (arith, n .0, node-small (steady-after (turn .ready .steady) w′ (standing st′) z v (held st′) lv) z (lv .2 .subject));
+          word = omega (arith, n .0, node-small (steady-after (turn .ready .steady) w′ (standing st′) z v (held st′) lv) z (lv .0 .2 .subject));
           rest = sym (λ i. visit t (d - 1) (apply y (n .0 i) (held st′)) w′ (standing st′) (n .1 i)) ∙ seq-goes-on t (d - 1) e (s - 1) st w x got st′ w′ xe (gives .is) a read y ye h z v q ∙ counts;
         }
 
@@ -163,8 +164,8 @@ module _ {t w₀ st₀ : List ℕ} {start given deep : ℕ} {w st : List ℕ} {e
           let few = failed-few got v a read q in
           let held-as = held-back further st st′ long′ (gives .frame) in
           let mark-as = mark-back further st st′ long′ in
-          let miss-as = miss-back further st st′ long′ in
-          let kept = leaves-failed w (markOf st) _ leaves got st′ w′ (gives .is) a read v q in
+          let miss-as = notes-back further st st′ long′ in
+          let (kept, fits) = leaves-failed w (standing st) _ leaves got st′ w′ (gives .is) a read v q in
           let tiny = node-small (turn .ready .steady) (nodeIn (s - 1)) inside in
           let node-as : nodeIn r ≡ nodeIn (s - 1) = ap nodeIn p ∙ node-packed (nodeIn (s - 1)) v few in
           let units-as : unitsIn r ≡ v = ap unitsIn p ∙ units-packed (nodeIn (s - 1)) v few in
@@ -176,7 +177,7 @@ module _ {t w₀ st₀ : List ℕ} {start given deep : ℕ} {w st : List ℕ} {e
               hints = turn .ready .hints;
               long = length-back further st st′ long′;
               inside = rw ye (operand-below t (turn .ready .entries) e 1 (turn .ready .inside) (no-scope h (omega arith) (omega arith)) (omega arith));
-              steady = rw (mark-as, held-as) (steady-kept (turn .ready .steady) kept);
+              steady = rw (mark-as, miss-as, held-as) (steady-kept (turn .ready .steady) (standing st′) kept fits);
               subject = rw (node-as, mark-as) inside;
             };
             frame = framed-trans further st₀ st (back st st′) (turn .frame) (framed-back further st st′ long′ (gives .frame));
@@ -195,7 +196,7 @@ module _ {t w₀ st₀ : List ℕ} {start given deep : ℕ} {w st : List ℕ} {e
       let node-as = same-node-by (s - 1) n (enough .1) in
       let units-as = less-by (s - 1) n (enough .1) in
       let fails = skips .fails some .is (held st) (standing st) (d - 1) (unitsIn (s - 1)) (enough .0) (enough .1) in
-      let noted : missOf (missing st p) ≡ wordAt t e 4 = miss-missing further st p (turn .ready .long) ∙ pe in
+      let noted : notesOf (missing st p) ≡ noting (notesOf st) (wordAt t e 4) = notes-missing further st p (turn .ready .long) ∙ ap (noting (notesOf st)) pe in
       let frame = framed-missing further st p in
       record {
         deeper = pred-le d deep (turn .deeper);
@@ -205,7 +206,7 @@ module _ {t w₀ st₀ : List ℕ} {start given deep : ℕ} {w st : List ℕ} {e
           hints = turn .ready .hints;
           long = frame .long ∙ turn .ready .long;
           inside = rw ye (operand-below t (turn .ready .entries) e 1 (turn .ready .inside) (no-scope h (omega arith) (omega arith)) (omega arith));
-          steady = rw (mark-missing further st p, held-missing further st p) (turn .ready .steady);
+          steady = rw (held-missing further st p) (steady-missing st p (turn .ready .steady));
           subject = rw (node-as, mark-missing further st p) (ready-same .subject);
         };
         frame = framed-trans further st₀ st (missing st p) (turn .frame) frame;

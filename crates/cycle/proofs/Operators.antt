@@ -18,7 +18,7 @@ use Rattle.leaves.specs.declared.answers.Answer.the-variants.{Done, Failed, Cut
 use Rattle.leaves.specs.declared.answers.Attempt.{Attempt}
 use Rattle.leaves.specs.declared.answers.Attempt.the-variants.{Ended, Cut as Off}
 use Rattle.leaves.specs.Answers.{packed, nodeIn, unitsIn, failedWord, answerOf, attemptOf}
-use Rattle.leaves.specs.Record.{markOf, missOf, standing, held, back, Framed}
+use Rattle.leaves.specs.Record.{markOf, notesOf, standing, held, back, Framed}
 use Rattle.leaves.specs.Visits.{visit, plan, ruled, out, Steady}
 use Rattle.leaves.proofs.AnswerWords.{gave, gave-failed, done-units, failed-few, attempt-done, attempt-failed, attempt-cut}
 use Rattle.leaves.proofs.Asking.{Tagged, goes-on, goes-back, caught, cut-off, not-done, not-failed, last}
@@ -88,7 +88,7 @@ module _ (t : List ℕ) (n e s : ℕ) (st w : List ℕ) (x got : ℕ) (st′ w�
         (λ z. cut-off t n w (standing st) (unitsIn s) _ got st′ w′ is (answerOf got) refl keep _ _ c f ∙ sym (ruled-not t n e (nodeIn s) (held st) w (standing st) (unitsIn s) x xe z)) h
 
     -- the operand did what the operator wants: success for TEST, failure for NOT
-    module _ (st″ : List ℕ) (same : held st″ ≡ held st) (mark : markOf st″ ≡ markOf st) (miss : missOf st″ ≡ missOf st′) (small : nodeIn s < 131072) (r v : ℕ) (re : r ≡ packed (nodeIn s) v) where
+    module _ (st″ : List ℕ) (same : held st″ ≡ held st) (mark : markOf st″ ≡ markOf st) (miss : notesOf st″ ≡ notesOf st′) (small : nodeIn s < 131072) (r v : ℕ) (re : r ≡ packed (nodeIn s) v) where
       restored : v < 4294967296 → out r st″ w′ ≡ ended (nodeIn s) (held st) (on w′ (backTo (standing st) (standing st′))) v
       restored l = gave st″ w′ r (nodeIn s) v re small l ∙ rw (same, mark, miss)
 
@@ -104,7 +104,7 @@ module _ (t : List ℕ) (n e s : ℕ) (st w : List ℕ) (x got : ℕ) (st′ w�
           restored (failed-few got v (answerOf got) refl f)
           ∙ sym (ruled-not t n e (nodeIn s) (held st) w (standing st) (unitsIn s) x xe h ∙ caught t n w (standing st) (unitsIn s) _ got st′ w′ is (answerOf got) refl keep _ (ret (nodeIn s) (held st)) v f ∙ ends t n (nodeIn s) (held st) w′ (backTo (standing st) (standing st′)) v)
 
-    module _ (st″ : List ℕ) (miss : missOf st″ ≡ missOf st′) (r v : ℕ) (re : r ≡ failedWord v) where
+    module _ (st″ : List ℕ) (miss : notesOf st″ ≡ notesOf st′) (r v : ℕ) (re : r ≡ failedWord v) where
       failing-as : v < 4294967296 → out r st″ w′ ≡ lost (leftOf w′ (standing st′)) v
       failing-as l = gave-failed st″ w′ r v re l ∙ rw miss
 

@@ -13,7 +13,7 @@ use Rattle.leaves.specs.declared.answers.Answer.the-variants.{Done, Failed, Cut
 use Rattle.leaves.specs.declared.answers.Attempt.{Attempt}
 use Rattle.leaves.specs.declared.answers.Attempt.the-variants.{Ended, Cut as Off}
 use Rattle.leaves.specs.Answers.{packed, nodeIn, unitsIn, failedWord, answerOf, attemptOf}
-use Rattle.leaves.specs.Record.{recordLong, markOf, missOf, standing, held, back, Framed}
+use Rattle.leaves.specs.Record.{recordLong, markOf, notesOf, standing, held, back, Framed}
 use Rattle.meaning.specs.Limits.{lost}
 use Rattle.leaves.specs.Noted.{Ran, leftOf}
 use native.Mathlib.Omega.{arith}
@@ -25,7 +25,7 @@ use Rattle.cycle.proofs.Ruling.{ruled-id, ruled-fail, ruled-above, rule
 use Rattle.leaves.proofs.Asking.{Tagged}
 use Rattle.cycle.proofs.Walker.{childless}
 use Rattle.leaves.proofs.Keeping.{node-small}
-use Rattle.leaves.proofs.Holding.{further, held-back, mark-back, miss-back, framed-back, length-back, framed-refl}
+use Rattle.leaves.proofs.Holding.{further, held-back, mark-back, notes-back, framed-back, length-back, framed-refl}
 use Rattle.cycle.proofs.Operators.{other, where-stops, where-done, guard-off, test-done, not-did, test-failed, not-failed-then}
 
 -- the first operand x of entry e ran on the operator's own state, and gave `got`
@@ -60,19 +60,19 @@ module _ {t w st : List ℕ} {e s x got : ℕ} {st′ w′ : List ℕ} (n : ℕ)
 
       pub gives-test : {k r : ℕ} → k ≡ kindOf t e → k ≡ 2 → b ≡ true → r ≡ packed (nodeIn s) v → Returns r (back st st′)
       gives-test {r = r} k i z p = record {
-        is = test-done t n e s st w x got st′ w′ xe (gives .is) g attempted (back st st′) (held-back further st st′ long (gives .frame)) (mark-back further st st′ long) (miss-back further st st′ long) small r v p (sym k ∙ i) y (attempted-as z);
+        is = test-done t n e s st w x got st′ w′ xe (gives .is) g attempted (back st st′) (held-back further st st′ long (gives .frame)) (mark-back further st st′ long) (notes-back further st st′ long) small r v p (sym k ∙ i) y (attempted-as z);
         frame = framed;
       }
 
       pub gives-test-failed : {k r : ℕ} → k ≡ kindOf t e → k ≡ 2 → b ≡ false → r ≡ failedWord v → Returns r (back st st′)
-      gives-test-failed {r = r} k i z p = record { is = test-failed t n e s st w x got st′ w′ xe (gives .is) g attempted (back st st′) (miss-back further st st′ long) r v p (sym k ∙ i) y (attempted-as z); frame = framed }
+      gives-test-failed {r = r} k i z p = record { is = test-failed t n e s st w x got st′ w′ xe (gives .is) g attempted (back st st′) (notes-back further st st′ long) r v p (sym k ∙ i) y (attempted-as z); frame = framed }
 
       pub gives-not-failed : {k r : ℕ} → k ≡ kindOf t e → (k ≡ 2 → ⊥) → b ≡ true → r ≡ failedWord v → Returns r (back st st′)
-      gives-not-failed {r = r} k i z p = record { is = not-failed-then t n e s st w x got st′ w′ xe (gives .is) g attempted (back st st′) (miss-back further st st′ long) r v p (other h (λ e. i (k ∙ e))) y (attempted-as z); frame = framed }
+      gives-not-failed {r = r} k i z p = record { is = not-failed-then t n e s st w x got st′ w′ xe (gives .is) g attempted (back st st′) (notes-back further st st′ long) r v p (other h (λ e. i (k ∙ e))) y (attempted-as z); frame = framed }
 
       pub gives-not : {k r : ℕ} → k ≡ kindOf t e → (k ≡ 2 → ⊥) → b ≡ false → r ≡ packed (nodeIn s) v → Returns r (back st st′)
       gives-not {r = r} k i z p = record {
-        is = not-did t n e s st w x got st′ w′ xe (gives .is) g attempted (back st st′) (held-back further st st′ long (gives .frame)) (mark-back further st st′ long) (miss-back further st st′ long) small r v p (other h (λ e. i (k ∙ e))) y (attempted-as z);
+        is = not-did t n e s st w x got st′ w′ xe (gives .is) g attempted (back st st′) (held-back further st st′ long (gives .frame)) (mark-back further st st′ long) (notes-back further st st′ long) small r v p (other h (λ e. i (k ∙ e))) y (attempted-as z);
         frame = framed;
       }
 

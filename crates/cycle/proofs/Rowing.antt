@@ -18,7 +18,8 @@ use Rattle.meaning.specs.Store.{children, row}
 use Rattle.meaning.specs.Demands.{Kept}
 use Rattle.meaning.proofs.Checked.{Node, node-of-good}
 use Rattle.meaning.proofs.Words.{kept-word}
-use Rattle.leaves.specs.Record.{markOf, missOf, standing, held}
+use Rattle.leaves.specs.Noted.{Standing}
+use Rattle.leaves.specs.Record.{markOf, notesOf, standing, held}
 use Rattle.leaves.specs.Visits.{plan, countOf, rowAt, noded, Steady}
 use Rattle.leaves.proofs.Children.{six-at, part-length}
 
@@ -86,18 +87,18 @@ again-noded t n k c u [] st w h = absurd (omega arith)
 again-noded t n k c u (g ∷ gs) st w h = refl
 
 -- a node k of a steady store, and its child j
-module _ {w : List ℕ} {m : ℕ} {b : Bindings ℕ} (steady : Steady w m b) {k j : ℕ} (inside : k < m) (l : j < countOf w k) where
+module _ {w : List ℕ} {m : Standing} {b : Bindings ℕ} (steady : Steady w m b) {k j : ℕ} (inside : k < m .mark) (l : j < countOf w k) where
   good : Node w k
   good = node-of-good w k (steady .good k inside)
 
   among : j < length (children w k)
   among = omega (arith, part-length w k (childCount w k))
 
-  pub child-below : wordAt w k (2 + j) < m
+  pub child-below : wordAt w k (2 + j) < m .mark
   child-below = omega (arith, good .below j (omega (arith, good .holdable .count)))
 
   -- the row with child j replaced, read from a store that may have changed above the mark, is the node made again
-  pub remade : (t : List ℕ) (n x u : ℕ) {z w′ : List ℕ} (st : List ℕ) → Kept w m w′ → z ≡ rowAt w′ k
+  pub remade : (t : List ℕ) (n x u : ℕ) {z w′ : List ℕ} (st : List ℕ) → Kept w (m .mark) w′ → z ≡ rowAt w′ k
       → plan t n (again k (constructorOf w k) (set (children w k) j x) (held st)) w′ (standing st) u ≡ noded (set z (2 + j) x) st w′ u
   remade t n x u {z} {w′} st kept e =
       again-noded t n k (constructorOf w k) u (set (children w k) j x) st w′ (simp length-set (omega (arith, among)))

@@ -17,7 +17,7 @@ use Rattle.meaning.specs.Limits.{ended, lost, runPlan}
 use Rattle.meaning.specs.Store.{children}
 use Rattle.leaves.specs.Noted.{Standing, on, stored, Ran, leftOf}
 use Rattle.leaves.specs.Answers.{nodeIn, unitsIn}
-use Rattle.leaves.specs.Record.{markOf, missOf, standing, held}
+use Rattle.leaves.specs.Record.{markOf, notesOf, standing, held}
 use Rattle.leaves.specs.Visits.{visit, plan, ruled, Entries, Steady, Matchable}
 use Rattle.cycle.specs.Cycle.{visits, walked, Ready}
 use Rattle.leaves.proofs.Kind.{kind-is, rule-is}

@@ -21,7 +21,7 @@ use Rattle.leaves.specs.declared.answers.Answer.the-variants.{Done, Failed, Cut
 use Rattle.leaves.specs.Answers.{nodeIn, unitsIn, answerOf}
 use Rattle.meaning.specs.Limits.{lost, cut, at}
 use Rattle.leaves.specs.Noted.{Standing, leftOf}
-use Rattle.leaves.specs.Record.{recordLong, markOf, missOf, standing, maskOf, held, hidden, keptWords, putBack}
+use Rattle.leaves.specs.Record.{recordLong, markOf, notesOf, standing, maskOf, held, hidden, keptWords, putBack}
 use Rattle.leaves.specs.Visits.{limitOf, visit, plan, ruled, meaning, out, Steady, Gives}
 use Rattle.cycle.specs.Cycle.{Ready}
 use Rattle.leaves.proofs.AnswerWords.{out-answer}
@@ -29,11 +29,11 @@ use Rattle.leaves.proofs.Asking.{goes-on, not-done}
 use Rattle.leaves.proofs.Walking.{returned}
 use Rattle.leaves.proofs.Patterns.{scope-operand-below}
 use Rattle.cycle.proofs.Ruling.{ruled-scope}
-use Rattle.leaves.proofs.Holding.{further, length-hidden, mark-hidden, miss-hidden, held-hidden, held-apart, held-unscope, framed-unscope, shown, length-shown, mark-shown, miss-shown, held-shown, framed-shown}
+use Rattle.leaves.proofs.Holding.{further, length-hidden, mark-hidden, notes-hidden, held-hidden, held-apart, held-unscope, framed-unscope, shown, length-shown, mark-shown, notes-shown, held-shown, framed-shown}
 
 -- a visit's answer r with the record st, and the same word with a record st″ that holds f of the bindings
 rebound : (t : List ℕ) (n : ℕ) (q : Visit ℕ) (w : List ℕ) (m : Standing) (u r : ℕ) (st w′ : List ℕ) → out r st w′ ≡ visit t n q w m u
-    → (st″ : List ℕ) (f : Bindings ℕ → Bindings ℕ) → held st″ ≡ f (held st) → markOf st″ ≡ markOf st → missOf st″ ≡ missOf st → out r st″ w′ ≡ plan t n (ask keep q (λ h c. ret h (f c)) fail) w m u
+    → (st″ : List ℕ) (f : Bindings ℕ → Bindings ℕ) → held st″ ≡ f (held st) → markOf st″ ≡ markOf st → notesOf st″ ≡ notesOf st → out r st″ w′ ≡ plan t n (ask keep q (λ h c. ret h (f c)) fail) w m u
 unfolding meaning
 rebound t n q w m u r st w′ is st″ f holds mark miss = go (answerOf r) refl
   where
@@ -52,8 +52,8 @@ masked-some m v j b = go (has m v)
     go true e = absurd (let z : _≡_ {A = ℕ} 0 1 = cc in omega arith)
     go false e = e
 
-steady-masked : {w : List ℕ} {m : ℕ} {b : Bindings ℕ} (i : ℕ) → Steady w m b → Steady w m (masked i unbound b)
-steady-masked {b = b} i s = record { nodes = s .nodes; small = s .small; used = s .used; fits = s .fits; good = s .good; bound = λ v j e. s .bound v j (masked-some i v j b e) }
+steady-masked : {w : List ℕ} {m : Standing} {b : Bindings ℕ} (i : ℕ) → Steady w m b → Steady w m (masked i unbound b)
+steady-masked {b = b} i s = record { fits = s .fits; used = s .used; good = s .good; bound = λ v j e. s .bound v j (masked-some i v j b e) }
 
 -- entry e is a SCOPE of the mask i, its operand x
 module _ {t w st : List ℕ} {e s x i : ℕ} (n : ℕ) (ready : Ready t w st e s) (ie : i ≡ maskBy ours t e) (small : i < 2 ^ variables) (xe : x ≡ wordAt t e (1 + ours)) (scope : kindOf t e ≡ 16) where
@@ -78,7 +78,7 @@ module _ {t w st : List ℕ} {e s x i : ℕ} (n : ℕ) (ready : Ready t w st e s
     gives-scope apart f =
         subst (λ p. Returns got p w′) (sym f) (
         record {
-          is = rebound t n inner w (standing st) (unitsIn s) got st′ w′ (gives .is ∙ ap (λ b. visit t n (apply x (nodeIn s) b) w (standing st) (unitsIn s)) (held-apart further st i apart)) (hidden st′ i) (masked i (held st)) (held-unscope further st i apart st′ long′ small) (mark-hidden further st′ i long′ small) (miss-hidden further st′ i long′ small)
+          is = rebound t n inner w (standing st) (unitsIn s) got st′ w′ (gives .is ∙ ap (λ b. visit t n (apply x (nodeIn s) b) w (standing st) (unitsIn s)) (held-apart further st i apart)) (hidden st′ i) (masked i (held st)) (held-unscope further st i apart st′ long′ small) (mark-hidden further st′ i long′ small) (notes-hidden further st′ i long′ small)
               ∙ sym (ruled-scope t n e (nodeIn s) (held st) w (standing st) (unitsIn s) x xe i ie scope);
           frame = framed-unscope further st i apart st′ long′ small (gives .frame);
         }
@@ -93,7 +93,7 @@ module _ {t w st : List ℕ} {e s x i : ℕ} (n : ℕ) (ready : Ready t w st e s
         hints = ready .hints;
         long = length-hidden further st i (ready .long) small;
         inside = inside;
-        steady = rw (mark-hidden further st i (ready .long) small, held-hidden further st i (ready .long) small) (steady-masked i (ready .steady));
+        steady = rw (mark-hidden further st i (ready .long) small, notes-hidden further st i (ready .long) small, held-hidden further st i (ready .long) small) (steady-masked i (ready .steady));
         subject = rw (mark-hidden further st i (ready .long) small) (ready .subject);
       }
       )
@@ -104,7 +104,7 @@ module _ {t w st : List ℕ} {e s x i : ℕ} (n : ℕ) (ready : Ready t w st e s
 
     gives-shown : Returns got (shown further st i st′) w′
     gives-shown = record {
-      is = rebound t n inner w (standing st) (unitsIn s) got st′ w′ (gives .is ∙ rw (mark-hidden further st i (ready .long) small, miss-hidden further st i (ready .long) small, held-hidden further st i (ready .long) small)) (shown further st i st′) (masked i (held st)) (held-shown further st i st′ long″ small) (mark-shown further st i st′ long″ small) (miss-shown further st i st′ long″ small)
+      is = rebound t n inner w (standing st) (unitsIn s) got st′ w′ (gives .is ∙ rw (mark-hidden further st i (ready .long) small, notes-hidden further st i (ready .long) small, held-hidden further st i (ready .long) small)) (shown further st i st′) (masked i (held st)) (held-shown further st i st′ long″ small) (mark-shown further st i st′ long″ small) (notes-shown further st i st′ long″ small)
           ∙ sym (ruled-scope t n e (nodeIn s) (held st) w (standing st) (unitsIn s) x xe i ie scope);
       frame = framed-shown further st i st′ long″ small (ready .long) (gives .frame);
     }

@@ -26,24 +26,21 @@ use Rattle.leaves.specs.declared.answers.Answer.the-variants.{Done, Failed, Cut
 use Rattle.leaves.specs.declared.answers.Attempt.{Attempt}
 use Rattle.leaves.specs.declared.answers.Attempt.the-variants.{Ended, Cut as Off}
 use Rattle.leaves.specs.Answers.{packed, nodeIn, unitsIn, unitsWord, answerOf, attemptOf}
-use Rattle.leaves.specs.Record.{marking, maskOf, masking, recordLong, markOf, missOf, standing, held, back, Framed}
-use Rattle.leaves.specs.Visits.{out, visit, plan, countOf, noded, Steady, Roomy, Gives}
+use Rattle.leaves.specs.Record.{marking, maskOf, masking, recordLong, markOf, notesOf, standing, held, back, Framed}
+use Rattle.leaves.specs.Visits.{out, visit, plan, countOf, noded, Steady, Gives}
 use Rattle.cycle.specs.Cycle.{Counted, operandFor, visits, walked, finished, entryAhead, Leads, VisitsAhead, Ready}
 use Rattle.leaves.proofs.AnswerWords.{node-packed, units-packed, done-units, failed-few, attempt-done, attempt-failed, attempt-cut, out-units}
 use Rattle.leaves.proofs.Asking.{goes-on, caught, cut-off}
-use Rattle.leaves.proofs.Keeping.{apply-leaves, steady-kept, steady-after, roomy, leaves-done, leaves-failed, node-small}
-use Rattle.leaves.proofs.Holding.{further, held-back, mark-back, miss-back, framed-back, length-back, framed-refl, framed-trans}
+use Rattle.leaves.proofs.Keeping.{LeavesFitting, apply-leaves, steady-kept, steady-after, leaves-done, leaves-failed, node-small}
+use Rattle.index.specs.Run.{Fits}
+use Rattle.cycle.proofs.Rowing.{again-noded}
+use Rattle.leaves.proofs.Holding.{further, held-back, mark-back, notes-back, framed-back, length-back, framed-refl, framed-trans}
 use Rattle.leaves.proofs.Children.{part-length, part-next, part-end, filled, filled-next, one-more, filled-row}
 use Rattle.leaves.proofs.Patterns.{operand-below}
 use Rattle.cycle.proofs.Ahead.{leads-on, leads-inside}
 use Rattle.cycle.proofs.Operators.{ends, fails, not-caught}
 
--- a term made anew, and a term without children
-made-anew : (t : List ℕ) (n k c x : ℕ) (gs : List ℕ) (b : Bindings ℕ) (w : List ℕ) (m : Standing) (u : ℕ)
-    → plan t n (again k c (x ∷ gs) b) w m u ≡ roomFor (leb (rows w) (m .mark)) (leftOf w m) u (ended (m .mark) b (on (putRow w (m .mark) (row c (x ∷ gs))) (at (m .mark + 1) (m .notes))) u)
-unfolding plan runPlan again
-made-anew t n k c x gs b w m u = refl
-
+-- a term without children
 itself : (t : List ℕ) (n k c : ℕ) (b : Bindings ℕ) (w : List ℕ) (m : Standing) (u : ℕ) → plan t n (again k c [] b) w m u ≡ ended k b (on w m) u
 unfolding plan runPlan again
 itself t n k c b w m u = refl
@@ -177,7 +174,7 @@ pub record Going (t w₀ st₀ : List ℕ) (e s deep : ℕ) (w st : List ℕ) (u
   pub within : i ≤ countOf w₀ (nodeIn s)
   pub kept : Kept w₀ (markOf st₀) w
   pub more : markOf st₀ ≤ markOf st
-  pub steady : Steady w (markOf st) (held st)
+  pub steady : Steady w (standing st) (held st)
   pub frame : Framed st₀ st
   pub wide : length st ≡ length st₀
   pub few : u < 4294967296
@@ -267,8 +264,8 @@ module _ {t w₀ st₀ : List ℕ} {e s deep : ℕ} {w st : List ℕ} {u won : �
       done-as : b ≡ true → answerOf got ≡ Done y v
       done-as z = attempt-done (answerOf got) y v (sym attempted ∙ q ∙ ap (λ b. Ended b y v) z)
 
-      leaves : Leaves w (markOf st) (visit t deep (apply x (nodeIn p) (held st)) w (standing st) (unitsIn p))
-      leaves = apply-leaves (g .steady) t (ready .entries) deep x (nodeIn p) (missOf st) (unitsIn p) (rw (pe, node-packed c u (g .few), cw) child-below)
+      leaves : LeavesFitting w (standing st) (visit t deep (apply x (nodeIn p) (held st)) w (standing st) (unitsIn p))
+      leaves = apply-leaves (g .steady) t (ready .entries) deep x (nodeIn p) (unitsIn p) (rw (pe, node-packed c u (g .few), cw) child-below)
 
       pub going-stops : {k : ℕ} → k ≡ kindOf t e → (k ≡ 13 → ⊥) → b ≡ false → Whole
       going-stops {k} ke n z = record {
@@ -282,14 +279,14 @@ module _ {t w₀ st₀ : List ℕ} {e s deep : ℕ} {w st : List ℕ} {u won : �
       pub going-yes : {r : ℕ} {st″ made″ : List ℕ} → b ≡ true → st″ ≡ st′ → r ≡ 1 → made″ ≡ set made (2 + i) y → Going t w₀ st₀ e s deep w′ st″ v r made″ (i + 1)
       going-yes {r} {st″} {made″} z se re me =
           let f = done-as z in
-          let lv = leaves-done w (markOf st) _ leaves got st′ w′ (gives .is) (answerOf got) refl y v f in
+          let lv = leaves-done w (standing st) _ leaves got st′ w′ (gives .is) (answerOf got) refl y v f in
           rw (se, re, me) (record {
             done = g .done ++ (y ∷ []);
             made-is = filled-next _ _ i y (g .done) made (g .made-is) (g .so-far) (omega arith);
             so-far = one-more (g .done) y i (g .so-far);
             within = omega arith;
-            kept = kept-trans (g .more) (g .kept) (lv .1);
-            more = omega (arith, g .more, lv .0);
+            kept = kept-trans (g .more) (g .kept) (lv .0 .1);
+            more = omega (arith, g .more, lv .0 .0);
             steady = steady-after (g .steady) w′ (standing st′) y v (held st′) lv;
             frame = framed′;
             wide = gives .frame .long ∙ g .wide;
@@ -305,10 +302,10 @@ module _ {t w₀ st₀ : List ℕ} {e s deep : ℕ} {w st : List ℕ} {u won : �
       going-no {k} {r} {mark} {mask} {st″} {made″} z ke k13 p q saved re me =
           let se : st″ ≡ back st st′ = saved ∙ saving k mark mask st st′ p q k13 in
           let f = failed-as z in
-          let kp = leaves-failed w (markOf st) _ leaves got st′ w′ (gives .is) (answerOf got) refl v f in
+          let (kp, fits) = leaves-failed w (standing st) _ leaves got st′ w′ (gives .is) (answerOf got) refl v f in
           let hd = held-back further st st′ long′ (gives .frame) in
           let mk = mark-back further st st′ long′ in
-          let ms = miss-back further st st′ long′ in
+          let ms = notes-back further st st′ long′ in
           rw (se, re, me) (record {
             done = g .done ++ (wordAt w₀ (nodeIn s) (2 + i) ∷ []);
             made-is = rw cw (filled-next _ _ i (wordAt w₀ (nodeIn s) (2 + i)) (g .done) made (g .made-is) (g .so-far) (omega arith));
@@ -316,7 +313,7 @@ module _ {t w₀ st₀ : List ℕ} {e s deep : ℕ} {w st : List ℕ} {u won : �
             within = omega arith;
             kept = kept-trans (g .more) (g .kept) kp;
             more = rw mk (g .more);
-            steady = rw (mk, hd) (steady-kept (g .steady) kp);
+            steady = rw (mk, ms, hd) (steady-kept (g .steady) (standing st′) kp fits);
             frame = framed-trans further st₀ st (back st st′) (g .frame) (framed-back further st st′ long′ (gives .frame));
             wide = length-back further st st′ long′ ∙ sym (ready .long);
             few = failed-few got v (answerOf got) refl f;
@@ -371,8 +368,8 @@ module _ {t w₀ st₀ : List ℕ} {e s deep : ℕ} {w st : List ℕ} {u won : �
 -- the walk's end
 module _ {t w₀ st₀ : List ℕ} {e s deep : ℕ} {w st : List ℕ} {u won : ℕ} {made : List ℕ} {i : ℕ} (ready : Ready t w₀ st₀ e s) (same : Counted t w₀ e (nodeIn s))
     (g : Going t w₀ st₀ e s deep w st u won made i) (h : countOf w₀ (nodeIn s) ≤ i) where
-  pub going-roomy : Roomy w (markOf st)
-  going-roomy = roomy (g .steady)
+  pub going-fits : Fits w (markOf st) (notesOf st)
+  going-fits = g .steady .fits
 
   pub going-small : nodeIn s < 131072
   going-small = node-small (ready .steady) (nodeIn s) (ready .subject)
@@ -385,13 +382,11 @@ module _ {t w₀ st₀ : List ℕ} {e s deep : ℕ} {w st : List ℕ} {u won : �
 
   -- a node of the children that are done
   new-node : (b : Bindings ℕ) → (length (g .done) ≡ 0 → ⊥) → b ≡ held st → plan t deep (again (nodeIn s) (constructorOf w₀ (nodeIn s)) (g .done) b) w (standing st) u ≡ noded made st w u
-  unfolding noded
-  new-node b n be = rw (be, filled-row _ _ (g .done) made (g .made-is) all) (go (g .done) n)
+  new-node b n be = rw (be, filled-row _ _ (g .done) made (g .made-is) all) (again-noded t deep (nodeIn s) (constructorOf w₀ (nodeIn s)) u (g .done) st w (above-zero n))
     where
-      go : (gs : List ℕ) → (length gs ≡ 0 → ⊥) → plan t deep (again (nodeIn s) (constructorOf w₀ (nodeIn s)) gs (held st)) w (standing st) u
-          ≡ roomFor (leb (rows w) (markOf st)) (leftOf w (standing st)) u (ended (markOf st) (held st) (on (putRow w (markOf st) (row (constructorOf w₀ (nodeIn s)) gs)) (at (markOf st + 1) (missOf st))) u)
-      go [] f = absurd (f refl)
-      go (x ∷ gs) f = made-anew t deep (nodeIn s) (constructorOf w₀ (nodeIn s)) x gs (held st) w (standing st) u
+      above-zero : {x : ℕ} → (x ≡ 0 → ⊥) → 0 < x
+      above-zero {x = zero} f = absurd (f refl)
+      above-zero {x = suc x} f = omega arith
 
   -- nothing to do
   no-child : length (g .done) ≡ 0 → plan t deep (again (nodeIn s) (constructorOf w₀ (nodeIn s)) (g .done) (held st)) w (standing st) u ≡ ended (nodeIn s) (held st) (on w (standing st)) (unitsIn s)

@@ -51,7 +51,7 @@ pub record Ready (t w st : List ℕ) (e g : ℕ) : Type 0 where
   pub hints : Hinted t
   pub long : length st ≡ recordLong
   pub inside : e < 4096
-  pub steady : Steady w (markOf st) (held st)
+  pub steady : Steady w (standing st) (held st)
   pub subject : nodeIn g < markOf st
 
 -- entry e applied to the state g, and what follows its visit: r with the record and the store at return

@@ -58,8 +58,9 @@ ghost use lib.Dec.{eqb, ltb};
 ghost use lib.ListN.{length, set};
 ghost use Rattle.checks.specs.Good.{kindOf};
 ghost use Rattle.leaves.specs.Answers.{nodeIn};
-ghost use Rattle.leaves.specs.Record.{markOf, maskOf, recordLong};
-ghost use Rattle.leaves.specs.Visits.{Roomy, Gives};
+ghost use Rattle.index.specs.Run.{Fits};
+ghost use Rattle.leaves.specs.Record.{markOf, maskOf, recordLong, notesOf};
+ghost use Rattle.leaves.specs.Visits.{Gives};
 ghost use Rattle.cycle.specs.Cycle.{Walks, Applied, Follows, entryAhead, finished, Counted, Hinted, VisitsAhead, Ready, Last};
 
 // One visit: an entry applied as a strategy. Units first, then nesting; then it is counted. ALL, of which traversals are made,
@@ -453,7 +454,7 @@ fn finish(
     made: [u32; 8],
     left: u32,
 ) -> u64
-    requires { ⌜ Roomy (now store) (markOf (now st)) × (length (now st) ≡ recordLong) × (nodeIn s < 131072) ⌝ }
+    requires { ⌜ Fits (now store) (markOf (now st)) (notesOf (now st)) × (length (now st) ≡ recordLong) × (nodeIn s < 131072) ⌝ }
     ensures { λ r. ⌜ Gives (finished kind won n s made (now (st .entry)) (now (store .entry)) left) (now (st .entry)) r (now (st .exit)) (now (store .exit)) ⌝ }
 {
     if kind == SOME {

@@ -12,6 +12,7 @@ use Rattle.meaning.specs.Plan.{Keep, keep, drop, ret, fail, miss, ask}
 use Rattle.meaning.specs.Rules.{Visit, Do, does}
 use Rattle.meaning.specs.Limits.{Limit, units, nesting, Res, ended, lost, cut, settled, after, runPlan, run}
 use Rattle.meaning.specs.Store.{rest}
+use Rattle.index.specs.Run.{noting}
 use Rattle.leaves.specs.Noted.{State, Standing, backTo, missedAt, on, stored, Ran, leftOf}
 use Rattle.leaves.proofs.answers.Answer.{the-type}
 use Rattle.leaves.specs.declared.answers.Answer.{Answer}
@@ -28,7 +29,7 @@ Tagged a i j = (tagOf the-type a ≡ i) ⊎ (tagOf the-type a ≡ j)
 -- the answer of a match whose comparison answers r: where that failed, it gives up at the pattern p
 unfoldable pub gives-up : ℕ → Ran → Ran
 gives-up p (ended h b s v) = ended h b s v
-gives-up p (lost l v) = lost (rest (l .words) p) v
+gives-up p (lost l v) = lost (rest (l .words) (noting (l .notes) p)) v
 gives-up p (cut c l v) = cut c l v
 
 module _ (t : List ℕ) (n : ℕ) (w : List ℕ) (m : Standing) (u : ℕ) where

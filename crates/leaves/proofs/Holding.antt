@@ -18,7 +18,9 @@ use Rattle.words.proofs.Tests.{below-or-from}
 use Rattle.checks.specs.Kinds.{ours, variablesBy}
 use Rattle.checks.specs.Good.{number}
 use Rattle.meaning.specs.Bindings.{Bindings, bind, has, masked, unbound}
-use Rattle.leaves.specs.Record.{markAt, missAt, maskAt, markOf, missOf, marking, missing, bitOf, parted, copiedFrom, copied, firstBy, recordLongBy, maskOfBy, wordOfBy, maskingBy, wordingBy, heldBy, boundBy, withoutBy, hiddenBy, keptWordsBy, putBackBy, backBy, FramedBy}
+use Rattle.meaning.specs.Limits.{at}
+use Rattle.index.specs.Run.{lending, noting}
+use Rattle.leaves.specs.Record.{markAt, missAt, roomAt, topAt, nodesAt, maskAt, markOf, missOf, roomOf, topOf, nodesOf, notesOf, standing, lasting, marking, missing, marked as marked-up, bitOf, parted, copiedFrom, copied, firstBy, recordLongBy, maskOfBy, wordOfBy, maskingBy, wordingBy, heldBy, boundBy, withoutBy, hiddenBy, keptWordsBy, putBackBy, backBy, FramedBy}
 use Rattle.meaning.proofs.Bits.{bit-has, has-bit, no-bit-has, has-nothing, has-zero, has-suc, has-and, has-or, has-one, has-not, bit-shift}
 
 -- the word of a variable, where it is bound
@@ -93,6 +95,13 @@ number-parted (suc k) j x st l =
     (word-zero (parted (suc (suc k)) j x st) j ∙ parted-other (suc k) (j + 1) (x / 4294967296) (set st j (x % 4294967296)) j (inl (omega arith)) ∙ getD-set-same st j (x % 4294967296) 0 (omega arith))
     (number-parted k (j + 1) (x / 4294967296) (set st j (x % 4294967296)) (omega (arith, length-set st j (x % 4294967296))))
     ∙ omega arith
+
+-- the control words between the mark and the mask
+notes-same : (st′ st : List ℕ) → ((j : ℕ) → markAt < j → j < maskAt → getD st′ j 0 ≡ getD st j 0) → notesOf st′ ≡ notesOf st
+notes-same st′ st f = λ z. lending (f missAt (omega arith) (omega arith) z) (f roomAt (omega arith) (omega arith) z) (f topAt (omega arith) (omega arith) z) (f nodesAt (omega arith) (omega arith) z)
+
+notes-set : (st : List ℕ) (i x : ℕ) → (i ≤ markAt) ⊎ (maskAt ≤ i) → notesOf (set st i x) ≡ notesOf st
+notes-set st i x h = notes-same (set st i x) st (λ j l m. getD-set-other st i j x 0 (λ e. ⊎-elim (λ z. omega arith) (λ z. omega arith) h))
 
 -- words copied: those of the mask are the other list's, and no others change
 module _ (xs : List ℕ) (a b : ℕ) where
@@ -217,8 +226,8 @@ module _ (n : ℕ) where
     mask-marking : maskOf (marking st x) ≡ maskOf st
     mask-marking = number-other st markAt x (suc n) maskAt (inl (omega arith))
 
-    pub miss-marking : missOf (marking st x) ≡ missOf st
-    miss-marking = getD-set-other st markAt missAt x 0 (λ e. omega arith)
+    pub notes-marking : notesOf (marking st x) ≡ notesOf st
+    notes-marking = notes-set st markAt x (inl (omega arith))
 
     word-marking : (v : ℕ) → wordOf (marking st x) v ≡ wordOf st v
     word-marking v = getD-set-other st markAt (first + v) x 0 (λ e. omega arith)
@@ -226,8 +235,8 @@ module _ (n : ℕ) where
     pub mark-masking : markOf (masking st x) ≡ markOf st
     mark-masking = parted-other (suc n) maskAt x st markAt (inl (omega arith))
 
-    miss-masking : missOf (masking st x) ≡ missOf st
-    miss-masking = parted-other (suc n) maskAt x st missAt (inl (omega arith))
+    notes-masking : notesOf (masking st x) ≡ notesOf st
+    notes-masking = notes-same (masking st x) st (λ j l h. parted-other (suc n) maskAt x st j (inl (omega arith)))
 
     word-masking : (v : ℕ) → wordOf (masking st x) v ≡ wordOf st v
     word-masking v = parted-other (suc n) maskAt x st (first + v) (inr (omega arith))
@@ -235,14 +244,20 @@ module _ (n : ℕ) where
     pub mark-missing : markOf (missing st x) ≡ markOf st
     mark-missing = getD-set-other st missAt markAt x 0 (λ e. omega arith)
 
+    other-missing : (j : ℕ) → missAt < j → getD (missing st x) j 0 ≡ getD st j 0
+    other-missing j l = getD-set-other st missAt j x 0 (λ e. omega arith)
+
+    pub lasting-missing : lasting (missing st x) ≡ lasting st
+    lasting-missing = λ z. at (mark-missing z) (lending 0 (other-missing roomAt (omega arith) z) (other-missing topAt (omega arith) z) (other-missing nodesAt (omega arith) z))
+
     mask-missing : maskOf (missing st x) ≡ maskOf st
     mask-missing = number-other st missAt x (suc n) maskAt (inl (omega arith))
 
     word-missing : (v : ℕ) → wordOf (missing st x) v ≡ wordOf st v
     word-missing v = getD-set-other st missAt (first + v) x 0 (λ e. omega arith)
 
-    miss-wording : (v : ℕ) → missOf (wording st v x) ≡ missOf st
-    miss-wording v = getD-set-other st (first + v) missAt x 0 (λ e. omega arith)
+    notes-wording : (v : ℕ) → notesOf (wording st v x) ≡ notesOf st
+    notes-wording v = notes-set st (first + v) x (inr (omega arith))
 
     mark-wording : (v : ℕ) → markOf (wording st v x) ≡ markOf st
     mark-wording v = getD-set-other st (first + v) markAt x 0 (λ e. omega arith)
@@ -263,6 +278,9 @@ module _ (n : ℕ) where
 
       pub miss-missing : missOf (missing st x) ≡ x
       miss-missing = getD-set-same st missAt x 0 (omega arith)
+
+      pub notes-missing : notesOf (missing st x) ≡ noting (notesOf st) x
+      notes-missing = ap (λ p. noting (notesOf (missing st x)) p) miss-missing ∙ ap (λ m. noting (m .notes) x) lasting-missing
 
       word-wording : (v : ℕ) → v < variables → wordOf (wording st v x) v ≡ x
       word-wording v l = getD-set-same st (first + v) x 0 (omega arith)
@@ -285,6 +303,29 @@ module _ (n : ℕ) where
 
     pub framed-mark : Framed st (marking st x)
     framed-mark = record { long = length-set st markAt x; bound = λ v l h. rw (mask-marking st x) h; word = λ v l h. word-marking st x v }
+
+  -- a new mark, up to which the index holds the nodes
+  module _ (st : List ℕ) (x : ℕ) (long : length st ≡ recordLong) where
+    mask-topped : maskOf (marked-up st x) ≡ maskOf st
+    mask-topped = number-other (marking st x) topAt x (suc n) maskAt (inl (omega arith)) ∙ mask-marking st x
+
+    word-topped : (v : ℕ) → wordOf (marked-up st x) v ≡ wordOf st v
+    word-topped v = getD-set-other (marking st x) topAt (first + v) x 0 (λ e. omega arith) ∙ word-marking st x v
+
+    pub held-topped : held (marked-up st x) ≡ held st
+    held-topped = held-is (marked-up st x) (held st) (λ v l. rw (mask-topped, word-topped v) (sym (held-below st v l))) (λ v l. sym (held-above st v l))
+
+    pub framed-topped : Framed st (marked-up st x)
+    framed-topped = record { long = length-set (marking st x) topAt x ∙ length-set st markAt x; bound = λ v l h. rw mask-topped h; word = λ v l h. word-topped v }
+
+    other-topped : (j : ℕ) → (markAt ≡ j → ⊥) → (topAt ≡ j → ⊥) → getD (marked-up st x) j 0 ≡ getD st j 0
+    other-topped j a b = getD-set-other (marking st x) topAt j x 0 (λ e. b (sym e)) ∙ getD-set-other st markAt j x 0 (λ e. a (sym e))
+
+    pub standing-topped : standing (marked-up st x) ≡ at x (lending (missOf st) (roomOf st) x (nodesOf st))
+    standing-topped = λ z.
+        at
+        ((getD-set-other (marking st x) topAt markAt x 0 (λ e. omega arith) ∙ mark-marking st x long) z)
+        (lending (other-topped missAt (λ e. omega arith) (λ e. omega arith) z) (other-topped roomAt (λ e. omega arith) (λ e. omega arith) z) (getD-set-same (marking st x) topAt x 0 (omega (arith, length-set st markAt x)) z) (other-topped nodesAt (λ e. omega arith) (λ e. omega arith) z))
 
   -- the miss set
   module _ (st : List ℕ) (x : ℕ) where
@@ -313,9 +354,12 @@ module _ (n : ℕ) where
     unfolding boundBy
     mark-bound = mark-masking (wording st v t) (bitOr (maskOf st) (2 ^ v)) ∙ mark-wording st t v
 
-    pub miss-bound : missOf (bound st v t) ≡ missOf st
+    pub notes-bound : notesOf (bound st v t) ≡ notesOf st
     unfolding boundBy
-    miss-bound = miss-masking (wording st v t) (bitOr (maskOf st) (2 ^ v)) ∙ miss-wording st t v
+    notes-bound = notes-masking (wording st v t) (bitOr (maskOf st) (2 ^ v)) ∙ notes-wording st t v
+
+    pub lasting-bound : lasting (bound st v t) ≡ lasting st
+    lasting-bound = λ z. at (mark-bound z) (noting (notes-bound z) 0)
 
     abbrev mask′ : ℕ
     mask′ = bitOr (maskOf st) (2 ^ v)
@@ -359,8 +403,8 @@ module _ (n : ℕ) where
     mark-back = mark-masking marked (maskOf st) ∙ mark-marking st′ (markOf st) long
 
     -- what was noted since stays
-    pub miss-back : missOf (back st st′) ≡ missOf st′
-    miss-back = miss-masking marked (maskOf st) ∙ miss-marking st′ (markOf st)
+    pub notes-back : notesOf (back st st′) ≡ notesOf st′
+    notes-back = notes-masking marked (maskOf st) ∙ notes-marking st′ (markOf st)
 
     pub held-back : Framed st st′ → held (back st st′) ≡ held st
     held-back f = held-mask marked (maskOf st) long-marked (held st) (λ v l. at v l (has (maskOf st) v) refl ∙ sym (held-below st v l)) (λ v l. sym (held-above st v l))
@@ -380,8 +424,8 @@ module _ (n : ℕ) where
     pub mark-hidden : markOf (hidden st m) ≡ markOf st
     mark-hidden = mark-masking st (without (maskOf st) m)
 
-    pub miss-hidden : missOf (hidden st m) ≡ missOf st
-    miss-hidden = miss-masking st (without (maskOf st) m)
+    pub notes-hidden : notesOf (hidden st m) ≡ notesOf st
+    notes-hidden = notes-masking st (without (maskOf st) m)
 
     pub held-hidden : held (hidden st m) ≡ masked m unbound (held st)
     unfolding masked
@@ -470,8 +514,8 @@ module _ (n : ℕ) where
     pub mark-shown : markOf (shown st m st′) ≡ markOf st′
     mark-shown = mark-masking restored mask ∙ restored-control markAt (omega arith) ∙ mark-hidden st′ m long small
 
-    pub miss-shown : missOf (shown st m st′) ≡ missOf st′
-    miss-shown = miss-masking restored mask ∙ restored-control missAt (omega arith) ∙ miss-hidden st′ m long small
+    pub notes-shown : notesOf (shown st m st′) ≡ notesOf st′
+    notes-shown = notes-masking restored mask ∙ notes-same restored (hidden st′ m) (λ j l h. restored-control j (omega arith)) ∙ notes-hidden st′ m long small
 
     pub held-shown : held (shown st m st′) ≡ masked m (held st) (held st′)
     unfolding masked

@@ -3,8 +3,8 @@ pub mod Element
 pub mod AnswerWords
 pub mod Asking
 pub mod Kind
-pub mod Keeping
 pub mod Holding
+pub mod Keeping
 pub mod Children
 pub mod Walking
 pub mod Limited

@@ -18,18 +18,19 @@ use Rattle.meaning.specs.Plan.{ret}
 use Rattle.meaning.specs.Rules.{Visit, match, compare, Do, does, matching, variable, agree, whenAt, walk, zip}
 use Rattle.meaning.specs.Limits.{units, nesting, ended, lost, at, runPlan}
 use Rattle.meaning.specs.Store.{children}
+use Rattle.index.specs.Run.{noting}
 use Rattle.leaves.specs.Noted.{Standing, missedAt, on, Ran, leftOf}
 use Rattle.leaves.specs.declared.answers.Answer.{Answer}
 use Rattle.leaves.specs.declared.answers.Answer.the-variants.{Done, Failed, Cut}
 use Rattle.leaves.specs.Answers.{answerOf, packed, nodeIn, unitsIn, failedWord, unitsWord, nestingWord, stoppedWord}
-use Rattle.leaves.specs.Record.{recordLong, wordOf, markOf, maskOf, missOf, standing, missing, givenUp, bitOf, held, bound, Framed}
+use Rattle.leaves.specs.Record.{recordLong, wordOf, markOf, maskOf, notesOf, standing, missing, givenUp, bitOf, held, bound, Framed, missOf, lasting}
 use Rattle.leaves.specs.Visits.{countOf, agreeing, visit, plan, meaning, out, giving, kept, Pattern, Entries, Matchable, Gives, MatchesChildren}
 use Rattle.leaves.proofs.AnswerWords.{stopped-units, stopped-nesting, answer-stopped, out-done, out-failed, out-answer, kept-done, kept-failed, kept-units, kept-nesting, kept-answer, node-packed, units-packed, packed-again, done-node}
 use Rattle.leaves.proofs.Asking.{Tagged, gives-up, last-match}
 use Rattle.leaves.proofs.Kind.{counted, no-units, no-nesting, pattern-variable, pattern-con}
 use Rattle.leaves.proofs.Keeping.{node-small}
 use Rattle.leaves.proofs.Limited.{units-out, nesting-out}
-use Rattle.leaves.proofs.Holding.{further, framed-refl, framed-trans, framed-bound, held-bound, mark-bound, miss-bound, mark-missing, miss-missing, framed-missing, held-some, held-none}
+use Rattle.leaves.proofs.Holding.{further, framed-refl, framed-trans, framed-bound, held-bound, mark-bound, notes-bound, mark-missing, notes-missing, framed-missing, held-some, held-none, lasting-missing, lasting-bound}
 use Rattle.leaves.proofs.Children.{part-next, part-end}
 use Rattle.leaves.proofs.Walking.{walk-end, walk-done, walk-failed, walk-cut, kept-on, kept-stop, returned, plan-missed}
 use Rattle.leaves.proofs.Patterns.{no-variable, operand-pattern, agree-is, agreed-count}
@@ -81,7 +82,7 @@ module _ (t : List ℕ) (n q x : ℕ) (b : Bindings ℕ) (w : List ℕ) (m : Sta
 
 -- the mark m with what the record notes
 abbrev pub stands : ℕ → List ℕ → Standing
-stands m st = at m (missOf st)
+stands m st = at m (notesOf st)
 
 -- a comparison's answer, and the answer of the match that asked for it: where it failed, the match gives up at q
 module _ (a : Answer) (st : List ℕ) (q : ℕ) where
@@ -94,13 +95,13 @@ module _ (a : Answer) (st : List ℕ) (q : ℕ) where
       go (Failed u) = framed-missing further st q
       go (Cut c) = framed-refl further st
 
-  mark-given-up : markOf (givenUp a st q) ≡ markOf st
+  lasting-given-up : lasting (givenUp a st q) ≡ lasting st
   unfolding givenUp
-  mark-given-up = go a
+  lasting-given-up = go a
     where
-      go : (a : Answer) → markOf (givenUp a st q) ≡ markOf st
+      go : (a : Answer) → lasting (givenUp a st q) ≡ lasting st
       go (Done x u) = refl
-      go (Failed u) = mark-missing further st q
+      go (Failed u) = lasting-missing further st q
       go (Cut c) = refl
 
   giving-up : (x : ℕ) (w : List ℕ) (m : ℕ) → length st ≡ recordLong → giving a x (held (givenUp a st q)) w (stands m (givenUp a st q)) ≡ gives-up q (giving a x (held st) w (stands m st))
@@ -109,7 +110,7 @@ module _ (a : Answer) (st : List ℕ) (q : ℕ) where
     where
       go : (a : Answer) → giving a x (held (givenUp a st q)) w (stands m (givenUp a st q)) ≡ gives-up q (giving a x (held st) w (stands m st))
       go (Done y u) = refl
-      go (Failed u) = rw (miss-missing further st q long)
+      go (Failed u) = rw (notes-missing further st q long)
       go (Cut c) = refl
 
 -- what holds before child i, with the record st and the units u, in what follows the visit of entry p on the node of g: the
@@ -117,10 +118,10 @@ module _ (a : Answer) (st : List ℕ) (q : ℕ) where
 pub record Matched (t w : List ℕ) (n p g : ℕ) (b st : List ℕ) (u i : ℕ) : Type 0 where
   pub goes-on : (m : ℕ) → (gs : List ℕ) × (plan t n (pairs t w p (nodeIn g) i gs (held st)) w (stands m st) u ≡ plan t n (pairs t w p (nodeIn g) 0 [] (held b)) w (stands m b) (unitsIn g))
   pub frame : Framed b st
-  pub mark : markOf st ≡ markOf b
+  pub lasts : lasting st ≡ lasting b
 
 pub matched-none : (t w : List ℕ) (n p g : ℕ) (b : List ℕ) → Matched t w n p g b b (unitsIn g) 0
-matched-none t w n p g b = record { goes-on = λ m. ([], refl); frame = framed-refl further b; mark = refl }
+matched-none t w n p g b = record { goes-on = λ m. ([], refl); frame = framed-refl further b; lasts = refl }
 
 -- the same at values that are equal
 pub matched-at : (t w : List ℕ) (n p g : ℕ) (b st st′ : List ℕ) (u u′ i : ℕ) → st′ ≡ st → u′ ≡ u → u < 4294967296 → Matched t w n p g b st u i → (u′ < 4294967296) × Matched t w n p g b st′ u′ i
@@ -140,7 +141,7 @@ matched-end t w n p g b st u i r c h e = record {
       ∙ sym (walk-end t n w (stands m st) u (c .goes-on m .0) (held st) _ _ (rw (part-end t p (operandCount t p) i (omega arith))) ∙ returned t n w (stands m st) u (nodeIn g) (held st))
       ∙ c .goes-on m .1;
   frame = c .frame;
-  mark = c .mark;
+  lasts = c .lasts;
 }
 
 pub matched-all : (t w : List ℕ) (n p g : ℕ) (b st : List ℕ) (u i r : ℕ) → Matched t w n p g b st u i → operandCount t p ≤ i → r ≡ packed 0 u → u < 4294967296 → MatchesChildren t w n p g b r st
@@ -186,8 +187,8 @@ module _ {t w : List ℕ} {n p g : ℕ} {b st : List ℕ} {u i q x : ℕ} (c : T
       ∙ c .so-far .goes-on m .1
 
   -- its visit does not succeed, and the word r says so, with the record st′
-  from-here : (r : ℕ) (st′ : List ℕ) → Framed st st′ → markOf st′ ≡ markOf st → ((m : ℕ) → kept r (nodeIn g) (held st′) w (stands m st′) ≡ plan t n (walk (match q x ∷ rest) (before m) (held st) (λ gs b′. ret (nodeIn g) b′)) w (stands m st) u) → MatchesChildren t w n p g b r st′
-  from-here r st′ f k e = record { is = λ m. e m ∙ next m; frame = framed-trans further b st st′ (c .so-far .frame) f; mark = k ∙ c .so-far .mark }
+  from-here : (r : ℕ) (st′ : List ℕ) → Framed st st′ → lasting st′ ≡ lasting st → ((m : ℕ) → kept r (nodeIn g) (held st′) w (stands m st′) ≡ plan t n (walk (match q x ∷ rest) (before m) (held st) (λ gs b′. ret (nodeIn g) b′)) w (stands m st) u) → MatchesChildren t w n p g b r st′
+  from-here r st′ f k e = record { is = λ m. e m ∙ next m; frame = framed-trans further b st st′ (c .so-far .frame) f; lasts = k ∙ c .so-far .lasts }
 
   pub child-units : {r : ℕ} → r ≡ unitsWord → u ≡ 0 → MatchesChildren t w n p g b r st
   child-units {r} e z =
@@ -215,24 +216,24 @@ module _ {t w : List ℕ} {n p g : ℕ} {b st : List ℕ} {u i q x : ℕ} (c : T
     less = let l : u < 4294967296 = c .few in omega arith
 
     -- it succeeds with the record st′
-    ended-by : (st′ : List ℕ) (v : ℕ) → Framed st st′ → markOf st′ ≡ markOf st → ((m : ℕ) → visit t n (match q x (held st)) w (stands m st) u ≡ ended x (held st′) (on w (stands m st′)) v) → Matched t w n p g b st′ v (i + 1)
+    ended-by : (st′ : List ℕ) (v : ℕ) → Framed st st′ → lasting st′ ≡ lasting st → ((m : ℕ) → visit t n (match q x (held st)) w (stands m st) u ≡ ended x (held st′) (on w (stands m st′)) v) → Matched t w n p g b st′ v (i + 1)
     ended-by st′ v f k e = record {
       goes-on = λ m. (before m ++ (x ∷ []), sym (walk-done t n w (stands m st) u (before m) (held st) _ (match q x) rest x (stands m st′) v w (held st′) (e m)) ∙ next m);
       frame = framed-trans further b st st′ (c .so-far .frame) f;
-      mark = k ∙ c .so-far .mark;
+      lasts = k ∙ c .so-far .lasts;
     }
 
     -- its answer's word r, read as a, with the record st′
-    module _ (r : ℕ) (st′ : List ℕ) (f : Framed st st′) (k : markOf st′ ≡ markOf st) (is : (m : ℕ) → kept r x (held st′) w (stands m st′) ≡ visit t n (match q x (held st)) w (stands m st) u) (a : Answer) (read : a ≡ answerOf r) where
+    module _ (r : ℕ) (st′ : List ℕ) (f : Framed st st′) (k : lasting st′ ≡ lasting st) (is : (m : ℕ) → kept r x (held st′) w (stands m st′) ≡ visit t n (match q x (held st)) w (stands m st) u) (a : Answer) (read : a ≡ answerOf r) where
       answered : (y v : ℕ) → a ≡ Done y v → Matched t w n p g b st′ v (i + 1)
       answered y v e = record {
         goes-on = λ m. (before m ++ (x ∷ []), sym (kept-on t n w (stands m st) u (before m) (held st) _ (match q x) rest r x (held st′) (stands m st′) (is m) a read y v e) ∙ next m);
         frame = framed-trans further b st st′ (c .so-far .frame) f;
-        mark = k ∙ c .so-far .mark;
+        lasts = k ∙ c .so-far .lasts;
       }
 
       -- the notes of a record c at return are those of st′
-      stopped-with : (c′ : List ℕ) → Framed st c′ → markOf c′ ≡ markOf st → missOf c′ ≡ missOf st′ → Tagged a 1 2 → MatchesChildren t w n p g b r c′
+      stopped-with : (c′ : List ℕ) → Framed st c′ → lasting c′ ≡ lasting st → notesOf c′ ≡ notesOf st′ → Tagged a 1 2 → MatchesChildren t w n p g b r c′
       stopped-with c′ g′ k′ j e =
           from-here r c′ g′ k′ (λ m.
           ap (λ z. kept r (nodeIn g) (held c′) w (at m z)) j
@@ -243,15 +244,17 @@ module _ {t w : List ℕ} {n p g : ℕ} {b st : List ℕ} {u i q x : ℕ} (c : T
 
       -- the same with the record as it was, but for the miss
       refused : length st ≡ recordLong → Tagged a 1 2 → MatchesChildren t w n p g b r (missing st (missOf st′))
-      refused long e = stopped-with (missing st (missOf st′)) (framed-missing further st (missOf st′)) (mark-missing further st (missOf st′)) (miss-missing further st (missOf st′) long) e
+      refused long e =
+          stopped-with (missing st (missOf st′)) (framed-missing further st (missOf st′)) (lasting-missing further st (missOf st′))
+          (notes-missing further st (missOf st′) long ∙ ap (λ m. noting (m .notes) (missOf st′)) (sym k)) e
 
     -- a variable
     module _ {v : ℕ} (kind : kindOf t q ≡ 18) (ve : v ≡ argumentOf t q) where
       pub free-matched : {st′ : List ℕ} → length st ≡ recordLong → (bitOf (maskOf st) v ≡ 1 → ⊥) → st′ ≡ bound st v x → Matched t w n p g b st′ (u - 1) (i + 1)
       free-matched long e s =
           let l : v < variables = variable-small kind ve in
-          rw s (ended-by (bound st v x) (u - 1) (framed-bound further st v x l long e) (mark-bound further st v x l)
-          (λ m. variable-free t n q x (held st) w (stands m st) u z d v kind ve (held-none further st v e) ∙ rw (held-bound further st v x l long, miss-bound further st v x l)))
+          rw s (ended-by (bound st v x) (u - 1) (framed-bound further st v x l long e) (lasting-bound further st v x l)
+          (λ m. variable-free t n q x (held st) w (stands m st) u z d v kind ve (held-none further st v e) ∙ rw (held-bound further st v x l long, notes-bound further st v x l)))
 
       -- a bound one: the comparison's word r
       module _ (long : length st ≡ recordLong) (e : bitOf (maskOf st) v ≡ 1) {y : ℕ} (ye : y ≡ wordOf st v) (r : ℕ) (is : (m : Standing) → kept r x (held st) w m ≡ visit t (n - 1) (compare y x (held st)) w m (u - 1)) (a : Answer) (read : a ≡ answerOf r) where
@@ -264,19 +267,19 @@ module _ {t w : List ℕ} {n p g : ℕ} {b st : List ℕ} {u i q x : ℕ} (c : T
 
         pub bound-matched : (j k : ℕ) → a ≡ Done j k → Matched t w n p g b st k (i + 1)
         unfolding givenUp
-        bound-matched j k f = subst (λ a. Matched t w n p g b (givenUp a st q) k (i + 1)) f (answered r (givenUp a st q) (framed-given-up a st q) (mark-given-up a st q) compared a read j k f)
+        bound-matched j k f = subst (λ a. Matched t w n p g b (givenUp a st q) k (i + 1)) f (answered r (givenUp a st q) (framed-given-up a st q) (lasting-given-up a st q) compared a read j k f)
 
         pub bound-stops : {st′ : List ℕ} → st′ ≡ givenUp (answerOf r) st q → Tagged a 1 2 → MatchesChildren t w n p g b r st′
-        bound-stops s f = rw (s ∙ ap (λ a. givenUp a st q) (sym read)) (stopped r (givenUp a st q) (framed-given-up a st q) (mark-given-up a st q) compared a read f)
+        bound-stops s f = rw (s ∙ ap (λ a. givenUp a st q) (sym read)) (stopped r (givenUp a st q) (framed-given-up a st q) (lasting-given-up a st q) compared a read f)
 
     -- a constructor
     module _ (kind : kindOf t q ≡ 19) where
       pub other : {r : ℕ} → length st ≡ recordLong → r ≡ failedWord (u - 1) → agreeing t w q x ≡ false → MatchesChildren t w n p g b r (missing st q)
       other {r} long e f =
-          from-here r (missing st q) (framed-missing further st q) (mark-missing further st q) (λ m.
+          from-here r (missing st q) (framed-missing further st q) (lasting-missing further st q) (λ m.
           ap (λ r. kept r (nodeIn g) (held (missing st q)) w (stands m (missing st q))) e
           ∙ kept-failed w w (nodeIn g) (held (missing st q)) (stands m (missing st q)) (u - 1) less
-          ∙ rw (miss-missing further st q long) (sym (walk-failed t n w (stands m st) u (before m) (held st) _ (match q x) rest (u - 1) w (missedAt q (stands m st)) (differs t n q x (held st) w (stands m st) u z d (c .entries) (operand-is .0) kind f))))
+          ∙ rw (notes-missing further st q long) (sym (walk-failed t n w (stands m st) u (before m) (held st) _ (match q x) rest (u - 1) w (missedAt q (stands m st)) (differs t n q x (held st) w (stands m st) u z d (c .entries) (operand-is .0) kind f))))
 
       module _ (e : agreeing t w q x ≡ true) where
         pub leaf-matched : operandCount t q ≡ 0 → Matched t w n p g b st (u - 1) (i + 1)
@@ -299,13 +302,13 @@ module _ {t w : List ℕ} {n p g : ℕ} {b st : List ℕ} {u i q x : ℕ} (c : T
             child-matched m = (rw (node-handed, units-handed) at (f .is m)) ∙ sym (agrees t n q x (held st) w (stands m st) u z d (c .entries) (operand-is .0) kind e)
 
             pub inner-matched : (y k : ℕ) → a ≡ Done y k → Matched t w n p g b st′ k (i + 1)
-            inner-matched y k j = answered r st′ (f .frame) (f .mark) child-matched a read y k j
+            inner-matched y k j = answered r st′ (f .frame) (f .lasts) child-matched a read y k j
 
             pub inner-stops : Tagged a 1 2 → MatchesChildren t w n p g b r st′
-            inner-stops j = stopped r st′ (f .frame) (f .mark) child-matched a read j
+            inner-stops j = stopped r st′ (f .frame) (f .lasts) child-matched a read j
 
             pub inner-refused : length st ≡ recordLong → Tagged a 1 2 → MatchesChildren t w n p g b r (missing st (missOf st′))
-            inner-refused long j = refused r st′ (f .frame) (f .mark) child-matched a read long j
+            inner-refused long j = refused r st′ (f .frame) (f .lasts) child-matched a read long j
 
           -- the last child's: what answers them answers all
           pub last-fits : i + 1 ≡ operandCount t p → (r : ℕ) (st′ : List ℕ) → MatchesChildren t w (n - 1) q s st r st′ → MatchesChildren t w n p g b r st′
@@ -475,7 +478,7 @@ module _ {t w st : List ℕ} {p g : ℕ} (c : Matchable t w st p g) (n : ℕ) wh
       pub root-free : {st′ : List ℕ} → (bitOf (maskOf st) v ≡ 1 → ⊥) → st′ ≡ bound st v (nodeIn g) → Gives root st (g - 1) st′ w
       root-free e s =
           rw s (ended-root (g - 1) (unitsIn g - 1) (bound st v (nodeIn g)) one-less (omega arith) (mark-bound further st v (nodeIn g) root-small) (framed-bound further st v (nodeIn g) root-small (c .long) e)
-          (variable-free t n p (nodeIn g) (held st) w (standing st) (unitsIn g) z d v kind ve (held-none further st v e) ∙ rw (held-bound further st v (nodeIn g) root-small (c .long), miss-bound further st v (nodeIn g) root-small)))
+          (variable-free t n p (nodeIn g) (held st) w (standing st) (unitsIn g) z d v kind ve (held-none further st v e) ∙ rw (held-bound further st v (nodeIn g) root-small (c .long), notes-bound further st v (nodeIn g) root-small)))
 
       module _ (e : bitOf (maskOf st) v ≡ 1) {y : ℕ} (ye : y ≡ wordOf st v) (r : ℕ) (is : kept r (nodeIn g) (held st) w (standing st) ≡ visit t (n - 1) (compare y (nodeIn g) (held st)) w (standing st) (unitsIn g - 1)) (a : Answer) (read : a ≡ answerOf r) where
         root-compared : kept r (nodeIn g) (held (givenUp a st p)) w (stands (markOf st) (givenUp a st p)) ≡ root
@@ -501,7 +504,7 @@ module _ {t w st : List ℕ} {p g : ℕ} (c : Matchable t w st p g) (n : ℕ) wh
         is =
             ap (λ r. out r (missing st p) w) e
             ∙ out-failed (missing st p) w (unitsIn g - 1) (omega arith)
-            ∙ rw (miss-missing further st p (c .long)) (sym (differs t n p (nodeIn g) (held st) w (standing st) (unitsIn g) z d (c .entries) (c .inside) kind f));
+            ∙ rw (notes-missing further st p (c .long)) (sym (differs t n p (nodeIn g) (held st) w (standing st) (unitsIn g) z d (c .entries) (c .inside) kind f));
         frame = framed-missing further st p;
       }
 
@@ -526,7 +529,7 @@ module _ {t w st : List ℕ} {p g : ℕ} (c : Matchable t w st p g) (n : ℕ) wh
 
           pub root-matched : (y k r′ : ℕ) → a ≡ Done y k → r′ ≡ packed (nodeIn g) k → Gives root st r′ st′ w
           root-matched y k r′ h s =
-              ended-root r′ k st′ s (omega (arith, done-node r y k (sym read ∙ h))) (f .mark) (f .frame)
+              ended-root r′ k st′ s (omega (arith, done-node r y k (sym read ∙ h))) (ap (λ m. m .mark) (f .lasts)) (f .frame)
               (sym root-answered ∙ kept-is w r (nodeIn g) (held st′) (stands (markOf st) st′) a read y k h)
 
         -- no nesting is left for them

@@ -1,5 +1,5 @@
--- The run's one record as words: control words, which are the mark, the pattern at which a match gave up last and the words of the mask of
--- the bound variables, and then a node for each variable. Only the words of bound variables are of account, so a failure is caught by
+-- The run's one record as words: control words, which are the mark, the pattern at which a match gave up last, the room, the nodes that an
+-- index holds, the store's nodes and the words of the mask of the bound variables, and then a node for each variable. Only the words of bound variables are of account, so a failure is caught by
 -- putting mark and mask back.
 --
 -- The mask has W words, of 32 variables each, as a scope's has; the product's own W is `ours` (checks/specs/Kinds).
@@ -18,6 +18,7 @@ use Rattle.meaning.specs.Bindings.{Bindings, has}
 use Rattle.meaning.specs.Limits.{at}
 use Rattle.leaves.specs.declared.answers.Answer.{Answer}
 use Rattle.leaves.specs.declared.answers.Answer.the-variants.{Done, Failed, Cut}
+use Rattle.index.specs.Run.{Lending, lending, noting}
 use Rattle.leaves.specs.Noted.{Standing}
 
 -- where the control words stand, and where the words of the mask begin
@@ -27,8 +28,17 @@ markAt = 0
 abbrev pub missAt : ℕ
 missAt = 1
 
+abbrev pub roomAt : ℕ
+roomAt = 2
+
+abbrev pub topAt : ℕ
+topAt = 3
+
+abbrev pub nodesAt : ℕ
+nodesAt = 4
+
 abbrev pub maskAt : ℕ
-maskAt = 2
+maskAt = 5
 
 -- the mark, and the pattern at which a match gave up last
 abbrev pub markOf : List ℕ → ℕ
@@ -37,9 +47,25 @@ markOf st = getD st markAt 0
 abbrev pub missOf : List ℕ → ℕ
 missOf st = getD st missAt 0
 
--- what a run has beside the store's words and the bindings
+-- the room, the nodes that an index holds, the store's nodes
+abbrev pub roomOf : List ℕ → ℕ
+roomOf st = getD st roomAt 0
+
+abbrev pub topOf : List ℕ → ℕ
+topOf st = getD st topAt 0
+
+abbrev pub nodesOf : List ℕ → ℕ
+nodesOf st = getD st nodesAt 0
+
+abbrev pub notesOf : List ℕ → Lending ℕ
+notesOf st = lending (missOf st) (roomOf st) (topOf st) (nodesOf st)
+
+-- what a run has beside the store's words and the bindings; and all of it but the miss
 abbrev pub standing : List ℕ → Standing
-standing st = at (markOf st) (missOf st)
+standing st = at (markOf st) (notesOf st)
+
+abbrev pub lasting : List ℕ → Standing
+lasting st = at (markOf st) (noting (notesOf st) 0)
 
 -- the record with another mark, another miss
 abbrev pub marking : List ℕ → ℕ → List ℕ
@@ -47,6 +73,10 @@ marking st x = set st markAt x
 
 abbrev pub missing : List ℕ → ℕ → List ℕ
 missing st p = set st missAt p
+
+-- the record with a new mark, up to which the index holds the nodes
+abbrev pub marked : List ℕ → ℕ → List ℕ
+marked st x = set (set st markAt x) topAt x
 
 -- the record after a comparison's answer: where it failed, a match gives up at the pattern p
 unfoldable pub givenUp : Answer → List ℕ → ℕ → List ℕ

@@ -4,10 +4,10 @@ use mathlib.Core.Bool.{Bool, true, _&&_}
 use mathlib.Core.Option.{some}
 use mathlib.Core.Logic.{_⊎_}
 use mathlib.Core.List.{List, [], _∷_}
-use Prim.Native.Nat.{ℕ, _+_, _-_, _%_, _≤_, _<_, min}
-use lib.Dec.{eqb, leb, ltb}
+use Prim.Native.Nat.{ℕ, _+_, _%_, _≤_, _<_, min}
+use lib.Dec.{eqb, ltb}
 use lib.ListN.{length}
-use Rattle.words.specs.Words.{wordAt, rows, putRow}
+use Rattle.words.specs.Words.{wordAt}
 use Rattle.words.specs.Tests.{if_then_else_}
 use Rattle.checks.specs.Kinds.{ours, variables, operandsFromBy}
 use Rattle.checks.specs.Good.{kindOf, operandCount, argumentOf, goodNode}
@@ -17,11 +17,13 @@ use Rattle.meaning.specs.Plan.{ret}
 use Rattle.meaning.specs.Rules.{Visit, build, compare, match, Do, does, strategy, walk, zip}
 use Rattle.meaning.specs.Limits.{Limit, units, room, nesting, unbound, ended, lost, cut, at, run, runPlan, roomFor}
 use Rattle.meaning.specs.Store.{children}
+use Rattle.meaning.specs.Shared.{nodeWith}
+use Rattle.index.specs.Run.{Fits, fullBy, numberBy, stateBy}
 use Rattle.leaves.specs.Noted.{Standing, on, stored, Ran, leftOf}
 use Rattle.leaves.specs.declared.answers.Answer.{Answer}
 use Rattle.leaves.specs.declared.answers.Answer.the-variants.{Done, Failed, Cut}
 use Rattle.leaves.specs.Answers.{answerOf, nodeIn, unitsIn, unitsHalf, roomHalf}
-use Rattle.leaves.specs.Record.{recordLong, markOf, missOf, standing, held, Framed}
+use Rattle.leaves.specs.Record.{recordLong, markOf, roomOf, nodesOf, notesOf, standing, lasting, held, Framed}
 
 -- a node's child count, read as at most 6; its eight words
 abbrev pub countOf : List ℕ → ℕ → ℕ
@@ -91,27 +93,19 @@ pub record Entries (t : List ℕ) : Type 0 where
   pub built : (e : ℕ) → e < 4096 → kindOf t e ≡ 15 → Pattern t (wordAt t e 2)
   pub parts : (e i : ℕ) → e < 4096 → kindOf t e ≡ 19 → i < operandCount t e → Pattern t (wordAt t e (2 + i))
 
--- the store has whole nodes, at most 131,072, of which m are in use, each of them good; the bindings lie below the mark
-pub record Steady (w : List ℕ) (m : ℕ) (b : Bindings ℕ) : Type 0 where
-  pub nodes : length w % 8 ≡ 0
-  pub small : length w ≤ 1048576
-  pub used : 0 < m
-  pub fits : m ≤ rows w
-  pub good : (j : ℕ) → j < m → goodNode w j ≡ true
-  pub bound : (v j : ℕ) → b v ≡ some j → j < m
-
--- the store has whole nodes, at most 131,072, and at most these are in use
-pub record Roomy (w : List ℕ) (m : ℕ) : Type 0 where
-  pub nodes : length w % 8 ≡ 0
-  pub small : length w ≤ 1048576
-  pub fits : m ≤ rows w
+-- what is lent fits the room; some nodes are in use, each of them good; the bindings lie below the mark
+pub record Steady (w : List ℕ) (m : Standing) (b : Bindings ℕ) : Type 0 where
+  pub fits : Fits w (m .mark) (m .notes)
+  pub used : 0 < m .mark
+  pub good : (j : ℕ) → j < m .mark → goodNode w j ≡ true
+  pub bound : (v j : ℕ) → b v ≡ some j → j < m .mark
 
 -- what a MATCH of entry p requires: the node and the units are in the word g
 pub record Matchable (t w st : List ℕ) (p g : ℕ) : Type 0 where
   pub entries : Entries t
   pub long : length st ≡ recordLong
   pub inside : p < 4096
-  pub steady : Steady w (markOf st) (held st)
+  pub steady : Steady w (standing st) (held st)
   pub subject : nodeIn g < markOf st
 
 -- the answer r, with the record and the store at return, is o; and the words of the variables bound before are as they were
@@ -121,7 +115,7 @@ pub record Gives (o : Ran) (st : List ℕ) (r : ℕ) (st′ w′ : List ℕ) : T
 
 -- what BUILD of entry p requires, and what it gives, whatever the subject
 abbrev pub Buildable : (t w st : List ℕ) (p : ℕ) → Type 0
-Buildable t w st p = Entries t × (p < 4096) × Pattern t p × Steady w (markOf st) (held st) × (length st ≡ recordLong)
+Buildable t w st p = Entries t × (p < 4096) × Pattern t p × Steady w (standing st) (held st) × (length st ≡ recordLong)
 
 abbrev pub Builds : (t w st : List ℕ) (p u d r : ℕ) → (st′ w′ : List ℕ) → Type 0
 Builds t w st p u d r st′ w′ = (k : ℕ) → Gives (visit t d (build p k (held st)) w (standing st) u) st r st′ w′
@@ -137,10 +131,13 @@ Agreed t w p g d = Entries t × (p < 4096) × (kindOf t p ≡ 19) × (agreeing t
 -- what follows a MATCH of entry p on node k, whose constructor and count agree, whatever the mark: the record is b before
 -- and c after, and its mark is as it was
 pub record MatchesChildren (t w : List ℕ) (n p g : ℕ) (b : List ℕ) (r : ℕ) (c : List ℕ) : Type 0 where
-  pub is : (m : ℕ) → kept r (nodeIn g) (held c) w (at m (missOf c)) ≡ plan t n (walk (zip match (operands t p) (children w (nodeIn g))) [] (held b) (λ gs b′. ret (nodeIn g) b′)) w (at m (missOf b)) (unitsIn g)
+  pub is : (m : ℕ) → kept r (nodeIn g) (held c) w (at m (notesOf c)) ≡ plan t n (walk (zip match (operands t p) (children w (nodeIn g))) [] (held b) (λ gs b′. ret (nodeIn g) b′)) w (at m (notesOf b)) (unitsIn g)
   pub frame : Framed b c
-  pub mark : markOf c ≡ markOf b
+  pub lasts : lasting c ≡ lasting b
 
--- a new node of these eight words
+-- a new node of these eight words; with an index, the node that stands with them
 unfoldable pub noded : List ℕ → List ℕ → List ℕ → ℕ → Ran
-noded made st w u = roomFor (leb (rows w) (markOf st)) (leftOf w (standing st)) u (ended (markOf st) (held st) (on (putRow w (markOf st) made) (at (markOf st + 1) (missOf st))) u)
+noded made st w u =
+    let found = nodeWith w made (markOf st) in
+    roomFor (fullBy (roomOf st) found (nodesOf st) (markOf st)) (leftOf w (standing st)) u
+    (ended (numberBy (roomOf st) found (markOf st)) (held st) (stateBy (roomOf st) found (on w (standing st)) made) u)

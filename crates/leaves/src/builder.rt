@@ -10,25 +10,65 @@ use crate::reading::entry;
 use crate::reading::kind;
 use crate::reading::operands;
 use crate::record::MARK;
+use crate::record::NODES;
 use crate::record::RECORD;
+use crate::record::ROOM;
+use crate::record::TOP;
 use crate::record::bit;
 use crate::record::word_of;
 use checks::kinds::PVAR;
+use index::lent::Node;
+use index::lent::ask;
 use words::put_row;
 ghost use mathlib.Core.Path.{_≡_};
-ghost use Prim.Native.Nat.{_<_};
+ghost use Prim.Native.Nat.{_<_, _≤_};
 ghost use lib.ListN.{length};
-ghost use Rattle.leaves.specs.Record.{markOf, recordLong};
-ghost use Rattle.leaves.specs.Visits.{noded, Roomy, Gives, Buildable, Builds};
+ghost use Rattle.index.specs.Run.{Fits};
+ghost use Rattle.leaves.specs.Record.{markOf, roomOf, notesOf, recordLong};
+ghost use Rattle.leaves.specs.Visits.{noded, Gives, Buildable, Builds};
+
+// The node of these eight words where the room does not let it be made at once: there is none, or the index is asked.
+fn node_asked(store: &mut [u32], st: &mut [u32; RECORD], made: [u32; 8], left: u32) -> u64
+    requires { ⌜ Fits (now store) (markOf (now st)) (notesOf (now st)) × (length (now st) ≡ recordLong) × (roomOf (now st) ≤ markOf (now st)) ⌝ }
+    ensures { λ r. ⌜ Gives (noded made (now (st .entry)) (now (store .entry)) left) (now (st .entry)) r (now (st .exit)) (now (store .exit)) ⌝ }
+{
+    if st[ROOM] != 0 {
+        return no_room(left);
+    }
+    let n = st[NODES];
+    let k = st[MARK];
+    let top = st[TOP];
+    let a = ask(store, n, k, top, made);
+    match a {
+        Node::Stands(x) => done(x, left),
+        Node::Full => no_room(left),
+        Node::Made(x) => {
+            st[MARK] = x + 1;
+            st[TOP] = x + 1;
+            done(x, left)
+        }
+    }
+}
 
 // The node of these eight words at the mark; no room where the mark equals the store's nodes.
 pub fn node(store: &mut [u32], st: &mut [u32; RECORD], made: [u32; 8], left: u32) -> u64
-    requires { ⌜ Roomy (now store) (markOf (now st)) × (length (now st) ≡ recordLong) ⌝ }
+    requires { ⌜ Fits (now store) (markOf (now st)) (notesOf (now st)) × (length (now st) ≡ recordLong) ⌝ }
     ensures { λ r. ⌜ Gives (noded made (now (st .entry)) (now (store .entry)) left) (now (st .entry)) r (now (st .exit)) (now (store .exit)) ⌝ }
 {
     let k = st[MARK];
-    if store.len() < 8 * (k as usize) + 8 {
-        return no_room(left);
+    if st[ROOM] <= k {
+        // A fresh copy, so that the row itself stays in registers.
+        let row = [
+            made[0],
+            made[1],
+            made[2],
+            made[3],
+            made[4],
+            made[5],
+            made[6],
+            made[7],
+        ];
+        return node_asked(store, st, row, left);
     }
     put_row(store, k, made);
     st[MARK] = k + 1;
@@ -72,6 +112,10 @@ pub fn build(
         made[2 + (i as usize)] = x;
         left = rest;
         i += 1;
+    }
+    // The row is in memory already, so the index gets the row itself.
+    if st[ROOM] <= st[MARK] {
+        return node_asked(store, st, made, left);
     }
     node(store, st, made, left)
 }

@@ -1,6 +1,7 @@
 // The run's one record: control words, and then a node for each variable. The control words are the mark, the pattern at which a
-// match gave up last, and the mask of the variables that are bound, in two words, the low one first. The word of an unbound variable
-// means nothing. Where the mask stands and how it is set is known here alone; elsewhere it is one number.
+// match gave up last, the room, the nodes that an index holds, the store's nodes, and the mask of the variables that are bound, in two
+// words, the low one first. The word of an unbound variable means nothing. Where the mask stands and how it is set is known here alone;
+// elsewhere it is one number.
 use crate::answers::Answer;
 use crate::answers::HALF;
 use crate::answers::answer_of;
@@ -18,13 +19,21 @@ pub const MARK: usize = 0;
 
 pub const MISS: usize = 1;
 
-// The mask's low word, and its high one.
-const MASK: usize = 2;
+// The room: the store's nodes, or 0 where every node is asked for by the index.
+pub const ROOM: usize = 2;
 
-const MASK_HIGH: usize = 3;
+// With an index: the nodes that it holds, which are those below TOP, and the store's nodes.
+pub const TOP: usize = 3;
+
+pub const NODES: usize = 4;
+
+// The mask's low word, and its high one.
+const MASK: usize = 5;
+
+const MASK_HIGH: usize = 6;
 
 // Where the words of the variables begin, and the record's words in all.
-pub const FIRST: usize = 4;
+pub const FIRST: usize = 7;
 
 pub const RECORD: usize = FIRST + VARIABLES;
 

@@ -19,9 +19,12 @@ use Rattle.words.proofs.Tests.{below-or-from}
 use Rattle.meaning.specs.Bindings.{Bindings, bind}
 use Rattle.meaning.specs.Store.{named, bindings}
 use Rattle.meaning.specs.Answer.{bindingWord, bindingWords}
-use Rattle.leaves.specs.Record.{markAt, recordLong, markOf, maskOf, wordOf, marking, bitOf, held, bound}
+use Rattle.meaning.specs.Limits.{at}
+use Rattle.index.specs.Run.{lending}
+use Rattle.leaves.specs.Noted.{Standing}
+use Rattle.leaves.specs.Record.{markAt, recordLong, maskOf, wordOf, bitOf, held, bound, roomAt, topAt, nodesAt, standing}
 use Rattle.meaning.proofs.Bits.{bit-has, has-nothing}
-use Rattle.leaves.proofs.Holding.{further, held-some, held-none, held-mark, held-bound, length-bound, mark-bound, mark-marking}
+use Rattle.leaves.proofs.Holding.{further, held-some, held-none, held-bound, length-bound, mark-bound, notes-bound}
 use Rattle.calls.proofs.Words.{with-next, length-words, word-of}
 use Rattle.loading.specs.Loaded.{Hints, given, Loaded, Opened}
 
@@ -108,10 +111,10 @@ module _ (t c : List ℕ) (e x n : ℕ) (l : Loaded t c) (m : 8 * e < 32768) whe
 
 -- ---- the bindings, in
 
--- the record st holds the bindings of the first i words of b, and the mark m
-pub record Filled (b : List ℕ) (m : ℕ) (st : List ℕ) (i : ℕ) : Type 0 where
+-- the record st holds the bindings of the first i words of b, and stands as n
+pub record Filled (b : List ℕ) (n : Standing) (st : List ℕ) (i : ℕ) : Type 0 where
   pub long : length st ≡ recordLong
-  pub mark : markOf st ≡ m
+  pub stands : standing st ≡ n
   pub before : (v : ℕ) → v < i → held st v ≡ bindings b v
   pub after : (v : ℕ) → i ≤ v → held st v ≡ none
 
@@ -121,22 +124,22 @@ held-nothing st e v =
     held-none further st v (λ z. true≢false (sym (bit-has 0 v (subst (λ (m : ℕ). bitOf m v ≡ 1) e z)) ∙ has-nothing v))
 
 -- At first none is held.
-pub filled-none : (b : List ℕ) (m : ℕ) → Filled b m (marking (replicate recordLong 0) m) 0
+pub filled-none : (b : List ℕ) (m room top nodes : ℕ) → Filled b (at m (lending 0 room top nodes)) (set (set (set (set (replicate recordLong 0) markAt m) roomAt room) topAt top) nodesAt nodes) 0
 unfolding number
-filled-none b m = record {
-  long = length-set (replicate recordLong 0) markAt m;
-  mark = mark-marking further (replicate recordLong 0) m refl;
+filled-none b m room top nodes = record {
+  long = refl;
+  stands = refl;
   before = λ v l. absurd (omega arith);
-  after = λ v l. ap (λ (h : Bindings ℕ). h v) (held-mark further (replicate recordLong 0) m) ∙ held-nothing (replicate recordLong 0) refl v;
+  after = λ v l. held-nothing (set (set (set (set (replicate recordLong 0) markAt m) roomAt room) topAt top) nodesAt nodes) refl v;
 }
 
-module _ (b : List ℕ) (m : ℕ) (st : List ℕ) (i : ℕ) (p : Filled b m st i) where
+module _ (b : List ℕ) (m : Standing) (st : List ℕ) (i : ℕ) (p : Filled b m st i) where
   -- Word i is zero: its variable is unbound.
   pub filled-skip : getD b i 0 ≡ 0 → Filled b m st (i + 1)
   unfolding bindings named
   filled-skip e = record {
     long = p .long;
-    mark = p .mark;
+    stands = p .stands;
     before = with-next (λ v. held st v ≡ bindings b v) i (p .before) (p .after i (omega arith) ∙ rw e);
     after = λ v l. p .after v (omega arith);
   }
@@ -146,7 +149,7 @@ module _ (b : List ℕ) (m : ℕ) (st : List ℕ) (i : ℕ) (p : Filled b m st i
   unfolding bind bindings named
   filled-bind w e n l = record {
     long = length-bound further st i (w - 1) l ∙ p .long;
-    mark = mark-bound further st i (w - 1) l ∙ p .mark;
+    stands = (λ z. at (mark-bound further st i (w - 1) l z) (notes-bound further st i (w - 1) l z)) ∙ p .stands;
     before =
         with-next (λ v. held (bound st i (w - 1)) v ≡ bindings b v) i
         (λ v k. other v (λ z. omega arith) ∙ p .before v k)
@@ -165,11 +168,11 @@ module _ (b : List ℕ) (m : ℕ) (st : List ℕ) (i : ℕ) (p : Filled b m st i
       name (suc k) e n = rw (← e) (ap some (omega arith))
 
 -- Past the last variable there are no words.
-pub filled-all : (b : List ℕ) (m : ℕ) (st : List ℕ) (i : ℕ) → Filled b m st i → length b ≡ variables → variables ≤ i → Opened b m st
+pub filled-all : (b : List ℕ) (m room top nodes : ℕ) (st : List ℕ) (i : ℕ) → Filled b (at m (lending 0 room top nodes)) st i → length b ≡ variables → variables ≤ i → Opened b m room top nodes st
 unfolding bindings named
-filled-all b m st i p e l = record {
+filled-all b m room top nodes st i p e l = record {
   long = p .long;
-  mark = p .mark;
+  stands = p .stands;
   holds =
       fun-ext
       (λ v. ⊎-elim (p .before v) (λ z. p .after v z ∙ rw (List·getD-eq-default b 0 {n = v} (omega arith))) (below-or-from v i));

@@ -8,7 +8,9 @@ use Rattle.words.specs.Words.{wordAt}
 use Rattle.checks.specs.Kinds.{ours}
 use Rattle.checks.specs.Good.{kindOf}
 use Rattle.meaning.specs.Store.{bindings}
-use Rattle.leaves.specs.Record.{recordLong, markOf, held}
+use Rattle.meaning.specs.Limits.{at}
+use Rattle.index.specs.Run.{lending}
+use Rattle.leaves.specs.Record.{recordLong, standing, held}
 
 -- the head of entry q is a MATCH of the PCON p: q begins with it, and the nth visit is that of p
 pub data HasHead (t : List ℕ) (p : ℕ) : ℕ → ℕ → Type 0 where
@@ -41,8 +43,8 @@ pub record Loaded (t c : List ℕ) : Type 0 where
   pub same : (e j : ℕ) → j < 8 → (j < 4) ⊎ (5 < j) → wordAt c e j ≡ wordAt t e j
   pub hints : (e : ℕ) → Hints t e (wordAt c e 4) (wordAt c e 5)
 
--- the record holds the bindings of the words b, and the mark
-pub record Opened (b : List ℕ) (m : ℕ) (st : List ℕ) : Type 0 where
+-- the record holds the bindings of the words b, the mark, the room, the nodes that an index holds and the store's nodes
+pub record Opened (b : List ℕ) (m room top nodes : ℕ) (st : List ℕ) : Type 0 where
   pub long : length st ≡ recordLong
-  pub mark : markOf st ≡ m
+  pub stands : standing st ≡ at m (lending 0 room top nodes)
   pub holds : held st ≡ bindings b

@@ -3,7 +3,10 @@ use crate::hints::hint_for;
 use checks::kinds::VARIABLES;
 use leaves::record::Bindings;
 use leaves::record::MARK;
+use leaves::record::NODES;
 use leaves::record::RECORD;
+use leaves::record::ROOM;
+use leaves::record::TOP;
 use leaves::record::bind;
 use leaves::record::bit;
 use leaves::record::word_of;
@@ -41,13 +44,16 @@ pub fn load(code: &mut [u32; 32768], table: &[u32])
     }
 }
 
-// The record of these bindings with this mark.
-pub fn opened(bindings: &[u32], mark: u32) -> [u32; RECORD]
+// The record of these bindings with this mark. The room is the store's nodes, or 0 with an index, which holds the nodes below `top`.
+pub fn opened(bindings: &[u32], mark: u32, room: u32, top: u32, nodes: u32) -> [u32; RECORD]
     requires { ⌜ length (now bindings) ≡ variables ⌝ }
-    ensures { λ r. ⌜ Opened (now (bindings .entry)) mark r ⌝ }
+    ensures { λ r. ⌜ Opened (now (bindings .entry)) mark room top nodes r ⌝ }
 {
     let mut words = [0u32; RECORD];
     words[MARK] = mark;
+    words[ROOM] = room;
+    words[TOP] = top;
+    words[NODES] = nodes;
     let mut v: u32 = 0;
     while (v as usize) < VARIABLES {
         let w = bindings[v as usize];

@@ -15,7 +15,7 @@ ghost use Rattle.calls.specs.Refused.{lentIf};
 ghost use Rattle.calls.specs.Many.{handed, manyAtReturn, manyOf};
 
 // The five numbers written from place `at` on, which lie inside the list.
-fn put_five(results: &mut [u32], at: usize, numbers: [u32; 5])
+pub fn put_five(results: &mut [u32], at: usize, numbers: [u32; 5])
     requires { ⌜ at + 5 ≤ length (now results) ⌝ }
     ensures { λ _. ⌜ now (results .exit) ≡ paste (now (results .entry)) at numbers 5 ⌝ }
 {
@@ -67,7 +67,8 @@ fn run_many_lent(
     let mut left = mark;
     let mut j: usize = 0;
     while j < subjects.len() {
-        let mut st = opened(bindings, left);
+        let nodes = (store.len() / 8) as u32;
+        let mut st = opened(bindings, left, nodes, 0, 0);
         let r = run_accepted(&code, store, &mut st, start, subjects[j], units);
         left = r.mark;
         put_five(

@@ -23,18 +23,19 @@ use Rattle.checks.proofs.Promises.{tablePasses}
 use Rattle.checks.proofs.Obeying.{entryObeysPlain, nodeObeysPlain}
 use Rattle.meaning.specs.Bindings.{Bindings}
 use Rattle.meaning.specs.Table.{PVAR, PCON, operands, tableBy}
-use Rattle.meaning.specs.Rules.{Visit, apply}
+use Rattle.meaning.specs.Rules.{Visit, apply, does}
 use Rattle.meaning.specs.Derivation.{what, Notes}
-use Rattle.meaning.specs.Limits.{ended, lost, cut}
-use Rattle.meaning.specs.Store.{children, row, State, on, Left, rest, stored, named, bindings, Input, AcceptedBy, Ran, ranBy, deepest, Kept}
+use Rattle.meaning.specs.Limits.{Store, ended, lost, cut, run}
+use Rattle.meaning.specs.Store.{children, row, State, on, Left, rest, stored, named, bindings, Input, AcceptedBy, Ran, ranBy, deepest, Kept, Leaves}
+use Rattle.meaning.specs.Shared.{fullFor, numberFor, stateFor}
 use Rattle.meaning.specs.Above.{inStore, SameBelow, same-ended, same-lost, same-cut, Above-mark, Obeyed}
 use Rattle.meaning.proofs.Tests.{impossible}
 use Rattle.meaning.proofs.Alike.{Holdable, Makeable, Worlds, ORel, o-none, o-some, LRel, l-nil, l-cons, BRel, QRel, q-apply, q-match, q-build, q-compare}
-use Rattle.meaning.proofs.Checked.{Filled, store-filled, inside, table-makeable}
+use Rattle.meaning.proofs.Checked.{Filled, good-of-node, store-filled, inside, table-makeable}
 use Rattle.meaning.proofs.Words.{kept-refl, kept-trans, kept-word, kept-children, kept-filled, Below, below-none, below-more, children-below, length-row, new-kept, new-filled, new-constructor, new-count}
 use Rattle.meaning.proofs.Simulates.{Makes, both-make, both-full, Simulation, Ends, e-ended, e-lost, e-cut, e-room, simulates}
 
-kept-sym : {w w′ : List ℕ} {m : ℕ} → Kept w m w′ → Kept w′ m w
+pub kept-sym : {w w′ : List ℕ} {m : ℕ} → Kept w m w′ → Kept w′ m w
 kept-sym k = record { long = sym (k .long); same = sym (k .same) }
 
 -- a row put at the mark
@@ -44,13 +45,53 @@ take-put w r m e h =
     let l : length (take (8 * m) w ++ r) ≡ 8 * (m + 1) = simp (length-append, length-take) (omega arith) in
     ap (take (8 * (m + 1))) (sym (append-assoc (take (8 * m) w) r (drop (8 * m + 8) w))) ∙ take-at (take (8 * m) w ++ r) (drop (8 * m + 8) w) (8 * (m + 1)) l
 
-put-same : {w w′ : List ℕ} {m : ℕ} (r : List ℕ) → length r ≡ 8 → 8 * m + 8 ≤ length w → Kept w m w′ → Kept (putRow w m r) (m + 1) (putRow w′ m r)
+pub put-same : {w w′ : List ℕ} {m : ℕ} (r : List ℕ) → length r ≡ 8 → 8 * m + 8 ≤ length w → Kept w m w′ → Kept (putRow w m r) (m + 1) (putRow w′ m r)
 put-same {w} {w′} {m} r e h k =
     let h′ : 8 * m + 8 ≤ length w′ = omega (arith, k .long) in
     record { long = length-putRow w′ m r h′ e ∙ k .long ∙ sym (length-putRow w m r h e); same = take-put w′ r m e h′ ∙ ap (λ l. l ++ r) (k .same) ∙ sym (take-put w r m e h) }
 
+-- how a store finds a node instead of making it: what tells it, and what its nodes own, which a node that is not found keeps so
+pub record Finding : Type 1 where
+  pub node : (w r : List ℕ) (m : ℕ) → Option ℕ
+  pub told : {w w′ : List ℕ} {m : ℕ} (r : List ℕ) → Kept w m w′ → node w′ r m ≡ node w r m
+  pub below : (w r : List ℕ) (m k : ℕ) → node w r m ≡ some k → k < m
+  pub Own : List ℕ → ℕ → Type 0
+  pub own-kept : {w w′ : List ℕ} {m : ℕ} → Kept w m w′ → Own w m → Own w′ m
+  pub own-put : (w r : List ℕ) (m : ℕ) → 8 * m + 8 ≤ length w → length r ≡ 8 → node w r m ≡ none → Own w m → Own (putRow w m r) (m + 1)
+
+-- the store that finds its nodes so
+abbrev pub finding : Finding → {N : Type 0} → Notes N → Store ℕ (Visit ℕ) (State N) (Left N)
+finding F Λ = record {
+  con = stored Λ .con;
+  kids = stored Λ .kids;
+  full = λ s c hs. fullFor (F .node (s .words) (row c hs) (s .mark)) (stored Λ .full s c hs);
+  new = λ s c hs. numberFor (F .node (s .words) (row c hs) (s .mark)) (stored Λ .new s c hs);
+  put = λ s c hs. stateFor (F .node (s .words) (row c hs) (s .mark)) s (stored Λ .put s c hs);
+  left = stored Λ .left;
+  back = stored Λ .back;
+  missed = stored Λ .missed;
+  begins = stored Λ .begins;
+  ends = stored Λ .ends;
+  fails = stored Λ .fails;
+}
+
+-- the run of such a store
+abbrev pub foundBy : ℕ → Finding → {N : Type 0} → Notes N → N → Input → Ran N
+foundBy W F Λ ν i = run (finding F Λ) (does (tableBy W (i .table))) deepest (apply (i .start) (i .subject) (bindings (i .bindings))) (on (i .store) (i .mark) ν) (i .units)
+
+-- the plain store finds none; it is the store itself
+none-some : {k : ℕ} → none ≡ some k → ⊥
+none-some e = impossible (cc)
+
+abbrev plain : Finding
+plain = record { node = λ w r m. none; told = λ r k. refl; below = λ w r m k e. absurd (none-some e); Own = λ w m. Unit {0}; own-kept = λ k o. o; own-put = λ w r m h l e o. o }
+
+is-plain : (W : ℕ) {N : Type 0} (Λ : Notes N) (ν : N) (i : Input) → foundBy W plain Λ ν i ≡ ranBy W Λ ν i
+unfolding ranBy fullFor numberFor stateFor
+is-plain W Λ ν i = refl
+
 -- which constructor and count a node may have; a store can hold such nodes
-module _ (Had : ℕ → ℕ → Type 0) (held : (c n : ℕ) → Had c n → Holdable c n) where
+module _ (Had : ℕ → ℕ → Type 0) (held : (c n : ℕ) → Had c n → Holdable c n) (F : Finding) where
   -- every node below the mark is one that may be had
   abbrev Each : List ℕ → ℕ → Type 0
   Each w m = (k : ℕ) → k < m → Had (constructorOf w k) (childCount w k)
@@ -65,6 +106,7 @@ module _ (Had : ℕ → ℕ → Type 0) (held : (c n : ℕ) → Had c n → Hold
     mark : ℕ
     filled : Filled words mark
     each : Each words mark
+    own : F .Own words mark
     same : Kept words mark words′
 
   record Later (v v′ : Pair) : Type 0 where
@@ -116,18 +158,19 @@ module _ (Had : ℕ → ℕ → Type 0) (held : (c n : ℕ) → Had c n → Hold
         (rw (new-constructor w m c hs (held c (length hs) o) room, new-count w m c hs (held c (length hs) o) room) o))
         (below-or-from k m)
 
-  abbrev grown : (v : Pair) (c : ℕ) (hs : List ℕ) → Had c (length hs) → Below (v .mark) hs → 8 * v .mark + 8 ≤ length (v .words) → Pair
-  grown v c hs o b fits = record {
+  abbrev grown : (v : Pair) (c : ℕ) (hs : List ℕ) → Had c (length hs) → Below (v .mark) hs → 8 * v .mark + 8 ≤ length (v .words) → F .node (v .words) (row c hs) (v .mark) ≡ none → Pair
+  grown v c hs o b fits absent = record {
     words = putRow (v .words) (v .mark) (row c hs);
     words′ = putRow (v .words′) (v .mark) (row c hs);
     mark = v .mark + 1;
     filled = new-filled (v .words) (v .mark) c hs (held c (length hs) o) fits b (v .filled);
     each = new-each (v .words) (v .mark) c hs o fits (v .each);
+    own = F .own-put (v .words) (row c hs) (v .mark) fits (length-row c hs (held c (length hs) o .count)) absent (v .own);
     same = put-same (row c hs) (length-row c hs (held c (length hs) o .count)) fits (v .same);
   }
 
   abbrev backed : (v : Pair) (w w′ : List ℕ) → Kept (v .words) (v .mark) w → Kept (v .words′) (v .mark) w′ → Pair
-  backed v w w′ k k′ = record { words = w; words′ = w′; mark = v .mark; filled = kept-filled k (v .filled); each = kept-each k (v .each); same = kept-trans (omega arith) (kept-sym k) (kept-trans (omega arith) (v .same) k′) }
+  backed v w w′ k k′ = record { words = w; words′ = w′; mark = v .mark; filled = kept-filled k (v .filled); each = kept-each k (v .each); own = F .own-kept k (v .own); same = kept-trans (omega arith) (kept-sym k) (kept-trans (omega arith) (v .same) k′) }
 
   module _ {N : Type 0} (Λ : Notes N) where
     data At (v : Pair) : State N → State N → Type 0 where
@@ -138,7 +181,8 @@ module _ (Had : ℕ → ℕ → Type 0) (held : (c n : ℕ) → Had c n → Hold
       kept′ : Kept (v .words′) (v .mark) (l′ .words)
       notes : l .notes ≡ l′ .notes
 
-    below-mark : Simulation pairs (stored Λ) (stored Λ) ⊥
+    below-mark : Simulation pairs (finding F Λ) (finding F Λ) ⊥ ⊥
+    unfolding fullFor numberFor stateFor
     below-mark = record {
       At = At;
       Over = Over;
@@ -169,21 +213,27 @@ module _ (Had : ℕ → ℕ → Type 0) (held : (c n : ℕ) → Had c n → Hold
             let e : childCount (v .words) h ≡ length (children (v .words) h) = simp length-take (omega arith) in
             subst (Had (constructorOf (v .words) h)) e (v .each h (r .below))
 
-        makes : {v : Pair} {s s′ : State N} (c : ℕ) (hs gs : List ℕ) → At v s s′ → Had c (length hs) → LRel pairs v hs gs → Makes pairs (stored Λ) (stored Λ) ⊥ At v s s′ c hs gs
-        makes {v} c hs gs (at-both ν) o l = go (leb (rows (v .words)) (v .mark)) refl
+        makes : {v : Pair} {s s′ : State N} (c : ℕ) (hs gs : List ℕ) → At v s s′ → Had c (length hs) → LRel pairs v hs gs → Makes pairs (finding F Λ) (finding F Λ) ⊥ ⊥ At v s s′ c hs gs
+        makes {v} c hs gs (at-both ν) o l = go (F .node (v .words) (row c hs) (v .mark)) refl (leb (rows (v .words)) (v .mark)) refl
           where
+            there : (t : Option ℕ) → F .node (v .words) (row c hs) (v .mark) ≡ t → F .node (v .words′) (row c gs) (v .mark) ≡ t
+            there t e = ap (λ ks. F .node (v .words′) (row c ks) (v .mark)) (sym (list-same l)) ∙ F .told (row c hs) (v .same) ∙ e
+
             again : (t : Bool) → leb (rows (v .words)) (v .mark) ≡ t → leb (rows (v .words′)) (v .mark) ≡ t
             again t e = ap (λ (n : ℕ). leb (n / 8) (v .mark)) (v .same .long) ∙ e
 
-            go : (t : Bool) → leb (rows (v .words)) (v .mark) ≡ t → Makes pairs (stored Λ) (stored Λ) ⊥ At v (on (v .words) (v .mark) ν) (on (v .words′) (v .mark) ν) c hs gs
-            go true e = both-full e (again true e)
-            go false e =
+            go : (f : Option ℕ) → F .node (v .words) (row c hs) (v .mark) ≡ f → (t : Bool) → leb (rows (v .words)) (v .mark) ≡ t
+                → Makes pairs (finding F Λ) (finding F Λ) ⊥ ⊥ At v (on (v .words) (v .mark) ν) (on (v .words′) (v .mark) ν) c hs gs
+            go (some k) f t e =
+                both-make {v′ = v} (rw f) (rw (there (some k) f)) (pairs .ext-refl v) (rw (f, there (some k) f) (at-both ν)) (rw (f, there (some k) f) (record { is = refl; below = F .below (v .words) (row c hs) (v .mark) k f }))
+            go none f true e = both-full (rw f e) (rw (there none f) (again true e))
+            go none f false e =
                 let fits : 8 * v .mark + 8 ≤ length (v .words) = omega (arith, leb-false (rows (v .words)) (v .mark) e) in
                 let fits′ : 8 * v .mark + 8 ≤ length (v .words′) = omega (arith, v .same .long) in
-                both-make {v′ = grown v c hs o (list-below l) fits} e (again false e)
+                both-make {v′ = grown v c hs o (list-below l) fits f} (rw f e) (rw (there none f) (again false e))
                 (record { more = omega arith; kept = new-kept (v .words) (v .mark) c hs (held c (length hs) o) fits; kept′ = new-kept (v .words′) (v .mark) c hs (held c (length hs) o) fits′ })
-                (subst (λ ks. At (grown v c hs o (list-below l) fits) (on (putRow (v .words) (v .mark) (row c hs)) (v .mark + 1) ν) (on (putRow (v .words′) (v .mark) (row c ks)) (v .mark + 1) ν)) (list-same l) (at-both ν))
-                (record { is = refl; below = omega arith })
+                (rw (f, there none f) (subst (λ ks. At (grown v c hs o (list-below l) fits f) (on (putRow (v .words) (v .mark) (row c hs)) (v .mark + 1) ν) (on (putRow (v .words′) (v .mark) (row c ks)) (v .mark + 1) ν)) (list-same l) (at-both ν)))
+                (rw (f, there none f) (record { is = refl; below = omega arith }))
 
         leaves : {v : Pair} {s s′ : State N} → At v s s′ → Over v (rest (s .words) (s .notes)) (rest (s′ .words) (s′ .notes))
         leaves (at-both ν) = record { kept = kept-refl _ _; kept′ = kept-refl _ _; notes = refl }
@@ -225,14 +275,33 @@ module _ (Had : ℕ → ℕ → Type 0) (held : (c n : ℕ) → Had c n → Hold
     each-left (e-lost o) k u b t q = impossible (cc)
     each-left (e-cut o) k u b t q = impossible (cc)
 
+    -- so is what they own
+    own-left : {v : Pair} {r r′ : Ran N} → Ends below-mark v r r′ → (k u : ℕ) (b : Bindings ℕ) (s : State N) → r ≡ ended k b s u → Filled (s .words) (s .mark) × F .Own (s .words) (s .mark)
+    unfolding below-mark
+    own-left (e-ended {v′ = v} e (at-both ν) n s) k u b t q = let z : on (v .words) (v .mark) ν ≡ t = cc in subst (λ (t : State N). Filled (t .words) (t .mark) × F .Own (t .words) (t .mark)) z (v .filled, v .own)
+    own-left (e-lost o) k u b t q = impossible (cc)
+    own-left (e-cut o) k u b t q = impossible (cc)
+
+    -- and a good store is left
+    option-below : {v : Pair} {o o′ : Option ℕ} → ORel pairs v o o′ → (j : ℕ) → o ≡ some j → j < v .mark
+    option-below o-none j e = impossible (cc)
+    option-below (o-some {h = k} n) j e = let z : k ≡ j = cc in omega (arith, n .below)
+
+    left-sound : {v : Pair} {r r′ : Ran N} → Ends below-mark v r r′ → Leaves (v .words) (v .mark) r
+    unfolding below-mark
+    left-sound (e-ended {v′ = v′} e (at-both ν) n s) =
+        (e .more, e .kept, record { fits = v′ .filled .fits; good = λ j h. good-of-node (v′ .words) j (v′ .filled .node j h); subject = n .below; bound = λ x j q. option-below (s x) j q })
+    left-sound (e-lost o) = o .kept
+    left-sound (e-cut o) = o .kept
+
     -- the run of an accepted input, and of another store with the same nodes
-    both : (W : ℕ) (i : Input) (w : List ℕ) (ν : N) → AcceptedBy W i → Makeable Had (tableBy W (i .table)) → Each (i .store) (i .mark) → Kept (i .store) (i .mark) w
-        → (v : Pair) × Ends below-mark v (ranBy W Λ ν i) (ranBy W Λ ν (inStore i w))
-    unfolding ranBy bindings named below-mark
-    both W i w ν a mk f k = (start, simulates below-mark (tableBy W (i .table)) mk deepest start _ _ _ _ (i .units) (q-apply (record { is = refl; below = a .subject }) bound) (at-both ν))
+    both : (W : ℕ) (i : Input) (w : List ℕ) (ν : N) → AcceptedBy W i → Makeable Had (tableBy W (i .table)) → Each (i .store) (i .mark) → F .Own (i .store) (i .mark) → (k : Kept (i .store) (i .mark) w)
+        → (v : Pair) × (v .words ≡ i .store) × (v .mark ≡ i .mark) × Ends below-mark v (foundBy W F Λ ν i) (foundBy W F Λ ν (inStore i w))
+    unfolding bindings named below-mark
+    both W i w ν a mk f y k = (start, refl, refl, simulates below-mark (tableBy W (i .table)) mk deepest start _ _ _ _ (i .units) (q-apply (record { is = refl; below = a .subject }) bound) (at-both ν))
       where
         start : Pair
-        start = record { words = i .store; words′ = w; mark = i .mark; filled = store-filled (i .store) (i .mark) (a .store); each = f; same = k }
+        start = record { words = i .store; words′ = w; mark = i .mark; filled = store-filled (i .store) (i .mark) (a .store); each = f; own = y; same = k }
 
         bound : BRel pairs start (λ v. named (getD (i .bindings) v 0)) (λ v. named (getD (i .bindings) v 0))
         bound x = go (getD (i .bindings) x 0) (a .bound x)
@@ -241,10 +310,23 @@ module _ (Had : ℕ → ℕ → Type 0) (held : (c n : ℕ) → Had c n → Hold
             go zero h = o-none
             go (suc n) h = o-some {h = n} (record { is = refl; below = omega arith })
 
+-- the run of an accepted input whose nodes own what they are to, and of another store with the same nodes
+module _ (F : Finding) {N : Type 0} (Λ : Notes N) (W : ℕ) (i : Input) (w : List ℕ) (ν : N) (a : AcceptedBy W i) (o : F .Own (i .store) (i .mark)) (k : Kept (i .store) (i .mark) w) where
+  beside-itself : (v : Pair Holdable (λ c n o. o) F) × (v .words ≡ i .store) × (v .mark ≡ i .mark) × Ends (below-mark Holdable (λ c n o. o) F Λ) v (foundBy W F Λ ν i) (foundBy W F Λ ν (inStore i w))
+  beside-itself = both Holdable (λ c n o. o) F Λ W i w ν a (table-makeable W (i .table) (a .table)) (λ j l. store-filled (i .store) (i .mark) (a .store) .node j l .holdable) o k
+
+  pub found-above : SameBelow (foundBy W F Λ ν i) (foundBy W F Λ ν (inStore i w))
+  found-above = same-below Holdable (λ c n o. o) F Λ (beside-itself .3)
+
+  pub found-owns : (k u : ℕ) (b : Bindings ℕ) (s : State N) → foundBy W F Λ ν i ≡ ended k b s u → Filled (s .words) (s .mark) × F .Own (s .words) (s .mark)
+  found-owns = own-left Holdable (λ c n o. o) F Λ (beside-itself .3)
+
+  pub found-leaves : Leaves (i .store) (i .mark) (foundBy W F Λ ν i)
+  found-leaves =
+      subst (λ w. Leaves w (i .mark) (foundBy W F Λ ν i)) (beside-itself .1) (subst (λ m. Leaves (beside-itself .0 .words) m (foundBy W F Λ ν i)) (beside-itself .2) (left-sound Holdable (λ c n o. o) F Λ (beside-itself .3)))
+
 pub above-mark : Above-mark
-above-mark W N Λ ν i w a k =
-    same-below Holdable (λ c n o. o) Λ
-    (both Holdable (λ c n o. o) Λ W i w ν a (table-makeable W (i .table) (a .table)) (λ j l. store-filled (i .store) (i .mark) (a .store) .node j l .holdable) k .1)
+above-mark W N Λ ν i w a k = subst (λ r. SameBelow r (ranBy W Λ ν (inStore i w))) (is-plain W Λ ν i) (subst (SameBelow (foundBy W plain Λ ν i)) (is-plain W Λ ν (inStore i w)) (found-above plain Λ W i w ν a tt k))
 
 -- ---- a signature
 
@@ -275,11 +357,16 @@ module _ (W : ℕ) (g t : List ℕ) (c : tableCheckedBy W t ≡ checked 0 0) (o 
           subst (λ n. Declared g a n) l (subst (λ a. Declared g a (operandCount t e)) x d)
       go (suc (suc n)) k q = impossible (cc)
 
-pub obeyed : Obeyed
-obeyed W N Λ ν i g a entries nodes k u b s e j l =
+pub found-obeys : (F : Finding) (W : ℕ) (N : Type 0) (Λ : Notes N) (ν : N) (i : Input) (g : List ℕ) → AcceptedBy W i → F .Own (i .store) (i .mark)
+    → AllGood (entryObeys g (i .table)) (rows (i .table)) → AllGood (nodeObeys g (i .store)) (i .mark)
+    → (k u : ℕ) (b : Bindings ℕ) (s : State N) → foundBy W F Λ ν i ≡ ended k b s u → AllGood (nodeObeys g (s .words)) (s .mark)
+found-obeys F W N Λ ν i g a own entries nodes k u b s e j l =
     nodeObeysPlain g (s .words) j .1
-    (each-left (Lawful g) (λ c n o. o .holdable) Λ
-    (both (Lawful g) (λ c n o. o .holdable) Λ W i (i .store) ν a (table-lawful W g (i .table) (a .table) entries) given (kept-refl (i .store) (i .mark)) .1) k u b s e j l .declared)
+    (each-left (Lawful g) (λ c n o. o .holdable) F Λ
+    (both (Lawful g) (λ c n o. o .holdable) F Λ W i (i .store) ν a (table-lawful W g (i .table) (a .table) entries) given own (kept-refl (i .store) (i .mark)) .3) k u b s e j l .declared)
   where
     given : (j : ℕ) → j < i .mark → Lawful g (constructorOf (i .store) j) (childCount (i .store) j)
     given j l = record { holdable = store-filled (i .store) (i .mark) (a .store) .node j l .holdable; declared = nodeObeysPlain g (i .store) j .0 (nodes j l) }
+
+pub obeyed : Obeyed
+obeyed W N Λ ν i g a entries nodes k u b s e = found-obeys plain W N Λ ν i g a tt entries nodes k u b s (is-plain W Λ ν i ∙ e)

@@ -25,7 +25,10 @@ pub mod Orders
 pub mod Demands
 pub mod Lower
 pub mod Simulates
+pub mod NodeWith
 pub mod Above
+pub mod Numbers
+pub mod Shared
 pub mod Twenty
 pub mod Small
 pub mod Ours

@@ -71,10 +71,10 @@ module _ (size : ℕ) where
   }
 
   -- the mark given back, over what is left
-  abbrev backed : (v : Stored size) (w : List ℕ) → Kept (v .words) (v .mark) w → Stored size
+  abbrev pub backed : (v : Stored size) (w : List ℕ) → Kept (v .words) (v .mark) w → Stored size
   backed v w p = record { words = w; mark = v .mark; filled = kept-filled p (v .filled); long = ap (λ (n : ℕ). n / 8) (p .long) ∙ v .long }
 
-  later-backed : (v : Stored size) (w : List ℕ) (p : Kept (v .words) (v .mark) w) → Later v (backed v w p)
+  pub later-backed : (v : Stored size) (w : List ℕ) (p : Kept (v .words) (v .mark) w) → Later v (backed v w p)
   later-backed v w p = record { more = omega arith; kept = p }
 
   -- nodes below the mark stand for their terms
@@ -82,11 +82,11 @@ module _ (size : ℕ) where
   below-names v below-none h = l-nil
   below-names v (below-more {j = j} i b) h = l-cons (in-use v j (omega arith)) (below-names v b h)
 
-  names-below : {v : Stored size} {hs : List ℕ} {gs : List Term} → LRel stores v hs gs → Below (v .mark) hs
+  pub names-below : {v : Stored size} {hs : List ℕ} {gs : List Term} → LRel stores v hs gs → Below (v .mark) hs
   names-below l-nil = below-none
   names-below (l-cons n l) = below-more (n .below) (names-below l)
 
-  names-terms : {v : Stored size} {hs : List ℕ} {gs : List Term} → LRel stores v hs gs → map (term (v .words)) hs ≡ gs
+  pub names-terms : {v : Stored size} {hs : List ℕ} {gs : List Term} → LRel stores v hs gs → map (term (v .words)) hs ≡ gs
   names-terms l-nil = refl
   names-terms (l-cons n l) = λ i. n .is i ∷ names-terms l i
 
@@ -94,25 +94,25 @@ module _ (size : ℕ) where
   names-term : {v : Stored size} {k : ℕ} {t : Term} → Names v k t → t ≡ mk (constructorOf (v .words) k) (map (term (v .words)) (children (v .words) k))
   names-term {v} {k} n = sym (n .is) ∙ term-node (v .filled) k (n .below)
 
-  names-constructor : {v : Stored size} {k : ℕ} {t : Term} → Names v k t → con t ≡ constructorOf (v .words) k
+  pub names-constructor : {v : Stored size} {k : ℕ} {t : Term} → Names v k t → con t ≡ constructorOf (v .words) k
   unfolding con mk
   names-constructor n = ap con (names-term n)
 
-  names-children : {v : Stored size} {k : ℕ} {t : Term} → Names v k t → LRel stores v (children (v .words) k) (kids t)
+  pub names-children : {v : Stored size} {k : ℕ} {t : Term} → Names v k t → LRel stores v (children (v .words) k) (kids t)
   unfolding kids mk
   names-children {v} {k} {t} n =
       let e : kids t ≡ map (term (v .words)) (children (v .words) k) = ap kids (names-term n) ∙ list-unlist (map (term (v .words)) (children (v .words) k)) in
       rw e (below-names v (children-below (v .filled .node k (n .below))) (omega (arith, n .below)))
 
-  names-holdable : {v : Stored size} {k : ℕ} {t : Term} → Names v k t → Holdable (constructorOf (v .words) k) (length (children (v .words) k))
+  pub names-holdable : {v : Stored size} {k : ℕ} {t : Term} → Names v k t → Holdable (constructorOf (v .words) k) (length (children (v .words) k))
   names-holdable {v} {k} n = record { constructor = v .filled .node k (n .below) .holdable .constructor; count = simp length-take (omega arith) }
 
   -- one node more
   module _ (v : Stored size) (c : ℕ) (hs : List ℕ) (gs : List Term) (o : Holdable c (length hs)) (room : v .mark < size) (l : LRel stores v hs gs) where
-    fits : 8 * v .mark + 8 ≤ length (v .words)
+    pub fits : 8 * v .mark + 8 ≤ length (v .words)
     fits = omega (arith, v .long)
 
-    abbrev grown : Stored size
+    abbrev pub grown : Stored size
     grown = record {
       words = putRow (v .words) (v .mark) (row c hs);
       mark = v .mark + 1;
@@ -120,10 +120,10 @@ module _ (size : ℕ) where
       long = ap (λ (n : ℕ). n / 8) (new-kept (v .words) (v .mark) c hs o fits .long) ∙ v .long;
     }
 
-    later-grown : Later v grown
+    pub later-grown : Later v grown
     later-grown = record { more = omega arith; kept = new-kept (v .words) (v .mark) c hs o fits }
 
-    names-grown : Names grown (v .mark) (mk c gs)
+    pub names-grown : Names grown (v .mark) (mk c gs)
     names-grown = record {
       below = omega arith;
       is =
@@ -200,7 +200,7 @@ module _ (size : ℕ) where
         (λ w p k t b c ν′ u′. alike-plan ev ev′ z (f (backed v w p) k t b c (later-backed v w p)) ν′ u′)
 
     -- related visits have one name
-    same-what : {v : Stored size} {q : Visit ℕ} {q′ : Visit Term} → QRel stores v q q′ → what q ≡ what q′
+    pub same-what : {v : Stored size} {q : Visit ℕ} {q′ : Visit Term} → QRel stores v q q′ → what q ≡ what q′
     unfolding what
     same-what (q-apply r s) = refl
     same-what (q-match r s) = refl

@@ -18,6 +18,7 @@ pub mod Free
 pub mod Demands
 pub mod Lower
 pub mod Above
+pub mod Shared
 pub mod Orderings
 pub mod Small
 pub mod Ours

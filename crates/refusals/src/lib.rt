@@ -64,7 +64,7 @@ fn subjects_below(subjects: &[u32], mark: u32) -> bool
 }
 
 // The start is a strategy of the table, the subject lies below the mark, and so do the bindings.
-fn start_fits(table: &[u32], bindings: &[u32], mark: u32, start: u32, subject: u32) -> bool
+pub fn start_fits(table: &[u32], bindings: &[u32], mark: u32, start: u32, subject: u32) -> bool
     ensures { λ r. ⌜ r ≡ startFits (now (table .entry)) (now (bindings .entry)) mark start subject ⌝ }
 {
     if !is_start(table, start) {
@@ -77,7 +77,7 @@ fn start_fits(table: &[u32], bindings: &[u32], mark: u32, start: u32, subject: u
 }
 
 // The same for a list of subjects.
-fn starts_fit(table: &[u32], bindings: &[u32], mark: u32, start: u32, subjects: &[u32]) -> bool
+pub fn starts_fit(table: &[u32], bindings: &[u32], mark: u32, start: u32, subjects: &[u32]) -> bool
     ensures { λ r. ⌜ r ≡ startsFit (now (table .entry)) (now (bindings .entry)) mark start (now (subjects .entry)) ⌝ }
 {
     if !is_start(table, start) {

@@ -17,16 +17,11 @@ use refusals::refusal;
 use words::clear_from;
 ghost use mathlib.Core.Path.{_≡_};
 ghost use mathlib.Core.Option.{some};
-ghost use Rattle.meaning.specs.Derivation.{nowhere};
-ghost use Rattle.meaning.specs.Limits.{at};
-ghost use Rattle.meaning.specs.Rules.{apply as applied};
 ghost use Rattle.leaves.specs.Answers.{packed};
-ghost use Rattle.leaves.specs.Record.{markOf, held};
-ghost use Rattle.leaves.specs.Visits.{visit};
 ghost use Rattle.cycle.specs.Cycle.{Ready};
 ghost use Rattle.calls.specs.Refused.{lentIf};
 ghost use Rattle.calls.specs.Run.{input, atReturn, runWith, runOf};
-ghost use Rattle.running.specs.Ends.{cutNumber, cutPlace, Ends};
+ghost use Rattle.running.specs.Ends.{cutNumber, cutPlace, Ran-accepted};
 
 // The place of a failed run in which no match gave up: no table has such an entry.
 pub const NOWHERE: u32 = 4096;
@@ -59,7 +54,7 @@ pub fn cut_place(c: u64) -> u32
     0
 }
 
-// A run of accepted input, over a loaded table and an opened record. Where it is done the record holds the new mark and the new
+// A run of accepted input, over a loaded table, what is lent and an opened record. Where it is done the record holds the new mark and the new
 // bindings; where it failed, the pattern at which the last match gave up. The words above the mark are left as they are.
 pub fn run_accepted(
     code: &[u32; 32768],
@@ -70,7 +65,7 @@ pub fn run_accepted(
     units: u32,
 ) -> Outcome
     requires { ⌜ Ready (now code) (now store) (now st) start (packed subject units) ⌝ }
-    ensures { λ r. ⌜ Ends (visit (now (code .entry)) 4096 (applied start subject (held (now (st .entry)))) (now (store .entry)) (at (markOf (now (st .entry))) nowhere) units) subject (markOf (now (st .entry))) units r (now (st .exit)) (now (store .exit)) ⌝ }
+    ensures { λ r. ⌜ Ran-accepted (now (code .entry)) (now (store .entry)) (now (st .entry)) start subject units r (now (st .exit)) (now (store .exit)) ⌝ }
 {
     let mark = st[MARK];
     st[MISS] = NOWHERE;
@@ -137,7 +132,8 @@ fn run_lent(
     }
     let mut code = [0u32; 32768];
     load(&mut code, table);
-    let mut st = opened(bindings, mark);
+    let nodes = (store.len() / 8) as u32;
+    let mut st = opened(bindings, mark, nodes, 0, 0);
     let r = run_accepted(&code, store, &mut st, start, subject, units);
     clear_from(store, 8 * (r.mark as usize));
     if r.answer != 0 {

@@ -20,6 +20,8 @@ use checks::entries::check_table;
 use checks::nodes::check_store;
 use collect::collect;
 use free::free_variables;
+use indexed::run::run_indexed;
+use indexed::subjects::run_many_indexed;
 use libc::STDOUT_FILENO;
 use many::run_many;
 use many::run_many_signed;
@@ -71,6 +73,12 @@ fn call(tag: u8, given: Given, table: &mut [u32], store: &mut [u32], bindings: &
         show_run(r, store, bindings);
         return true;
     }
+    if tag == b'i' {
+        let words = n[9] as usize;
+        let r = run_indexed(table, store, words, bindings, n[3], n[4], n[5], n[6]);
+        show_run(r, store, bindings);
+        return true;
+    }
     if tag == b'g' {
         return call_signed(given, table, store, bindings);
     }
@@ -82,7 +90,8 @@ fn call(tag: u8, given: Given, table: &mut [u32], store: &mut [u32], bindings: &
     false
 }
 
-// The call over many subjects, with the signature that stands behind the first `at` words where one is lent.
+// The call over many subjects, with the signature that stands behind the first `at` words where one is lent, or with the index that
+// stands behind the store's first `at` words.
 fn run_subjects(
     tag: u8,
     given: Given,
@@ -96,6 +105,19 @@ fn run_subjects(
     let at = n[9] as usize;
     if tag == b'm' {
         return run_many(words, store, bindings, n[3], n[4], subjects, n[6], results);
+    }
+    if tag == b'k' {
+        return run_many_indexed(
+            words,
+            store,
+            at,
+            bindings,
+            n[3],
+            n[4],
+            subjects,
+            n[6],
+            results,
+        );
     }
     if words.len() < at {
         return Checked {
@@ -248,6 +270,9 @@ fn answer_made(
         return call_many(tag, text, next, given, table, store, bindings);
     }
     if tag == b'n' {
+        return call_many(tag, text, next, given, table, store, bindings);
+    }
+    if tag == b'k' {
         return call_many(tag, text, next, given, table, store, bindings);
     }
     if tag == b'p' {

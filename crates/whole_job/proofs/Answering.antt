@@ -13,10 +13,9 @@ use Rattle.checks.specs.Kinds.{ours}
 use Rattle.checks.specs.declared.Checked.{Checked}
 use Rattle.meaning.specs.Limits.{ended, lost, cut}
 use Rattle.meaning.specs.Derivation.{places, nowhere}
-use Rattle.meaning.specs.Store.{Input, Leaves, ran}
+use Rattle.meaning.specs.Store.{Input, Leaves, ran, Ran}
 use Rattle.meaning.specs.Answer.{Returned, returned, returnedBy}
 use Rattle.meaning.proofs.Demands.{over-the-words}
-use Rattle.leaves.specs.Noted.{Ran}
 use Rattle.calls.specs.Refused.{refused}
 use Rattle.calls.specs.Run.{atReturn, refusing, runWithBy, runOf}
 use Rattle.calls.specs.declared.Outcome.{Outcome as Five}
@@ -36,7 +35,7 @@ use Rattle.whole_job.proofs.Sizes.{Sized, sized}
 
 module _ (i : Input) (n : ℕ) (given : i .mark ≤ n) (holds : rows (i .store) ≤ n) where
   -- A run that is done has its mark within the store; any other gives the mark back.
-  pub returned-mark : (r : Ran) → Leaves (i .store) (i .mark) r → returned i r .mark ≤ n
+  pub returned-mark : (r : Ran ℕ) → Leaves (i .store) (i .mark) r → returned i r .mark ≤ n
   unfolding returnedBy
   returned-mark (ended k b s u) l =
       let e : rows (s .words) ≡ rows (i .store) = ap (λ (m : ℕ). m / 8) (l .1 .long) in

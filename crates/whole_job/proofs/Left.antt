@@ -21,12 +21,11 @@ use Rattle.checks.specs.Checked.{checked}
 use Rattle.meaning.specs.Bindings.{Bindings}
 use Rattle.meaning.specs.Limits.{ended, lost, cut}
 use Rattle.meaning.specs.Derivation.{places, nowhere}
-use Rattle.meaning.specs.Store.{Input, Accepted, Kept, Leaves, ran}
+use Rattle.meaning.specs.Store.{Input, Accepted, Kept, Leaves, ran, Ran}
 use Rattle.meaning.specs.Answer.{bindingWord, bindingWords, returned, returnedBy}
 use Rattle.meaning.proofs.Checked.{Node, Filled, node-of-good, store-filled}
 use Rattle.meaning.proofs.Words.{kept-filled}
 use Rattle.meaning.proofs.Demands.{over-the-words}
-use Rattle.leaves.specs.Noted.{Ran}
 use Rattle.calls.specs.Refused.{refused}
 use Rattle.calls.specs.Run.{runWithBy, runOf}
 use Rattle.calls.specs.declared.Outcome.{Outcome as Five}
@@ -88,7 +87,7 @@ module _ (i : Input) where
 cleared-kept : (w : List ℕ) (m : ℕ) → Kept w m (clearedFrom w (8 * m))
 cleared-kept w m = record { long = length-clearedFrom w (8 * m); same = take-clearedFrom w (8 * m) (8 * m) (omega arith) }
 
-filled-returned : (i : Input) (r : Ran) → Filled (i .store) (i .mark) → Leaves (i .store) (i .mark) r
+filled-returned : (i : Input) (r : Ran ℕ) → Filled (i .store) (i .mark) → Leaves (i .store) (i .mark) r
     → Filled (returned i r .store) (returned i r .mark)
 unfolding returnedBy
 filled-returned i (ended k b s u) f l =
@@ -97,7 +96,7 @@ filled-returned i (ended k b s u) f l =
 filled-returned i (lost w u) f l = kept-filled (cleared-kept (w .words) (i .mark)) (kept-filled l f)
 filled-returned i (cut c w u) f l = kept-filled (cleared-kept (w .words) (i .mark)) (kept-filled l f)
 
-zeros-returned : (i : Input) (r : Ran) (n : ℕ) → 8 * returned i r .mark ≤ n → getD (returned i r .store) n 0 ≡ 0
+zeros-returned : (i : Input) (r : Ran ℕ) (n : ℕ) → 8 * returned i r .mark ≤ n → getD (returned i r .store) n 0 ≡ 0
 unfolding returnedBy
 zeros-returned i (ended k b s u) n l = getD-clearedFrom-from (s .words) (8 * s .mark) n l
 zeros-returned i (lost w u) n l = getD-clearedFrom-from (w .words) (8 * i .mark) n l
@@ -146,13 +145,13 @@ words-below b m h v =
     (below-or-from v variables)
 
 module _ (i : Input) (a : Accepted i) where
-  bound-returned : (r : Ran) → Leaves (i .store) (i .mark) r → (v : ℕ) → getD (returned i r .bindings) v 0 ≤ returned i r .mark
+  bound-returned : (r : Ran ℕ) → Leaves (i .store) (i .mark) r → (v : ℕ) → getD (returned i r .bindings) v 0 ≤ returned i r .mark
   unfolding returnedBy
   bound-returned (ended k b s u) l v = words-below b (s .mark) (l .2 .bound) v
   bound-returned (lost w u) l v = a .bound v
   bound-returned (cut c w u) l v = a .bound v
 
-  variables-returned : (r : Ran) → length (returned i r .bindings) ≡ variables
+  variables-returned : (r : Ran ℕ) → length (returned i r .bindings) ≡ variables
   unfolding returnedBy
   variables-returned (ended k b s u) = length-words variables b
   variables-returned (lost w u) = a .bindings

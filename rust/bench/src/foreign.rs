@@ -51,6 +51,72 @@ extern "C" {
         results_words: usize,
         numbers: *mut u32,
     );
+    fn marshtrundle_run_indexed(
+        table: *const u32,
+        table_words: usize,
+        lent: *mut u32,
+        lent_words: usize,
+        words: u32,
+        bindings: *mut u32,
+        bindings_words: usize,
+        mark: u32,
+        start: u32,
+        subject: u32,
+        units: u32,
+        numbers: *mut u32,
+    );
+    fn marshtrundle_run_indexed_signed(
+        table: *const u32,
+        table_words: usize,
+        lent: *mut u32,
+        lent_words: usize,
+        words: u32,
+        bindings: *mut u32,
+        bindings_words: usize,
+        mark: u32,
+        start: u32,
+        subject: u32,
+        units: u32,
+        signature: *const u32,
+        signature_words: usize,
+        numbers: *mut u32,
+    );
+    fn marshtrundle_run_many_indexed(
+        table: *const u32,
+        table_words: usize,
+        lent: *mut u32,
+        lent_words: usize,
+        words: u32,
+        bindings: *const u32,
+        bindings_words: usize,
+        mark: u32,
+        start: u32,
+        subjects: *const u32,
+        subjects_words: usize,
+        units: u32,
+        results: *mut u32,
+        results_words: usize,
+        numbers: *mut u32,
+    );
+    fn marshtrundle_run_many_indexed_signed(
+        table: *const u32,
+        table_words: usize,
+        lent: *mut u32,
+        lent_words: usize,
+        words: u32,
+        bindings: *const u32,
+        bindings_words: usize,
+        mark: u32,
+        start: u32,
+        subjects: *const u32,
+        subjects_words: usize,
+        units: u32,
+        results: *mut u32,
+        results_words: usize,
+        signature: *const u32,
+        signature_words: usize,
+        numbers: *mut u32,
+    );
     fn marshtrundle_translate_rules(
         table: *mut u32,
         table_words: usize,
@@ -434,6 +500,120 @@ pub fn step(
             visits,
             numbers.as_mut_ptr(),
         );
+    }
+    numbers
+}
+
+/// The run with an index: the first `words` of `lent` are the store's. The five
+/// numbers.
+#[allow(clippy::too_many_arguments)]
+pub fn run_indexed(
+    table: &[u32],
+    lent: &mut [u32],
+    words: u32,
+    bindings: &mut [u32],
+    mark: u32,
+    start: u32,
+    subject: u32,
+    units: u32,
+    signature: Option<&[u32]>,
+) -> [u32; 5] {
+    let mut numbers = [0; 5];
+    // The slices are borrowed for the call, two of them alone; `numbers` is a
+    // local of five words.
+    unsafe {
+        match signature {
+            Some(signature) => marshtrundle_run_indexed_signed(
+                table.as_ptr(),
+                table.len(),
+                lent.as_mut_ptr(),
+                lent.len(),
+                words,
+                bindings.as_mut_ptr(),
+                bindings.len(),
+                mark,
+                start,
+                subject,
+                units,
+                signature.as_ptr(),
+                signature.len(),
+                numbers.as_mut_ptr(),
+            ),
+            None => marshtrundle_run_indexed(
+                table.as_ptr(),
+                table.len(),
+                lent.as_mut_ptr(),
+                lent.len(),
+                words,
+                bindings.as_mut_ptr(),
+                bindings.len(),
+                mark,
+                start,
+                subject,
+                units,
+                numbers.as_mut_ptr(),
+            ),
+        }
+    }
+    numbers
+}
+
+/// The call over many subjects with an index: answer and place.
+#[allow(clippy::too_many_arguments)]
+pub fn run_many_indexed(
+    table: &[u32],
+    lent: &mut [u32],
+    words: u32,
+    bindings: &[u32],
+    mark: u32,
+    start: u32,
+    subjects: &[u32],
+    units: u32,
+    results: &mut [u32],
+    signature: Option<&[u32]>,
+) -> [u32; 2] {
+    let mut numbers = [0; 2];
+    // The slices are borrowed for the call, two of them alone; `numbers` is a
+    // local of two words.
+    unsafe {
+        match signature {
+            Some(signature) => marshtrundle_run_many_indexed_signed(
+                table.as_ptr(),
+                table.len(),
+                lent.as_mut_ptr(),
+                lent.len(),
+                words,
+                bindings.as_ptr(),
+                bindings.len(),
+                mark,
+                start,
+                subjects.as_ptr(),
+                subjects.len(),
+                units,
+                results.as_mut_ptr(),
+                results.len(),
+                signature.as_ptr(),
+                signature.len(),
+                numbers.as_mut_ptr(),
+            ),
+            None => marshtrundle_run_many_indexed(
+                table.as_ptr(),
+                table.len(),
+                lent.as_mut_ptr(),
+                lent.len(),
+                words,
+                bindings.as_ptr(),
+                bindings.len(),
+                mark,
+                start,
+                subjects.as_ptr(),
+                subjects.len(),
+                units,
+                results.as_mut_ptr(),
+                results.len(),
+                numbers.as_mut_ptr(),
+            ),
+        }
     }
     numbers
 }

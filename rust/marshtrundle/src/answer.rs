@@ -29,6 +29,9 @@ pub enum Answer {
     /// 11: this node, reachable or not, is the lowest below the mark whose constructor the signature does not declare with its
     /// count. Nothing was written. [`run_signed`](crate::run_signed) alone gives it.
     DisobeyingNode(u32),
+    /// 21: this node is the lowest below the mark that has the eight words of an earlier one. Nothing was written.
+    /// [`run_indexed`](crate::run_indexed) and its kin alone give it.
+    TwinNode(u32),
     /// 5: the start is outside the table or a pattern, the subject is not below the mark, or a binding names no node below
     /// the mark. Nothing was written.
     BadStart,
@@ -71,6 +74,7 @@ impl Answer {
             15 => Answer::BadEntry(place, Fault::Operand),
             16 => Answer::BadEntry(place, Fault::Sort),
             17 => Answer::BadEntry(place, Fault::Word),
+            21 => Answer::TwinNode(place),
             25 => Answer::Unfinished,
             27 => Answer::NoRun,
             other => panic!("the archive answers {other}, which this crate does not know"),
@@ -95,6 +99,7 @@ impl Answer {
             Answer::BadNode(_) => 4,
             Answer::DisobeyingEntry(_) => 10,
             Answer::DisobeyingNode(_) => 11,
+            Answer::TwinNode(_) => 21,
             Answer::BadStart => 5,
             Answer::OutOfUnits => 6,
             Answer::OutOfRoom => 7,
@@ -112,7 +117,8 @@ impl Answer {
             Answer::BadEntry(place, _)
             | Answer::BadNode(place)
             | Answer::DisobeyingEntry(place)
-            | Answer::DisobeyingNode(place) => place,
+            | Answer::DisobeyingNode(place)
+            | Answer::TwinNode(place) => place,
             Answer::Unbound(var) => var.number(),
             Answer::Failed(miss) => miss.map_or(ENTRIES as u32, Entry::number),
             Answer::Done
@@ -126,7 +132,7 @@ impl Answer {
         }
     }
 
-    /// True for answers 2, 4, 5, 10, 11, 13 to 17 and 27: the input is malformed, or there is no run to step, and nothing was run.
+    /// True for answers 2, 4, 5, 10, 11, 13 to 17, 21 and 27: the input is malformed, or there is no run to step, and nothing was run.
     pub fn is_refusal(self) -> bool {
         matches!(
             self,
@@ -135,6 +141,7 @@ impl Answer {
                 | Answer::BadNode(_)
                 | Answer::DisobeyingEntry(_)
                 | Answer::DisobeyingNode(_)
+                | Answer::TwinNode(_)
                 | Answer::BadStart
                 | Answer::NoRun
         )
@@ -164,6 +171,7 @@ impl fmt::Display for Answer {
             Answer::BadNode(k) => write!(f, "node {k} is bad"),
             Answer::DisobeyingEntry(e) => write!(f, "entry {e} does not obey the signature"),
             Answer::DisobeyingNode(k) => write!(f, "node {k} does not obey the signature"),
+            Answer::TwinNode(k) => write!(f, "node {k} has the words of an earlier node"),
             Answer::BadStart => f.write_str("the start, the subject or a binding is bad"),
             Answer::OutOfUnits => f.write_str("all units are used"),
             Answer::OutOfRoom => f.write_str("the store has no room"),

@@ -110,6 +110,72 @@ extern "C" {
         visits: u32,
         numbers: *mut u32,
     );
+    fn marshtrundle_run_indexed(
+        table: *const u32,
+        table_words: usize,
+        lent: *mut u32,
+        lent_words: usize,
+        words: u32,
+        bindings: *mut u32,
+        bindings_words: usize,
+        mark: u32,
+        start: u32,
+        subject: u32,
+        units: u32,
+        numbers: *mut u32,
+    );
+    fn marshtrundle_run_indexed_signed(
+        table: *const u32,
+        table_words: usize,
+        lent: *mut u32,
+        lent_words: usize,
+        words: u32,
+        bindings: *mut u32,
+        bindings_words: usize,
+        mark: u32,
+        start: u32,
+        subject: u32,
+        units: u32,
+        signature: *const u32,
+        signature_words: usize,
+        numbers: *mut u32,
+    );
+    fn marshtrundle_run_many_indexed(
+        table: *const u32,
+        table_words: usize,
+        lent: *mut u32,
+        lent_words: usize,
+        words: u32,
+        bindings: *const u32,
+        bindings_words: usize,
+        mark: u32,
+        start: u32,
+        subjects: *const u32,
+        subjects_words: usize,
+        units: u32,
+        results: *mut u32,
+        results_words: usize,
+        numbers: *mut u32,
+    );
+    fn marshtrundle_run_many_indexed_signed(
+        table: *const u32,
+        table_words: usize,
+        lent: *mut u32,
+        lent_words: usize,
+        words: u32,
+        bindings: *const u32,
+        bindings_words: usize,
+        mark: u32,
+        start: u32,
+        subjects: *const u32,
+        subjects_words: usize,
+        units: u32,
+        results: *mut u32,
+        results_words: usize,
+        signature: *const u32,
+        signature_words: usize,
+        numbers: *mut u32,
+    );
     fn marshtrundle_collect(
         store: *mut u32,
         store_words: usize,
@@ -388,6 +454,118 @@ pub fn step(
             visits,
             numbers.as_mut_ptr(),
         );
+    }
+    numbers
+}
+
+/// The run with an index: answer, place, subject, mark and units used. The first `words` of `lent` are the store's, and the rest is the
+/// index, at least two words for each node.
+#[allow(clippy::too_many_arguments)]
+pub fn run_indexed(
+    table: &[u32],
+    lent: &mut [u32],
+    words: u32,
+    bindings: &mut [u32],
+    mark: u32,
+    start: u32,
+    subject: u32,
+    units: u32,
+    signature: Option<&[u32]>,
+) -> [u32; 5] {
+    let mut numbers = [0; 5];
+    // SAFETY: as in `run`. Lent words and bindings are mutable references, and `numbers` has the five words that are written.
+    unsafe {
+        match signature {
+            Some(signature) => marshtrundle_run_indexed_signed(
+                table.as_ptr(),
+                table.len(),
+                lent.as_mut_ptr(),
+                lent.len(),
+                words,
+                bindings.as_mut_ptr(),
+                bindings.len(),
+                mark,
+                start,
+                subject,
+                units,
+                signature.as_ptr(),
+                signature.len(),
+                numbers.as_mut_ptr(),
+            ),
+            None => marshtrundle_run_indexed(
+                table.as_ptr(),
+                table.len(),
+                lent.as_mut_ptr(),
+                lent.len(),
+                words,
+                bindings.as_mut_ptr(),
+                bindings.len(),
+                mark,
+                start,
+                subject,
+                units,
+                numbers.as_mut_ptr(),
+            ),
+        }
+    }
+    numbers
+}
+
+/// The call over many subjects with an index: answer and place.
+#[allow(clippy::too_many_arguments)]
+pub fn run_many_indexed(
+    table: &[u32],
+    lent: &mut [u32],
+    words: u32,
+    bindings: &[u32],
+    mark: u32,
+    start: u32,
+    subjects: &[u32],
+    units: u32,
+    results: &mut [u32],
+    signature: Option<&[u32]>,
+) -> [u32; 2] {
+    let mut numbers = [0; 2];
+    // SAFETY: as in `run_many`. Lent words and results are mutable references, and `numbers` has the two words that are written.
+    unsafe {
+        match signature {
+            Some(signature) => marshtrundle_run_many_indexed_signed(
+                table.as_ptr(),
+                table.len(),
+                lent.as_mut_ptr(),
+                lent.len(),
+                words,
+                bindings.as_ptr(),
+                bindings.len(),
+                mark,
+                start,
+                subjects.as_ptr(),
+                subjects.len(),
+                units,
+                results.as_mut_ptr(),
+                results.len(),
+                signature.as_ptr(),
+                signature.len(),
+                numbers.as_mut_ptr(),
+            ),
+            None => marshtrundle_run_many_indexed(
+                table.as_ptr(),
+                table.len(),
+                lent.as_mut_ptr(),
+                lent.len(),
+                words,
+                bindings.as_ptr(),
+                bindings.len(),
+                mark,
+                start,
+                subjects.as_ptr(),
+                subjects.len(),
+                units,
+                results.as_mut_ptr(),
+                results.len(),
+                numbers.as_mut_ptr(),
+            ),
+        }
     }
     numbers
 }

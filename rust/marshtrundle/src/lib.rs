@@ -141,6 +141,7 @@ mod answer;
 mod archive;
 mod bindings;
 mod fault;
+mod indexed;
 pub mod job;
 pub mod kind;
 mod many;
@@ -161,6 +162,7 @@ mod traversals;
 pub use answer::{Answer, BuildError, Outcome};
 pub use bindings::{Bindings, Var, VarSet, VARIABLES, VARS};
 pub use fault::{EntryFault, Fault};
+pub use indexed::{run_indexed, run_many_indexed};
 pub use many::{run_many, run_many_signed, Outcomes};
 pub use miss::Miss;
 pub use rule_text::{RuleError, RULE_BYTES};
@@ -175,7 +177,7 @@ pub use table::{Entry, Table, TableBuilder};
 #[doc = include_str!("../README.md")]
 mod readme {}
 
-/// The library's thirteen functions over plain slices of words, for callers that keep their own tables and stores.
+/// The library's functions over plain slices of words, for callers that keep their own tables and stores.
 ///
 /// They take any words of any length, and give the numbers of document 01 back.
 ///
@@ -186,8 +188,9 @@ mod readme {}
 /// ```
 pub mod words {
     pub use crate::archive::{
-        check_store, check_table, collect, free_variables, run, run_many, run_many_signed,
-        run_signed, start, start_signed, step, translate_rules, write_rule,
+        check_store, check_table, collect, free_variables, run, run_indexed, run_many,
+        run_many_indexed, run_many_signed, run_signed, start, start_signed, step, translate_rules,
+        write_rule,
     };
 }
 

@@ -90,10 +90,21 @@ fn call(
     subjects: &[Node],
     work: impl FnOnce(&mut [u32], u32, &[u32], &mut [u32]) -> [u32; 2],
 ) -> Result<Outcomes, Answer> {
+    let (words, mark) = store.parts();
+    listed(subjects, mark, |mark, subjects, results| {
+        work(words, mark, subjects, results)
+    })
+}
+
+/// Makes a call with the subjects' numbers and a result list. The mark becomes the last one.
+pub(crate) fn listed(
+    subjects: &[Node],
+    mark: &mut u32,
+    work: impl FnOnce(u32, &[u32], &mut [u32]) -> [u32; 2],
+) -> Result<Outcomes, Answer> {
     let subjects: Vec<u32> = subjects.iter().map(|node| node.number()).collect();
     let mut results = vec![0; 5 * subjects.len()];
-    let (words, mark) = store.parts();
-    Answer::checked(work(words, *mark, &subjects, &mut results))?;
+    Answer::checked(work(*mark, &subjects, &mut results))?;
     let outcomes = Outcomes {
         results: results.into_iter(),
     };

@@ -82,6 +82,18 @@ impl Store {
         self.words.len() / 8
     }
 
+    /// Lends the store's words with an index behind them, the number of the store's, and the mark. The index is gone afterwards.
+    pub(crate) fn lend_indexed<R>(
+        &mut self,
+        work: impl FnOnce(&mut [u32], u32, &mut u32) -> R,
+    ) -> R {
+        let own = self.words.len();
+        self.words.resize(own + own / 4, 0);
+        let result = work(&mut self.words, own as u32, &mut self.mark);
+        self.words.truncate(own);
+        result
+    }
+
     pub(crate) fn parts(&mut self) -> (&mut [u32], &mut u32) {
         (&mut self.words, &mut self.mark)
     }

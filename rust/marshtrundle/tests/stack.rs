@@ -1,6 +1,7 @@
 //! 4,096 levels of each recursive form, on a thread of exactly the stated stack.
 use marshtrundle::{
-    free_variables, run_many, with_stack, words, Entry, Stepper, WorkList, STACK,
+    free_variables, run_indexed, run_many, with_stack, words, Answer, Entry, Stepper, WorkList,
+    STACK,
 };
 
 mod common;
@@ -42,6 +43,35 @@ fn many_subjects_take_no_more_stack() {
             with_stack(|| run_many(table, store, bindings, Entry::FIRST, &subjects, 4_000_000));
         let first = outcomes.unwrap().unwrap().next().unwrap();
         assert_eq!(first.answer, deep.answer, "{}", deep.name);
+    }
+}
+
+#[test]
+fn with_an_index_every_form_takes_no_more_stack() {
+    for mut deep in (0..).map_while(common::fitting) {
+        let (table, subject) = (&deep.table, deep.subject);
+        let (store, bindings) = (&mut deep.store, &mut deep.bindings);
+        let end = with_stack(|| {
+            run_indexed(
+                table,
+                store,
+                bindings,
+                None,
+                Entry::FIRST,
+                subject,
+                4_000_000,
+            )
+        });
+        let end = end.unwrap();
+        // Three of the stores have two equal terms side by side, which an index refuses.
+        if deep.name.starts_with("a comparison") || deep.name.ends_with("first of two") {
+            assert!(matches!(end.answer, Answer::TwinNode(_)), "{}", deep.name);
+            continue;
+        }
+        assert_eq!(end.answer, deep.answer, "{}", deep.name);
+        if let Some(units) = deep.units {
+            assert_eq!(end.units, units, "{}", deep.name);
+        }
     }
 }
 

@@ -8,7 +8,7 @@
 //! word.
 //!
 //! The slices: 0 table, 1 store, 2 bindings, 3 signature, 4 subjects, 5 results,
-//! 6 work list, 9 steps, 10 text and 11 buffer (a byte in each word).
+//! 6 work list, 7 index, 9 steps, 10 text and 11 buffer (a byte in each word).
 //!
 //! The tags and their answers, where WORDS are ` INDEX=VALUE` for each word that
 //! is not zero, or one sum where there are more than 512 words:
@@ -25,6 +25,8 @@
 //! work list is all zero, and else none. `LABEL`, the start's five numbers, ` /`
 //! and five numbers for each step, ` :`, the bindings' WORDS, ` :`, the store's
 //! WORDS, ` :`, the work list's WORDS.
+//!
+//! Where an index is lent to one of these two, ` :` and its WORDS follow.
 //!
 //! `r`, the translator: `LABEL ANSWER LINE FIELD ENTRIES`, the table's WORDS. MARK
 //! is the number of entries in use; START, SUBJECT and UNITS are 0. `w`, the
@@ -58,6 +60,8 @@ pub const RESULTS: u32 = 5;
 pub const WORK: u32 = 6;
 /// The number of the steps.
 pub const STEPS: u32 = 9;
+/// The number of the index.
+pub const INDEX: u32 = 7;
 /// The number of the text.
 pub const TEXT: u32 = 10;
 /// The number of the buffer.
@@ -255,9 +259,11 @@ impl CallCase {
     /// Answers a run with what is lent.
     fn answer_run(self) -> String {
         let signature = self.words(SIGNATURE);
+        let mut index = self.words(INDEX);
         let mut run = self.run;
         let lent = Lent {
             signature: signature.as_deref(),
+            index: index.as_deref_mut(),
         };
         let outcome = run_lent(
             &run.table,
@@ -272,8 +278,10 @@ impl CallCase {
         );
         let mut line = format!("{} {}", run.label, outcome);
         show_slice(&mut line, &run.bindings);
-        line.push_str(" :");
-        show_slice(&mut line, &run.store);
+        for words in [Some(run.store), index].iter().flatten() {
+            line.push_str(" :");
+            show_slice(&mut line, words);
+        }
         line
     }
 
@@ -282,9 +290,11 @@ impl CallCase {
         let signature = self.words(SIGNATURE);
         let subjects = self.words(SUBJECTS).unwrap_or_default();
         let mut results = self.words(RESULTS).unwrap_or_default();
+        let mut index = self.words(INDEX);
         let mut run = self.run;
         let lent = Lent {
             signature: signature.as_deref(),
+            index: index.as_deref_mut(),
         };
         let (answer, place) = run_many(
             &run.table,
@@ -299,7 +309,7 @@ impl CallCase {
         );
         let mut line = format!("{} {} {}", run.label, answer, place);
         show_slice(&mut line, &run.bindings);
-        for words in [&run.store, &results] {
+        for words in [Some(run.store), Some(results), index].iter().flatten() {
             line.push_str(" :");
             show_slice(&mut line, words);
         }

@@ -4,6 +4,8 @@
 //! written." (mission, demand 1). Nothing here writes. Every word is looked at
 //! in the order of the entries or nodes, so the first bad one is the lowest.
 
+use std::collections::BTreeSet;
+
 /// The words of one entry, and of one node.
 ///
 /// 01: "eight words to a node"; "Eight words to an entry."
@@ -65,6 +67,8 @@ pub const BAD_OPERAND: u32 = 15;
 pub const BAD_SORT: u32 = 16;
 /// 02, wish 4: "a non-zero unused word".
 pub const BAD_WORD: u32 = 17;
+/// 02, wish 12: "a given node with an earlier one's words gives 21".
+pub const REPEATED_NODE: u32 = 21;
 /// 02, wish 8: "an unfinished run answers 25".
 pub const UNFINISHED: u32 = 25;
 /// 02, wish 8: "a step on a zero one gives 27".
@@ -389,5 +393,19 @@ pub fn lowest_disobeying_node(store: &[u32], mark: u32, signature: &[u32]) -> Op
         .chunks(WIDTH)
         .take(mark as usize)
         .position(|row| !obeys(signature, row[0], row[1]))
+        .map(|node| node as u32)
+}
+
+/// The lowest node below the mark of a good store whose eight words an earlier
+/// node has.
+///
+/// 02, wish 12: "a given node with an earlier one's words gives 21 with the lowest
+/// such".
+pub fn lowest_repeated_node(store: &[u32], mark: u32) -> Option<u32> {
+    let mut earlier = BTreeSet::new();
+    store
+        .chunks(WIDTH)
+        .take(mark as usize)
+        .position(|row| !earlier.insert(row))
         .map(|node| node as u32)
 }

@@ -21,10 +21,10 @@ pub const NO_MISS: u32 = 4_096;
 /// 01: "A run returns five numbers: answer, place, subject, mark, units used."
 #[derive(Clone, Copy, Debug, PartialEq, Eq)]
 pub struct Outcome {
-    /// 0 to 8 without 3 by 01's table, and 10 to 17 by 02.
+    /// 0 to 8 without 3 by 01's table, and 10 to 17 and 21 by 02.
     pub answer: u32,
     /// The lowest bad entry for answers 10 and 13 to 17, the lowest bad node for
-    /// 4 and 11, the variable for 12, the entry of the last match that failed for
+    /// 4, 11 and 21, the variable for 12, the entry of the last match that failed for
     /// 1, else 0.
     pub place: u32,
     /// The new subject for answer 0, else as given.
@@ -84,6 +84,8 @@ pub trait Watcher {
     fn judged(&mut self, _left: u32, _right: u32, _equal: bool) {}
     /// A match gave up at this pattern entry, of this kind.
     fn missed(&mut self, _pattern: u32, _kind: u32) {}
+    /// A node was wanted that stands below the mark already.
+    fn found(&mut self, _node: u32) {}
     /// A node was made, and the mark is now this.
     fn made(&mut self, _mark: u32) {}
     /// A failure was caught: nodes dropped, and whether bindings went back.
@@ -127,6 +129,8 @@ struct Machine<'a, W> {
     miss: u32,
     /// 02, wish 8: the visits after which the run is set aside.
     pause: u64,
+    /// 02, wish 12: whether a node that stands below the mark is not made again.
+    shared: bool,
     watcher: &'a mut W,
 }
 
@@ -145,11 +149,31 @@ impl<'a, W: Watcher> Machine<'a, W> {
         words
     }
 
+    /// The node below the mark that has these words, if there is one.
+    ///
+    /// 02, wish 12: "Room given back is forgotten by the index": the mark is the
+    /// one of this moment.
+    fn standing(&self, words: &[u32; WIDTH]) -> Option<u32> {
+        let below = &self.store[..WIDTH * self.mark as usize];
+        below
+            .chunks(WIDTH)
+            .position(|row| row == words)
+            .map(|node| node as u32)
+    }
+
     /// Makes a node and gives its number.
     ///
     /// 01: "A new node takes the number at the mark."; "Answer 7: a node is to
-    /// be made and the mark equals the store's nodes."
+    /// be made and the mark equals the store's nodes." 02, wish 12: "a node that
+    /// stands below the mark with the same words isn't made again." Where it is
+    /// found no room is wanted.
     fn make(&mut self, words: [u32; WIDTH]) -> Result<u32, End> {
+        if self.shared {
+            if let Some(node) = self.standing(&words) {
+                self.watcher.found(node);
+                return Ok(node);
+            }
+        }
         let first = WIDTH * self.mark as usize;
         if first == self.store.len() {
             return Err(End::CutOff(Stop::Room));
@@ -498,12 +522,16 @@ impl<'a, W: Watcher> Machine<'a, W> {
 }
 
 /// What a caller may lend to a run besides table, store and bindings.
-#[derive(Clone, Copy, Default)]
+#[derive(Default)]
 pub struct Lent<'a> {
     /// 02, wish 2: "one word per constructor, the declared count or 7 for
     /// undeclared." `None` is no signature; an empty one refuses every
     /// constructor.
     pub signature: Option<&'a [u32]>,
+    /// 02, wish 12: the memory of an index. Where it is lent the run is that of
+    /// the variant with one node for one term. This implementation searches the
+    /// store instead, so it looks at the index's length alone and leaves it zero.
+    pub index: Option<&'a mut [u32]>,
 }
 
 /// Runs a strategy of the table on a term of the store.
@@ -561,6 +589,7 @@ pub fn run_lent<W: Watcher>(
         start,
         subjects: &[subject],
         signature: lent.signature,
+        index: lent.index.as_ref().map(|index| index.len()),
         results: None,
         work: None,
     });
@@ -573,7 +602,15 @@ pub fn run_lent<W: Watcher>(
             units: 0,
         };
     }
-    run_accepted(table, store, bindings, mark, start, subject, units, watcher)
+    let shared = lent.index.is_some();
+    let outcome = run_accepted(
+        table, store, bindings, mark, start, subject, units, shared, watcher,
+    );
+    // 02, wish 12: "The index is all zero on return from a run."
+    if let Some(index) = lent.index {
+        index.fill(0);
+    }
+    outcome
 }
 
 /// Runs an input that nothing refuses.
@@ -586,11 +623,12 @@ pub(crate) fn run_accepted<W: Watcher>(
     start: u32,
     subject: u32,
     units: u32,
+    shared: bool,
     watcher: &mut W,
 ) -> Outcome {
     let never = u64::MAX;
     run_paused(
-        table, store, bindings, mark, start, subject, units, never, watcher,
+        table, store, bindings, mark, start, subject, units, never, shared, watcher,
     )
 }
 
@@ -606,6 +644,7 @@ pub(crate) fn run_paused<W: Watcher>(
     subject: u32,
     units: u32,
     pause: u64,
+    shared: bool,
     watcher: &mut W,
 ) -> Outcome {
     // 01: "Subject and mark come back as given in all answers but 0."
@@ -627,6 +666,7 @@ pub(crate) fn run_paused<W: Watcher>(
         units,
         miss: NO_MISS,
         pause,
+        shared,
         watcher,
     };
     // 01: "The start is at nesting 1".

@@ -33,6 +33,7 @@ pub fn run_many(
         start,
         subjects,
         signature: lent.signature,
+        index: lent.index.as_ref().map(|index| index.len()),
         results: Some(results.len()),
         work: None,
     });
@@ -43,10 +44,26 @@ pub fn run_many(
     for (&subject, five) in subjects.iter().zip(results.chunks_mut(5)) {
         // 02: "Lent bindings stay as given."
         let mut own = bindings.to_vec();
-        let outcome = run_accepted(table, store, &mut own, mark, start, subject, units, &mut ());
+        let shared = lent.index.is_some();
+        let outcome = run_accepted(
+            table,
+            store,
+            &mut own,
+            mark,
+            start,
+            subject,
+            units,
+            shared,
+            &mut (),
+        );
         // A subject that is not done leaves the mark that it was given.
         mark = outcome.mark;
         five.copy_from_slice(&outcome.numbers());
+    }
+    // 02, wish 12: "The index is all zero on return from a run." With no subjects
+    // there was no run, and nothing is written.
+    if let (false, Some(index)) = (subjects.is_empty(), lent.index) {
+        index.fill(0);
     }
     (DONE, 0)
 }

@@ -5,8 +5,8 @@
 
 use crate::checks::{
     bad_signature, bad_store_length, bad_table_length, kind_of, lowest_bad_entry, lowest_bad_node,
-    lowest_disobeying_entry, lowest_disobeying_node, sort_of, Sort, BAD_LENGTH, BAD_NODE,
-    BAD_START, SIGNED_ENTRY, SIGNED_NODE, VARIABLES, WIDTH,
+    lowest_disobeying_entry, lowest_disobeying_node, lowest_repeated_node, sort_of, Sort,
+    BAD_LENGTH, BAD_NODE, BAD_START, REPEATED_NODE, SIGNED_ENTRY, SIGNED_NODE, VARIABLES, WIDTH,
 };
 
 /// What is looked at before anything is written.
@@ -25,6 +25,8 @@ pub struct Input<'a> {
     pub subjects: &'a [u32],
     /// The signature, where one is lent. An empty one is lent too.
     pub signature: Option<&'a [u32]>,
+    /// The length of the index, where one is lent.
+    pub index: Option<usize>,
     /// The length of the result list, for the call with many subjects.
     pub results: Option<usize>,
     /// The length of the work list, for the start of a stepped run.
@@ -45,6 +47,7 @@ fn bad_sizes(input: &Input) -> bool {
             .map_or(false, |words| bad_results(input, words))
         || input.signature.map_or(false, bad_signature)
         || input.work.map_or(false, bad_work)
+        || input.index.map_or(false, |words| bad_index(input, words))
 }
 
 /// Whether the work list of a stepped run is too short.
@@ -53,6 +56,13 @@ fn bad_sizes(input: &Input) -> bool {
 /// 2"; wish 9: it "takes 80 words a level".
 pub fn bad_work(words: usize) -> bool {
     words < 80 * 4_096
+}
+
+/// Whether an index is too short.
+///
+/// 02, wish 12: "an index shorter than twice the store's nodes gives 2".
+fn bad_index(input: &Input, words: usize) -> bool {
+    words < 2 * (input.store.len() / WIDTH)
 }
 
 /// Whether a result list has the wrong length.
@@ -79,7 +89,7 @@ fn bad_start(input: &Input) -> bool {
 ///
 /// 01: "Order: 2, 3, 4, 5, then the run." 02: 13 to 17 "where 3 stood" (wish 4);
 /// "10 with the lowest entry, then 11 with the lowest node, both after 4 and
-/// before 5" (wish 2).
+/// before 5" (wish 2); 21 "after 4 and 11 and before 5" (wish 12).
 pub fn refusal(input: &Input) -> Option<(u32, u32)> {
     if bad_sizes(input) {
         return Some((BAD_LENGTH, 0));
@@ -96,6 +106,11 @@ pub fn refusal(input: &Input) -> Option<(u32, u32)> {
         }
         if let Some(node) = lowest_disobeying_node(input.store, input.mark, signature) {
             return Some((SIGNED_NODE, node));
+        }
+    }
+    if input.index.is_some() {
+        if let Some(node) = lowest_repeated_node(input.store, input.mark) {
+            return Some((REPEATED_NODE, node));
         }
     }
     if bad_start(input) {

@@ -1,8 +1,8 @@
 //! What the generated cases cover, counted.
 
-use crate::calls::{Call, CallCase, RESULTS, SIGNATURE, SUBJECTS};
+use crate::calls::{Call, CallCase, INDEX, RESULTS, SIGNATURE, SUBJECTS};
 use crate::checks::{kind, ran, BAD_TEXT, DONE, FAILED, NO_ROOM, UNBOUND, UNFINISHED};
-use crate::engine::{run_watched, Lent, Watcher};
+use crate::engine::{run_lent, run_watched, Lent, Watcher};
 use crate::free::free_variables;
 use crate::generate::{free_case, job_text, run_case};
 use crate::job::job;
@@ -382,12 +382,14 @@ pub fn of_calls(make: fn(u64, u64) -> CallCase, seed: u64, count: u64) -> String
     let mut made = 0u64;
     let mut subjects: BTreeMap<&str, u64> = BTreeMap::new();
     let mut each = Answers::new();
+    let mut shares = Shares::default();
     let mut writer = Answers::new();
     let mut added: BTreeMap<&str, u64> = BTreeMap::new();
     let mut steps = Steps::default();
     for index in 0..count {
         let case = make(seed, index);
         count_subjects(&case, &mut subjects, &mut each);
+        count_shares(&case, &mut shares);
         let (call, mark) = (case.call, case.run.mark);
         empty += u64::from(case.lent.values().any(|words| words.is_empty()));
         let line = case.answer();
@@ -433,6 +435,9 @@ pub fn of_calls(make: fn(u64, u64) -> CallCase, seed: u64, count: u64) -> String
                 steps.idle, steps.edge, steps.zeros
             ),
         );
+    }
+    if shares.runs > 0 {
+        say_shares(text, &shares);
     }
     if !writer.is_empty() {
         say(text, format_args!("translations by the entries added"));
@@ -497,6 +502,94 @@ fn count_steps(call: Call, line: &str, steps: &mut Steps) {
     steps.edge += u64::from(last[0] == 6 && before[4] == last[4]);
 }
 
+/// What a watcher counts over runs with an index.
+#[derive(Default)]
+struct Shares {
+    /// The mark at the beginning of the run.
+    given: u32,
+    runs: u64,
+    made: u64,
+    found_given: u64,
+    found_made: u64,
+    /// Runs that differ from the plain store's: a lower mark, or no 7.
+    lower: u64,
+    no_room_before: u64,
+    /// Nodes that were given back, in runs that made nodes again after it.
+    given_back: u64,
+}
+
+impl Watcher for Shares {
+    fn made(&mut self, _mark: u32) {
+        self.made += 1;
+    }
+
+    fn found(&mut self, node: u32) {
+        if node < self.given {
+            self.found_given += 1;
+        } else {
+            self.found_made += 1;
+        }
+    }
+
+    fn caught(&mut self, nodes: u32, _bindings: bool) {
+        self.given_back += u64::from(nodes);
+    }
+}
+
+/// Counts what an index does in a run, beside a run in the plain store.
+fn count_shares(case: &CallCase, shares: &mut Shares) {
+    let mut index = match (case.call, case.words(INDEX)) {
+        (Call::Run, Some(index)) => index,
+        _ => return,
+    };
+    let mut answers = Vec::new();
+    shares.given = case.run.mark;
+    let signature = case.words(SIGNATURE);
+    for shared in [true, false] {
+        let mut run = case.run.clone();
+        let lent = Lent {
+            signature: signature.as_deref(),
+            index: if shared { Some(&mut index) } else { None },
+        };
+        let mut plain = Shares::default();
+        answers.push(run_lent(
+            &run.table,
+            &mut run.store,
+            &mut run.bindings,
+            run.mark,
+            run.start,
+            run.subject,
+            run.units,
+            lent,
+            if shared { &mut *shares } else { &mut plain },
+        ));
+    }
+    if ran(answers[0].answer) {
+        shares.runs += 1;
+        shares.lower += u64::from(answers[0].mark < answers[1].mark);
+        let other = answers[1].answer == NO_ROOM && answers[0].answer != NO_ROOM;
+        shares.no_room_before += u64::from(other);
+    }
+}
+
+/// Writes what an index did.
+fn say_shares(text: &mut String, shares: &Shares) {
+    say(
+        text,
+        format_args!(
+            "runs with an index {}: nodes made {}, found among the given {}, found among the made {}, given back {}",
+            shares.runs, shares.made, shares.found_given, shares.found_made, shares.given_back
+        ),
+    );
+    say(
+        text,
+        format_args!(
+            "  a lower mark than the plain store's {}, no 7 where it has 7 {}",
+            shares.lower, shares.no_room_before
+        ),
+    );
+}
+
 /// Counts the subjects of an accepted call with many, and their answers.
 fn count_subjects(case: &CallCase, sizes: &mut BTreeMap<&str, u64>, each: &mut Answers) {
     if case.call != Call::Many {
@@ -506,8 +599,10 @@ fn count_subjects(case: &CallCase, sizes: &mut BTreeMap<&str, u64>, each: &mut A
     let subjects = case.words(SUBJECTS).unwrap_or_default();
     let mut results = case.words(RESULTS).unwrap_or_default();
     let signature = case.words(SIGNATURE);
+    let mut index = case.words(INDEX);
     let lent = Lent {
         signature: signature.as_deref(),
+        index: index.as_deref_mut(),
     };
     let (answer, _) = run_many(
         &run.table,

@@ -51,6 +51,7 @@ pub fn start_run(
         start,
         subjects: &[subject],
         signature,
+        index: None,
         results: None,
         work: Some(work.len()),
     });
@@ -104,6 +105,7 @@ pub fn step_run(
         start,
         subjects: &[subject],
         signature: None,
+        index: None,
         results: None,
         work: Some(work.len()),
     });
@@ -120,6 +122,7 @@ pub fn step_run(
         subject,
         units,
         pause,
+        false,
         &mut (),
     );
     if outcome.answer == UNFINISHED {

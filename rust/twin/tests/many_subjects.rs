@@ -40,6 +40,7 @@ fn call_here(input: &Input) -> Many {
     let mut results = input.results.clone();
     let lent = Lent {
         signature: input.signature.as_deref(),
+        ..Lent::default()
     };
     let answer = run_many(
         &input.table,
@@ -359,6 +360,7 @@ fn generated_the_outcome_of_single_calls_in_turn() {
                 let mut bindings = input.bindings.clone();
                 let lent = Lent {
                     signature: input.signature.as_deref(),
+                    ..Lent::default()
                 };
                 let outcome = run_lent(
                     &input.table,

@@ -21,6 +21,7 @@ fn signed_on(table: &[u32], store: Vec<u32>, mark: u32, subject: u32, signature:
     let mut bindings = vec![0; 64];
     let lent = Lent {
         signature: Some(signature),
+        ..Lent::default()
     };
     let outcome = run_lent(
         table,
@@ -204,6 +205,7 @@ fn generated_every_node_of_a_done_run_obeys() {
             let before = (run.store.clone(), run.bindings.clone());
             let lent = Lent {
                 signature: Some(&signature),
+                ..Lent::default()
             };
             let outcome = run_lent(
                 &run.table,

@@ -294,6 +294,7 @@ fn generated_any_step_counts_give_the_first_engine() {
             let mut plain = case.run.clone();
             let lent = Lent {
                 signature: signature.as_deref(),
+                index: None,
             };
             let expected = run_lent(
                 &plain.table,

@@ -12,7 +12,7 @@ use Rattle.calls.specs.Refused.{lentIf}
 use Rattle.calls.specs.Many.{handed, manyAtReturn}
 use Rattle.loading.proofs.Fetching.{table-loaded, entries-loaded}
 use Rattle.loading.proofs.Hinting.{hints-loaded}
-use Rattle.running.proofs.Whole.{ready, ended-as, table-fits}
+use Rattle.running.proofs.Whole.{ready-plain, ended-plain, store-small}
 use Rattle.calls.proofs.Turns.{Going, table-short, mark-short, accepted-single, going-first, going-next, going-last, many-refused, many-ran, many-given, many-none}
 use Rattle.many.proofs.run_many_lent.Statement.{statement}
 use Rattle.many.proofs.run_many_lent.Tie as tie
@@ -67,6 +67,21 @@ loop-holds c =
     let k = handed (a .table .now) (a .store .now) (a .bindings .now) (a .mark) (a .start) (a .subjects .now) (a .units) (a .results .now) in
     let is = at-refusal .many-refusal .ensures (a .results .now) (a .units) refl in
     going-first ours g k (many-given ours g k _ is (at-if1 .if1 .left) .1)
+
+cast-nodes : tie.Need-cast-nodes Inv-loop μ-loop
+cast-nodes c =
+    let at-loop = c .before in
+    let at-load = at-loop .before in
+    let at-if1 = at-load .before .before .before in
+    let at-refusal = at-if1 .before .before in
+    let at-start = at-refusal .before .before .before .before .before .before .before .before in
+    let a = at-start .args in
+    let g = lentIf (a .signed) (a .signature .now) in
+    let k = handed (a .table .now) (a .store .now) (a .bindings .now) (a .mark) (a .start) (a .subjects .now) (a .units) (a .results .now) in
+    let is = at-refusal .many-refusal .ensures (a .results .now) (a .units) refl in
+    let γ = many-given ours g k _ is (at-if1 .if1 .left) .0 in
+    let G = at-loop .loop .inv in
+    omega (arith, store-small _ (accepted-single ours γ (G .stands) _ (γ .subjects _ (c .loop-test .taken))))
 
 opened-requires : tie.Need-opened-requires Inv-loop μ-loop
 opened-requires c κs =
@@ -128,7 +143,7 @@ run-accepted-requires c κs =
     let G = at-loop .loop .inv in
     let h = accepted-single ours γ (G .stands) _ (γ .subjects _ (c .before .before .before .before .before .loop-test .taken)) in
     let l = at-load .load .ensures in
-    ready _ h _ _ _ (table-loaded l) (entries-loaded (h .table) l) (hints-loaded (h .table) l) (c .before .before .before .before .opened .ensures) (at-start .fits .units .fits) refl
+    ready-plain _ h _ _ _ _ (table-loaded l) (entries-loaded (h .table) l) (hints-loaded (h .table) l) refl (c .before .before .before .before .opened .ensures) (at-start .fits .units .fits) refl
 
 mul-put-five : tie.Need-mul-put-five Inv-loop μ-loop
 mul-put-five c =
@@ -207,7 +222,7 @@ loop-again c =
     let h = accepted-single ours γ (G .stands) _ (γ .subjects _ below) in
     let l = at-load .load .ensures in
     let at-run = c .before .before .before .before .before .before in
-    let e = ended-as _ h _ _ _ (table-loaded l) (entries-loaded (h .table) l) (hints-loaded (h .table) l) (at-run .before .before .before .before .before .opened .ensures)
+    let e = ended-plain _ h _ _ _ _ (table-loaded l) (entries-loaded (h .table) l) (hints-loaded (h .table) l) refl (at-run .before .before .before .before .before .opened .ensures)
     (at-start .fits .units .fits) refl _ _ _ (at-run .run-accepted .ensures) in
     rw (c .before .before .put-five .ensures) (going-next ours γ _ _ _ _ G below _ _ (e .numbers) (e .words))
 
@@ -282,6 +297,6 @@ pub run-many-lent-spec : {M : Type 1} → statement M
 run-many-lent-spec =
     tie.close
     (tie.spec
-    Inv-loop μ-loop (λ c κs. search needs) (λ c. search needs) returns (λ c. search needs) returns-2 load-requires loop-holds opened-requires
+    Inv-loop μ-loop (λ c κs. search needs) (λ c. search needs) returns (λ c. search needs) returns-2 load-requires loop-holds cast-nodes opened-requires
     mul-run-accepted shared-slice-read-run-accepted run-accepted-requires mul-put-five put-five-requires add-j loop-less loop-again
     cast-clear-from mul-clear-from (λ c κs. search needs) same-length-3 same-length-4 returns-3)

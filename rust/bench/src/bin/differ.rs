@@ -5,9 +5,9 @@
 //! compared; so are the two checks of its words. What is handed to a run and what
 //! it leaves is collected by the proved function and by the plain one, and the
 //! four numbers and every word of store, bindings and work list are compared. COUNT
-//! runs with a signature, a tenth of COUNT runs in steps, COUNT calls with many subjects, some with a signature,
-//! refused ones too, and the questions go through the proved function and the
-//! plain one. So do COUNT texts of rules and rules to write: the numbers, every
+//! runs with a signature, a tenth of COUNT runs in steps, COUNT calls with many subjects,
+//! some with a signature, refused ones too, COUNT calls with an index and the questions
+//! go through the proved function and the plain one. So do COUNT texts of rules and rules to write: the numbers, every
 //! word of the table and every byte of the buffer are compared. It ends with 1 where two of them differ, and with 2 where the words
 //! leave nothing to compare.
 
@@ -16,8 +16,10 @@
 use bench::engines::ENGINES;
 use bench::foreign;
 use std::process::ExitCode;
-use twin::calls::{Call, CallCase, BUFFER, RESULTS, SIGNATURE, STEPS, SUBJECTS, TEXT, WORK};
-use twin::generate::{free_case, many_case, rules_case, run_case, signed_case, stepped_case};
+use twin::calls::{Call, CallCase, BUFFER, INDEX, RESULTS, SIGNATURE, STEPS, SUBJECTS, TEXT, WORK};
+use twin::generate::{
+    free_case, indexed_case, many_case, rules_case, run_case, signed_case, stepped_case,
+};
 use twin::text::{FreeCase, RunCase};
 
 /// Whether the three engines agree on a case.
@@ -115,6 +117,7 @@ fn signed_agrees(case: &CallCase) -> bool {
         run.units,
         twin::Lent {
             signature: Some(&signature),
+            ..twin::Lent::default()
         },
         &mut (),
     );
@@ -164,6 +167,7 @@ fn many_agrees(case: &CallCase) -> bool {
         &mut plain.1,
         twin::Lent {
             signature: signature.as_deref(),
+            ..twin::Lent::default()
         },
     );
     numbers == [answer, place] && proved == plain
@@ -253,6 +257,85 @@ fn step_both(
     numbers[0]
 }
 
+/// Whether the proved function and the plain one agree on a call with an index:
+/// the numbers, every word of the store, of the bindings or the results and of the
+/// index.
+fn indexed_agrees(case: &CallCase) -> bool {
+    let signature = case.words(SIGNATURE);
+    let run = &case.run;
+    let index = case.words(INDEX).expect("an index is lent");
+    let words = run.store.len();
+    let mut lent = run.store.clone();
+    lent.extend(&index);
+    let mut plain = (run.store.clone(), index);
+    if case.call == Call::Many {
+        let subjects = case.words(SUBJECTS).expect("subjects are lent");
+        let mut results = case.words(RESULTS).expect("results are lent");
+        let mut others = results.clone();
+        let numbers = foreign::run_many_indexed(
+            &run.table,
+            &mut lent,
+            words as u32,
+            &run.bindings,
+            run.mark,
+            run.start,
+            &subjects,
+            run.units,
+            &mut results,
+            signature.as_deref(),
+        );
+        let (answer, place) = twin::run_many(
+            &run.table,
+            &mut plain.0,
+            &run.bindings,
+            run.mark,
+            run.start,
+            &subjects,
+            run.units,
+            &mut others,
+            twin::Lent {
+                signature: signature.as_deref(),
+                index: Some(&mut plain.1),
+            },
+        );
+        return numbers == [answer, place]
+            && results == others
+            && lent[..words] == plain.0
+            && lent[words..] == plain.1;
+    }
+    let mut bindings = run.bindings.clone();
+    let mut others = bindings.clone();
+    let numbers = foreign::run_indexed(
+        &run.table,
+        &mut lent,
+        words as u32,
+        &mut bindings,
+        run.mark,
+        run.start,
+        run.subject,
+        run.units,
+        signature.as_deref(),
+    );
+    let end = twin::run_lent(
+        &run.table,
+        &mut plain.0,
+        &mut others,
+        run.mark,
+        run.start,
+        run.subject,
+        run.units,
+        twin::Lent {
+            signature: signature.as_deref(),
+            index: Some(&mut plain.1),
+        },
+        &mut (),
+    );
+    numbers == [end.answer, end.place, end.subject, end.mark, end.units]
+        && bindings == others
+        && lent[..words] == plain.0
+        && lent[words..] == plain.1
+}
+
 /// Whether the proved function and the plain one agree on a text of rules: the
 /// four numbers and every word of the table.
 fn translation_agrees(case: &CallCase) -> bool {
@@ -319,6 +402,10 @@ fn compare(first: u64, last: u64, count: u64) -> u64 {
                 println!("run in steps {} of seed {} differs", index, seed);
                 differ += 1;
             }
+            if !indexed_agrees(&indexed_case(seed, index)) {
+                println!("call {} with an index of seed {} differs", index, seed);
+                differ += 1;
+            }
             if !rules_agree(&rules_case(seed, index)) {
                 println!("rules {} of seed {} differ", index, seed);
                 differ += 1;
@@ -344,11 +431,12 @@ fn main() -> ExitCode {
     let differ = twin::with_big_stack(move || compare(first, last, count));
     let each = (last - first + 1) * count;
     println!(
-        "{} runs, {} signed runs, {} calls with many subjects, {} runs in steps, {} collections, {} texts of rules or rules to write and {} questions compared, {} differ",
+        "{} runs, {} signed runs, {} calls with many subjects, {} runs in steps, {} calls with an index, {} collections, {} texts of rules or rules to write and {} questions compared, {} differ",
         each,
         each,
         each,
         (last - first + 1) * count.div_ceil(10),
+        each,
         2 * each,
         each,
         each,

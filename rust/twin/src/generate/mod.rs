@@ -5,10 +5,12 @@
 //! makes them bad, `runs` puts limits around them and damages some, `frees` and
 //! `jobs` do the same for the other two questions, `signed` lends a
 //! signature, `subjects` makes calls with many subjects, `stepped` makes stepped
-//! runs, `rules` makes rules as text and rules to write.
+//! runs, `rules` makes rules as text and rules to write, `indexed` lends an
+//! index.
 
 mod damage;
 mod frees;
+mod indexed;
 mod jobs;
 mod plans;
 mod rules;
@@ -27,11 +29,13 @@ pub fn call_cases(kind: &str) -> Option<fn(u64, u64) -> CallCase> {
         "many" => Some(many_case),
         "stepped" => Some(stepped_case),
         "rules" => Some(rules_case),
+        "indexed" => Some(indexed_case),
         _ => None,
     }
 }
 
 pub use frees::free_case;
+pub use indexed::indexed_case;
 pub use jobs::job_text;
 pub use rules::rules_case;
 pub use runs::run_case;

@@ -9,11 +9,11 @@ use crate::random::Random;
 use crate::text::RunCase;
 
 /// The most visits of a generated run.
-const MOST_UNITS: u32 = 60_000;
+pub(super) const MOST_UNITS: u32 = 60_000;
 
 /// Remembers the greatest mark of a run.
-struct Peak {
-    mark: u32,
+pub(super) struct Peak {
+    pub mark: u32,
 }
 
 impl Watcher for Peak {

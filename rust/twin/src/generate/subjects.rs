@@ -44,7 +44,7 @@ pub fn many_case(seed: u64, index: u64) -> CallCase {
 }
 
 /// A few subjects, with the case's own among them, or none.
-fn subjects(random: &mut Random, run: &RunCase) -> Vec<u32> {
+pub(super) fn subjects(random: &mut Random, run: &RunCase) -> Vec<u32> {
     let count = match random.below(40) {
         0..=2 => 0,
         3 => random.within(20, 60),
@@ -62,7 +62,7 @@ fn subjects(random: &mut Random, run: &RunCase) -> Vec<u32> {
 
 /// Room for some of the subjects or for all. What the case had above the mark
 /// was room for one.
-fn more_room(random: &mut Random, run: &mut RunCase, subjects: usize) {
+pub(super) fn more_room(random: &mut Random, run: &mut RunCase, subjects: usize) {
     let one = run.store.len() - WIDTH * run.mark as usize;
     let times = match random.below(3) {
         0 => 0,

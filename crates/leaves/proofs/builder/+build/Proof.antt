@@ -10,7 +10,6 @@ use Rattle.meaning.specs.Rules.{build as built}
 use Rattle.leaves.specs.Record.{standing, held}
 use Rattle.leaves.specs.Visits.{visit}
 use Rattle.leaves.proofs.AnswerWords.{done-node}
-use Rattle.leaves.proofs.Keeping.{roomy}
 use Rattle.leaves.proofs.Holding.{further, framed-refl}
 use Rattle.leaves.proofs.Limited.{units-out, nesting-out}
 use Rattle.leaves.proofs.Patterns.{no-variable, operand-pattern}
@@ -27,6 +26,7 @@ use Rattle.leaves.proofs.answers.no_nesting.Reads as no-nesting-reads
 use Rattle.leaves.proofs.answers.no_units.Reads as no-units-reads
 use Rattle.leaves.proofs.answers.answer_of.Reads as answer-of-reads
 use Rattle.leaves.proofs.builder.node.Reads as node-reads
+use Rattle.leaves.proofs.builder.node_asked.Reads as node-asked-reads
 use Rattle.leaves.proofs.reading.entry.Reads as entry-reads
 use Rattle.leaves.proofs.reading.kind.Reads as kind-reads
 use Rattle.leaves.proofs.reading.operands.Reads as operands-reads
@@ -45,7 +45,7 @@ abbrev build-below : ℕ → In 3 build-kinds.ps
 build-below t = and 3 build-kinds.ps (falls 3 build-kinds.ps _<_ μ-build t) build.Pre
 
 abbrev build-calls : ℕ → build-lts.Claims
-build-calls t = (no-units-reads.Asked, no-units-reads.Learnt, no-nesting-reads.Asked, no-nesting-reads.Learnt, kind-reads.Asked, kind-reads.Learnt, entry-reads.Asked, entry-reads.Learnt, bit-reads.Asked, bit-reads.Learnt, word-of-reads.Asked, word-of-reads.Learnt, done-reads.Asked, done-reads.Learnt, no-binding-reads.Asked, no-binding-reads.Learnt, operands-reads.Asked, operands-reads.Learnt, build-below t, build.Post, answer-of-reads.Asked, answer-of-reads.Learnt, node-reads.Asked, node-reads.Learnt)
+build-calls t = (no-units-reads.Asked, no-units-reads.Learnt, no-nesting-reads.Asked, no-nesting-reads.Learnt, kind-reads.Asked, kind-reads.Learnt, entry-reads.Asked, entry-reads.Learnt, bit-reads.Asked, bit-reads.Learnt, word-of-reads.Asked, word-of-reads.Learnt, done-reads.Asked, done-reads.Learnt, no-binding-reads.Asked, no-binding-reads.Learnt, operands-reads.Asked, operands-reads.Learnt, build-below t, build.Post, answer-of-reads.Asked, answer-of-reads.Learnt, node-asked-reads.Asked, node-asked-reads.Learnt, node-reads.Asked, node-reads.Learnt)
 
 abbrev build-Inv-loop : build-lts.InvT-loop
 build-Inv-loop table store₀ st₀ p left deep u₀ n made₀ i₀ store st u made i =
@@ -170,16 +170,32 @@ build-loop-again t c =
       built-more _ _ _ _ _ _ _ _ _ _ (i .6) (start .pre .1 .0 .few _ (start .pre .1 .1)) (below t (at-before .before)) _ _ (at-entry3 .entry3 .ensures) _ _ (at-build .build .ensures) _ (at-answer-of .answer-of .ensures) (start .pre .1 .0) _ _ (at-x .x .given .1),
     )
 
-build-node-requires : (t : ℕ) → build-lts.Need-node-requires (build-calls t) (build-at t) build.Post build-Inv-loop build-μ-loop
-build-node-requires t c κs = (roomy (c .before .before .before .loop .inv .6 .steady), c .before .before .before .loop .inv .6 .frame .long ∙ c .before .before .before .before .before .before .before .before .before .before .before .pre .1 .4)
+-- the row is whole: the index is asked, or the node is made
+build-node-asked-requires : (t : ℕ) → build-lts.Need-node-asked-requires (build-calls t) (build-at t) build.Post build-Inv-loop build-μ-loop
+build-node-asked-requires t c κs =
+    let at-loop = c .before .before .before .before .before .before in
+    let start = c .before .before .before .before .before .before .before .before .before .before .before .before .before .before in
+    (at-loop .loop .inv .6 .steady .fits, at-loop .loop .inv .6 .frame .long ∙ start .pre .1 .4, c .before .before .if5 .taken)
 
 build-returns-6 : (t : ℕ) → build-lts.Need-returns-6 (build-calls t) (build-at t) build.Post build-Inv-loop build-μ-loop
 build-returns-6 t c =
-    let at-node = c .before .before in
-    let at-loop = at-node .before .before .before .before in
-    let start = at-loop .before .before .before .before .before .before .before .before in
+    let at-loop = c .before .before .before .before .before .before .before .before .before in
+    let start = c .before .before .before .before .before .before .before .before .before .before .before .before .before .before .before .before .before in
     let l : operandCount (start .args .table .now) (start .args .p) ≡ at-loop .loop .i = omega arith in
-    built-all _ _ _ _ _ _ _ _ _ _ (at-loop .loop .inv .6) (start .pre .1 .0 .few _ (start .pre .1 .1)) l _ _ _ (at-node .node .ensures)
+    built-all _ _ _ _ _ _ _ _ _ _ (at-loop .loop .inv .6) (start .pre .1 .0 .few _ (start .pre .1 .1)) l _ _ _ (c .before .before .node-asked .ensures)
+
+build-node-requires : (t : ℕ) → build-lts.Need-node-requires (build-calls t) (build-at t) build.Post build-Inv-loop build-μ-loop
+build-node-requires t c κs =
+    let at-loop = c .before .before .before .before .before .before in
+    let start = c .before .before .before .before .before .before .before .before .before .before .before .before .before .before in
+    (at-loop .loop .inv .6 .steady .fits, at-loop .loop .inv .6 .frame .long ∙ start .pre .1 .4)
+
+build-returns-7 : (t : ℕ) → build-lts.Need-returns-7 (build-calls t) (build-at t) build.Post build-Inv-loop build-μ-loop
+build-returns-7 t c =
+    let at-loop = c .before .before .before .before .before .before .before .before .before in
+    let start = c .before .before .before .before .before .before .before .before .before .before .before .before .before .before .before .before .before in
+    let l : operandCount (start .args .table .now) (start .args .p) ≡ at-loop .loop .i = omega arith in
+    built-all _ _ _ _ _ _ _ _ _ _ (at-loop .loop .inv .6) (start .pre .1 .0 .few _ (start .pre .1 .1)) l _ _ _ (c .before .before .node .ensures)
 
 pub +build-spec : {M : Type 1} → statement M
 +build-spec = close μ-build λ t. build-lts.spec (build-calls t)
@@ -192,4 +208,5 @@ pub +build-spec : {M : Type 1} → statement M
     (build-add-entry t) (build-entry-requires-3 t) (λ c. search needs) (build-build-requires t) (λ c κs. search needs)
     (λ c. search needs) (λ c. search needs) (build-returns-5 t) (λ c. search needs) (λ c. search needs)
     (λ c. search needs) (build-array-write-made t) (λ c. search needs) (λ c. search needs) (build-loop-again t)
-    (build-node-requires t) (λ c. search needs) (build-returns-6 t)
+    (λ c. search needs) (λ c. search needs) (build-node-asked-requires t) (λ c. search needs) (build-returns-6 t)
+    (build-node-requires t) (λ c. search needs) (build-returns-7 t)

@@ -1,6 +1,6 @@
 use mathlib.Core.Path.{_∙_}
 -- ONE: the children are tried from the left, each from the mark and the bindings of the start.
-use Rattle.cycle.proofs.Descending.{Trying, one-begins, ready-one, gives-one-off, roomy-one, gives-one, one-again, gives-one-none}
+use Rattle.cycle.proofs.Descending.{Trying, one-begins, ready-one, gives-one-off, fits-one, gives-one, one-again, gives-one-none}
 use Prim.Native.Nat.{ℕ, _-_}
 use borrow.Author.Needs.{needs}
 use native.Mathlib.Omega.{arith}
@@ -51,7 +51,7 @@ one-node-requires t c κs =
     let at-loop-test = at-word .before .before .before .before in
     let at-loop = at-loop-test .before in
     let start = at-loop .before .before .before .before .before .before .before .before in
-    (roomy-one (start .args .deep) (start .pre .1 .0) (at-loop .loop .inv) (at-loop-test .loop-test .taken) (at-word .word .ensures) (at-done .done .ensures) (at-apply .apply .ensures) (at-attempt-of .attempt-of .ensures) (at-yes .yes .given .1) (at-if1 .if1 .taken), at-apply .apply .ensures .frame .long ∙ at-loop .loop .inv .wide ∙ start .pre .1 .0 .long)
+    (fits-one (start .args .deep) (start .pre .1 .0) (at-loop .loop .inv) (at-loop-test .loop-test .taken) (at-word .word .ensures) (at-done .done .ensures) (at-apply .apply .ensures) (at-attempt-of .attempt-of .ensures) (at-yes .yes .given .1) (at-if1 .if1 .taken), at-apply .apply .ensures .frame .long ∙ at-loop .loop .inv .wide ∙ start .pre .1 .0 .long)
 
 pub one-returns-2 : (t : ℕ) → one-lts.Need-returns-2 (one-calls t) (one-at t) one.Post one-Inv-loop one-μ-loop
 one-returns-2 t c =

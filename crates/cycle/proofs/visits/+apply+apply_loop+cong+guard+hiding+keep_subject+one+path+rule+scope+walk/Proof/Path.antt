@@ -1,6 +1,6 @@
 use mathlib.Core.Path.{_∙_}
 -- PATH: a failure where there is no such child, else the child's answer, and the node made again with it.
-use Rattle.cycle.proofs.Descending.{gives-path-zero, gives-path-past, ready-path, gives-path-stops, roomy-path, gives-path}
+use Rattle.cycle.proofs.Descending.{gives-path-zero, gives-path-past, ready-path, gives-path-stops, fits-path, gives-path}
 use Prim.Native.Nat.{ℕ}
 use borrow.Author.Needs.{needs}
 use native.Mathlib.Omega.{arith}
@@ -64,7 +64,7 @@ path-node-requires t c κs =
     let at-if1 = at-count .before .before in
     let at-entry = at-if1 .before in
     let start = at-entry .before .before in
-    (roomy-path (start .args .deep) (start .pre .1 .0) (start .pre .1 .1) (at-entry .entry .ensures) (at-count .count .ensures) (at-if1 .if1 .left) (at-if2 .if2 .left) (at-entry2 .entry2 .ensures) (at-word .word .ensures) (at-done .done .ensures) (at-apply .apply .ensures) (at-answer-of .answer-of .ensures) (at-x .x .given .1), at-apply .apply .ensures .frame .long ∙ start .pre .1 .0 .long)
+    (fits-path (start .args .deep) (start .pre .1 .0) (start .pre .1 .1) (at-entry .entry .ensures) (at-count .count .ensures) (at-if1 .if1 .left) (at-if2 .if2 .left) (at-entry2 .entry2 .ensures) (at-word .word .ensures) (at-done .done .ensures) (at-apply .apply .ensures) (at-answer-of .answer-of .ensures) (at-x .x .given .1), at-apply .apply .ensures .frame .long ∙ start .pre .1 .0 .long)
 
 pub path-returns-4 : (t : ℕ) → path-lts.Need-returns-4 (path-calls t) (path-at t) path.Post
 path-returns-4 t c =

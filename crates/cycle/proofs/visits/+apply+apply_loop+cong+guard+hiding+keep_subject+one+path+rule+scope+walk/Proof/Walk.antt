@@ -1,4 +1,4 @@
-use Rattle.cycle.proofs.Walker.{Going, going-first, going-off, going-stops, going-yes, going-no, going-roomy, going-long, going-small, going-ends, ahead-ready, ahead-gives, ahead-short, placed, four-still, whole-made}
+use Rattle.cycle.proofs.Walker.{Going, going-first, going-off, going-stops, going-yes, going-no, going-fits, going-long, going-small, going-ends, ahead-ready, ahead-gives, ahead-short, placed, four-still, whole-made}
 use mathlib.Core.List.{_∷_}
 use mathlib.Core.Logic.{⊎-elim}
 use lib.ListN.{length, set}
@@ -161,7 +161,7 @@ walk-finish-requires t c κs =
     let at-loop = at-loop-test .before in
     let at-count = at-loop .before .before .before .before .before in
     let start = at-count .before .before .before .before in
-    (going-roomy (start .pre .1 .0) (start .pre .1 .1) (at-loop .loop .inv .0) (omega (arith, at-count .count .ensures, at-loop-test .loop-test .left)), going-long (start .pre .1 .0) (start .pre .1 .1) (at-loop .loop .inv .0) (omega (arith, at-count .count .ensures, at-loop-test .loop-test .left)), going-small (start .pre .1 .0) (start .pre .1 .1) (at-loop .loop .inv .0) (omega (arith, at-count .count .ensures, at-loop-test .loop-test .left)))
+    (going-fits (start .pre .1 .0) (start .pre .1 .1) (at-loop .loop .inv .0) (omega (arith, at-count .count .ensures, at-loop-test .loop-test .left)), going-long (start .pre .1 .0) (start .pre .1 .1) (at-loop .loop .inv .0) (omega (arith, at-count .count .ensures, at-loop-test .loop-test .left)), going-small (start .pre .1 .0) (start .pre .1 .1) (at-loop .loop .inv .0) (omega (arith, at-count .count .ensures, at-loop-test .loop-test .left)))
 
 pub walk-same-length-4 : (t : ℕ) → walk-lts.Need-same-length-4 (walk-calls t) (walk-at t) walk.Post walk-Inv-loop walk-μ-loop
 walk-same-length-4 t c = c .before .before .finish .kept .0 ∙ (c .before .before .before .before .before .before .loop .inv .0) .kept .long

@@ -1,0 +1,3 @@
+-- What the calls with an index stand on.
+pub mod Whole
+pub mod Turning
