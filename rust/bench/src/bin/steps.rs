@@ -5,6 +5,9 @@
 //! `steps stored FILE`: every run of the stored cases (crates/vectors/stdin) again in
 //! steps of 1, 2, 7 and all its visits, each word beside that of `run`.
 //!
+//! `steps generated SEED COUNT`: COUNT generated runs in steps of random sizes, each
+//! word beside that of `run`.
+//!
 //! `steps touched SEED COUNT`: COUNT steps on a work list that is no run's, or on
 //! memory that was written to between steps. Each must end with an answer of the
 //! list and leave every word beside what is lent.
@@ -162,6 +165,50 @@ fn stored(mut cases: &[u8]) -> usize {
     runs
 }
 
+/// So many generated runs in steps of random sizes; how many were not refused.
+fn generated(seed: u64, count: u64) -> u64 {
+    let mut work = vec![0; WORK_WORDS];
+    let mut ran = 0;
+    for index in 0..count {
+        let mut random = Random::new(seed ^ 0x7369_7a65, index);
+        let case = run_case(seed, index);
+        let (mark, start, subject, units) = (case.mark, case.start, case.subject, case.units);
+        let (mut wanted, mut bound) = (case.store.clone(), case.bindings.clone());
+        let told = foreign::run(
+            &case.table,
+            &mut wanted,
+            &mut bound,
+            mark,
+            start,
+            subject,
+            units,
+        );
+        let (mut store, mut left) = (case.store, case.bindings);
+        let mut end = foreign::start(
+            &case.table,
+            &store,
+            &left,
+            &mut work,
+            mark,
+            start,
+            subject,
+            units,
+        );
+        ran += u64::from(end[0] == 25);
+        let most = random.pick(&[2, 8, told[4] / 2 + 2, told[4] + 2]);
+        while end[0] == 25 {
+            let visits = random.below(most);
+            end = foreign::step(&case.table, &mut store, &mut left, &mut work, visits);
+        }
+        assert!(
+            end == told && store == wanted && left == bound,
+            "seed {seed}, case {index}"
+        );
+        assert!(work.iter().all(|&w| w == 0), "seed {seed}, case {index}");
+    }
+    ran
+}
+
 /// Words with others before and behind them, which nothing may write.
 struct Guarded {
     words: Vec<u32>,
@@ -291,6 +338,14 @@ fn main() {
     let words: Vec<String> = std::env::args().skip(1).collect();
     match words.iter().map(String::as_str).collect::<Vec<_>>()[..] {
         [] => twin::with_big_stack(measure),
+        ["generated", seed, count] => {
+            let (seed, count) = (
+                seed.parse().expect("a number"),
+                count.parse().expect("a number"),
+            );
+            let ran = twin::with_big_stack(move || generated(seed, count));
+            println!("{count} runs, {ran} of them not refused");
+        }
         ["touched", seed, count] => {
             let (seed, count) = (
                 seed.parse().expect("a number"),
@@ -306,6 +361,6 @@ fn main() {
             let cases = std::fs::read(file).expect("the file can be read");
             println!("{} runs", twin::with_big_stack(move || stored(&cases)));
         }
-        _ => panic!("usage: steps | steps stored FILE | steps touched SEED COUNT"),
+        _ => panic!("usage: steps | steps stored FILE | steps generated SEED COUNT | steps touched SEED COUNT"),
     }
 }
