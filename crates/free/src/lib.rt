@@ -9,7 +9,7 @@ use checks::kinds::Sort;
 use checks::kinds::same;
 use checks::kinds::sort_of;
 
-pub mod order;
+mod order;
 pub mod passes;
 
 // An answer from document 01's list, its place, and the mask of the free variables.

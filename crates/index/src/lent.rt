@@ -31,7 +31,7 @@ pub fn build(lent: &mut [u32], n: u32, mark: u32)
 }
 
 // The nodes from the mark on taken out, from the last to the first.
-pub fn forget(lent: &mut [u32], n: u32, mark: u32, top: u32)
+fn forget(lent: &mut [u32], n: u32, mark: u32, top: u32)
     requires { ⌜ Held (now lent) n top × (mark ≤ top) ⌝ }
     ensures { λ _. ⌜ (now (lent .exit) ≡ forgotten n mark (top - mark) (now (lent .entry))) × Held (now (lent .exit)) n mark ⌝ }
 {

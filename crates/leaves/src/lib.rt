@@ -2,7 +2,7 @@
 // rules over the store's words. Every function here is inner: `run` of the crate `marshtrundle` checks what they require.
 pub mod answers;
 pub mod builder;
-pub mod compare;
+mod compare;
 pub mod matcher;
 pub mod reading;
 pub mod record;

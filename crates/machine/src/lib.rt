@@ -15,8 +15,8 @@ ghost use mathlib.Core.Path.{_≡_};
 ghost use Prim.Native.Nat.{ℕ, _+_, _*_, _<_, _≤_};
 ghost use Rattle.machine.specs.Machine.{Lent, Carried, Turned, Went};
 
-pub mod frames;
-pub mod nodes;
+mod frames;
+mod nodes;
 
 // The modes beside those of a visit that is asked for: a visit has succeeded, failed; there is no room; a variable to be built has no
 // binding.

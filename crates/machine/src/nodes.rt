@@ -17,18 +17,8 @@ pub fn row_at(words: &[u32], r: u32) -> [u32; 8]
     requires { ⌜ length (now words) % 8 ≡ 0 ⌝ }
     ensures { λ a. ⌜ a ≡ rowAt (now (words .entry)) r ⌝ }
 {
-    let c = 8 * (r as usize);
-    if c < words.len() {
-        return [
-            words[c],
-            words[c + 1],
-            words[c + 2],
-            words[c + 3],
-            words[c + 4],
-            words[c + 5],
-            words[c + 6],
-            words[c + 7],
-        ];
+    if 8 * (r as usize) < words.len() {
+        return row_inside(words, r);
     }
     [0; 8]
 }

@@ -27,7 +27,7 @@ ghost use Rattle.calls.specs.Run.{input};
 ghost use Rattle.stepping.specs.Stepping.{lists, lengthsFit, Starts, Steps-on};
 ghost use Rattle.stepping.specs.Ended.{Ended, Finished, Went};
 
-pub mod own;
+mod own;
 
 // The least length of a work list: 80 words for each of 4,096 levels.
 pub const WORK: usize = 327680;

@@ -1,5 +1,5 @@
 // Rules as text into a table: the entries of each line in preorder, and their operands.
-pub mod heads;
+mod heads;
 pub mod lines;
-pub mod link;
+mod link;
 pub mod translate;

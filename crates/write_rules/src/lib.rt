@@ -1,4 +1,4 @@
 // A rule of a table written back as a line of text.
-pub mod line;
+mod line;
 pub mod rule;
-pub mod term;
+mod term;
