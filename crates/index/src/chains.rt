@@ -11,7 +11,7 @@ use checks::Found;
 use words::word;
 
 // Node k has these words.
-fn has(store: &[u32], k: u32, r: [u32; 8]) -> bool
+pub fn has(store: &[u32], k: u32, r: [u32; 8]) -> bool
     ensures { λ t. ⌜ t ≡ alike (eight (now (store .entry)) k) r ⌝ }
 {
     if word(store, k, 0) != r[0] {

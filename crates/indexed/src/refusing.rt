@@ -16,7 +16,7 @@ ghost use Rattle.calls.specs.Indexed.{indexedWordsRefusedBy, indexedRefused, in
 ghost use Rattle.checks.specs.Kinds.{ours};
 
 // How many of the lent words are the store's: as many as are said, or all.
-pub(crate) fn store_words(words: usize, all: usize) -> usize
+pub fn store_words(words: usize, all: usize) -> usize
     ensures { λ r. ⌜ r ≡ min words all ⌝ }
 {
     if all < words {
@@ -61,7 +61,7 @@ fn indexed_words_refusal(
 }
 
 // The refusal, or 0 with place 0.
-pub(crate) fn indexed_refusal(
+pub fn indexed_refusal(
     table: &[u32],
     store: &[u32],
     bindings: &[u32],

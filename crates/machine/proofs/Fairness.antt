@@ -1,4 +1,5 @@
--- Every visit of an accepted run is fair: where a pattern is met, it is one. The rules hand it on, by the table's check. Assumes nothing.
+-- Every visit of an accepted run is fair: an entry that is applied lies inside the table and is a strategy, and where a pattern is met, it
+-- is one. The rules hand it on, by the table's check. Assumes nothing.
 use mathlib.Core.Path.{_≡_, refl, ap, sym, _∙_, subst}
 use mathlib.Core.Bool.{Bool, true, false}
 use mathlib.Core.Option.{Option, none, some}
@@ -6,31 +7,33 @@ use mathlib.Core.List.{List, [], _∷_, _++_, map}
 use mathlib.Core.Logic.{_⊎_, inl, inr, ⊎-elim}
 use Prim.Native.Nat.{ℕ, zero, suc, _+_, _-_, _*_, _<_, _≤_}
 use native.Mathlib.Omega.{arith}
-use borrow.Author.Tests.{le-leb, lt-leb}
+use borrow.Author.Tests.{le-leb, lt-leb, eqb-true, eqb-false}
+use lib.Dec.{eqb}
 use lib.ListN.{length, getD, take}
-use lib.Seq.{take-nil}
 use Rattle.words.specs.Words.{wordAt, rows}
 use Rattle.words.proofs.Tests.{below-or-from}
 use Rattle.checks.specs.Kinds.{ours, variables, kind, lines, lineOf, sortOf, takes, highestBy, argumentWordsBy, operandsFromBy}
-use Rattle.checks.specs.Good.{kindOf, operandCount, argumentOf, number, maskBy}
-use Rattle.checks.specs.Plain.{EntryBy}
+use Rattle.checks.specs.Good.{kindOf, operandCount, argumentOf, number, maskBy, goodEntryBy}
+use Rattle.checks.specs.Plain.{TableLength, EntryBy}
 use Rattle.checks.specs.declared.Checked.{Checked}
 use Rattle.checks.specs.declared.kinds.Sort.{Sort}
 use Rattle.checks.specs.declared.kinds.Sort.the-variants.{Strategy, Pattern, Neither}
 use Rattle.checks.specs.Checked.{checked, tableCheckedBy}
 use Rattle.checks.proofs.Promises.{tablePasses, entryPlain}
 use Rattle.meaning.specs.Bindings.{Bindings, unbound, bind, masked}
-use Rattle.meaning.specs.Derivation.{places, nowhere}
+use Rattle.meaning.specs.Derivation.{history, nowhere}
 use Rattle.meaning.specs.Table as tables
 use Rattle.meaning.specs.Table.{table, tableBy, byKind, operands, six, PVAR, PCON}
 use Rattle.meaning.specs.Plan.{Keep, keep, drop as give, Plan, ret, fail, miss, stuck, look, make, ask}
 use Rattle.meaning.specs.Rules.{Visit, apply, match, build, compare, Do, does, strategy, matching, building, comparing, variable, needed, when, whenAt, given, walk, again, oneOf, someOf, zip, nth, put}
 use Rattle.meaning.specs.Limits.{Limit, Res, ended, lost, cut, Store, closed}
 use Rattle.meaning.specs.Steps.{Frame as Level, Next, over, next, roomy, advance, onto, settle, enter, one, steps, start}
-use Rattle.meaning.specs.Store.{Input, Accepted, bindings, deepest, on, stored}
+use Rattle.meaning.specs.Store.{Input, Accepted, bindings, deepest, on}
+use Rattle.meaning.specs.Shared.{storeBy}
 use Rattle.meaning.proofs.Checked.{inside}
 use Rattle.meaning.proofs.Tests.{impossible}
-use Rattle.turns.specs.Ways.{Fit, FairVisit}
+use Rattle.meaning.proofs.Words.{six-at}
+use Rattle.turns.specs.Ways.{Fit, Applied, FairVisit}
 use Rattle.machine.specs.Stack.{Fair, Run, Open}
 
 module _ {S L : Type 0} (M : Store ℕ (Visit ℕ) S L) (R : Visit ℕ → Do ℕ) (Asked : Visit ℕ → Type 0) where
@@ -99,9 +102,22 @@ module _ {S L : Type 0} (M : Store ℕ (Visit ℕ) S L) (R : Visit ℕ → Do �
 
 -- ---- what the rules ask for
 
-module _ (t : List ℕ) where
+-- each of these is such
+abbrev Each : (ℕ → Type 0) → List ℕ → Type 0
+Each P [] = Unit {0}
+Each P (x ∷ xs) = P x × Each P xs
+
+each-taken : (P : ℕ → Type 0) (n : ℕ) (xs : List ℕ) → ((i : ℕ) → i < n → i < length xs → P (getD xs i 0)) → Each P (take n xs)
+each-taken P zero xs f = tt
+each-taken P (suc n) [] f = tt
+each-taken P (suc n) (x ∷ xs) f = (f 0 (omega arith) (omega arith), each-taken P n xs (λ i l m. f (suc i) (omega arith) (omega arith)))
+
+each-operand : (t : List ℕ) (x : ℕ) (P : ℕ → Type 0) → ((i : ℕ) → i < operandCount t x → P (wordAt t x (2 + i))) → Each P (operands t x)
+each-operand t x P f = each-taken P (operandCount t x) (six t x) (λ i l m. subst P (sym (six-at t x i m)) (f i l))
+
+module _ (sh : Bool) (t : List ℕ) where
   abbrev Good : Do ℕ → Type 0
-  Good p = Fine (stored places) (does (table t)) (FairVisit t) p
+  Good p = Fine (storeBy sh history) (does (table t)) (FairVisit t) p
 
   -- visits of which each is fair
   abbrev Fairs : List (Bindings ℕ → Visit ℕ) → Type 0
@@ -119,11 +135,11 @@ module _ (t : List ℕ) where
   walk-good [] gs b k f g = g gs b
   walk-good (q ∷ qs) gs b k f g = (f .0 b, (λ h c. walk-good qs (gs ++ (h ∷ [])) c k (f .1) g), tt)
 
-  one-good : (x : ℕ) (gs hs : List ℕ) (b : Bindings ℕ) (k : List ℕ → Bindings ℕ → Do ℕ) → ((gs : List ℕ) (b : Bindings ℕ) → Good (k gs b))
-      → Good (oneOf x gs hs b k)
+  one-good : (x : ℕ) (gs hs : List ℕ) (b : Bindings ℕ) (k : List ℕ → Bindings ℕ → Do ℕ) → Applied t x
+      → ((gs : List ℕ) (b : Bindings ℕ) → Good (k gs b)) → Good (oneOf x gs hs b k)
   unfolding oneOf Fine
-  one-good x gs [] b k g = tt
-  one-good x gs (h ∷ hs) b k g = (tt, (λ h′ c. g _ c), one-good x (gs ++ (h ∷ [])) hs b k g)
+  one-good x gs [] b k l g = tt
+  one-good x gs (h ∷ hs) b k l g = (l, (λ h′ c. g _ c), one-good x (gs ++ (h ∷ [])) hs b k l g)
 
   when-good : (c : Bool) (p : Do ℕ) → Good p → Good (when c p)
   unfolding when Fine
@@ -135,37 +151,40 @@ module _ (t : List ℕ) where
   whenAt-good n true p g = g
   whenAt-good n false p g = tt
 
-  some-good : (x : ℕ) (s : Bool) (gs hs : List ℕ) (b : Bindings ℕ) (k : List ℕ → Bindings ℕ → Do ℕ) → ((gs : List ℕ) (b : Bindings ℕ) →
-      Good (k gs b)) → Good (someOf x s gs hs b k)
+  some-good : (x : ℕ) (s : Bool) (gs hs : List ℕ) (b : Bindings ℕ) (k : List ℕ → Bindings ℕ → Do ℕ) → Applied t x
+      → ((gs : List ℕ) (b : Bindings ℕ) → Good (k gs b)) → Good (someOf x s gs hs b k)
   unfolding someOf Fine
-  some-good x s gs [] b k g = when-good s (k gs b) (g gs b)
-  some-good x s gs (h ∷ hs) b k g = (tt, (λ h′ c. some-good x true (gs ++ (h′ ∷ [])) hs c k g), some-good x s (gs ++ (h ∷ [])) hs b k g)
+  some-good x s gs [] b k l g = when-good s (k gs b) (g gs b)
+  some-good x s gs (h ∷ hs) b k l g =
+      (l, (λ h′ c. some-good x true (gs ++ (h′ ∷ [])) hs c k l g), some-good x s (gs ++ (h ∷ [])) hs b k l g)
 
   given-good : (o : Option ℕ) (k : ℕ → Do ℕ) → ((g : ℕ) → Good (k g)) → Good (given o k)
   unfolding given Fine
   given-good none k f = tt
   given-good (some g) k f = f g
 
-  applied : (xs hs : List ℕ) → Fairs (zip apply xs hs)
-  unfolding zip
-  applied [] hs = tt
-  applied (x ∷ xs) [] = tt
-  applied (x ∷ xs) (h ∷ hs) = ((λ b. tt), applied xs hs)
+  -- entries that may be applied, and patterns that are such
+  abbrev Insides : List ℕ → Type 0
+  Insides = Each (Applied t)
 
-  all-applied : (x : ℕ) (hs : List ℕ) → Fairs (map (apply x) hs)
-  all-applied x [] = tt
-  all-applied x (h ∷ hs) = ((λ b. tt), all-applied x hs)
+  abbrev Fits : List ℕ → Type 0
+  Fits = Each (Fit t)
+
+  applied : (xs hs : List ℕ) → Insides xs → Fairs (zip apply xs hs)
+  unfolding zip
+  applied [] hs i = tt
+  applied (x ∷ xs) [] i = tt
+  applied (x ∷ xs) (h ∷ hs) i = ((λ b. i .0), applied xs hs (i .1))
+
+  all-applied : (x : ℕ) (hs : List ℕ) → Applied t x → Fairs (map (apply x) hs)
+  all-applied x [] l = tt
+  all-applied x (h ∷ hs) l = ((λ b. l), all-applied x hs l)
 
   compared : (gs hs : List ℕ) → Fairs (zip compare gs hs)
   unfolding zip
   compared [] hs = tt
   compared (x ∷ xs) [] = tt
   compared (x ∷ xs) (h ∷ hs) = ((λ b. tt), compared xs hs)
-
-  -- patterns that are such
-  abbrev Fits : List ℕ → Type 0
-  Fits [] = Unit {0}
-  Fits (p ∷ ps) = Fit t p × Fits ps
 
   matched : (ps hs : List ℕ) → Fits ps → Fairs (zip match ps hs)
   unfolding zip
@@ -200,10 +219,14 @@ module _ (t : List ℕ) where
   -- ---- by the table's check
 
   module _ (passed : tableCheckedBy ours t ≡ checked 0 0) where
+    passes : TableLength (length t) × ((e : ℕ) → e < rows t → goodEntryBy ours t e ≡ true)
+    passes = tablePasses ours t .0 (ap (λ (c : Checked). c .answer) passed)
+
+    entry-inside : (e : ℕ) → e < rows t → EntryBy ours t e
+    entry-inside e l = entryPlain ours t e .0 (passes .1 e l)
+
     good-entry : (e : ℕ) → 0 < kindOf t e → EntryBy ours t e
-    good-entry e l =
-        let p = tablePasses ours t .0 (ap (λ (c : Checked). c .answer) passed) in
-        entryPlain ours t e .0 (p .1 e (inside t e (p .0 .whole) (omega arith)))
+    good-entry e l = entry-inside e (inside t e (passes .0 .whole) (omega arith))
 
     pattern-kind : (k : ℕ) → sortOf k ≡ Pattern → (k ≡ 19 → ⊥) → k ≡ 18
     unfolding sortOf
@@ -260,48 +283,7 @@ module _ (t : List ℕ) where
         (y : kindOf t p ≡ 8). omega arith) i l))
 
     fit-parts : (p : ℕ) → kindOf t p ≡ 19 → Fits (operands t p)
-    fit-parts p k = go (operandCount t p) (λ i l. fit-part p i k l)
-      where
-        go : (n : ℕ) → ((i : ℕ) → i < n → Fit t (wordAt t p (2 + i))) → Fits (take n (six t p))
-        go zero f = tt
-        go (suc zero) f = (f 0 (omega arith), tt)
-        go (suc (suc zero)) f = (f 0 (omega arith), (f 1 (omega arith), tt))
-        go (suc (suc (suc zero))) f = (f 0 (omega arith), (f 1 (omega arith), (f 2 (omega arith), tt)))
-        go (suc (suc (suc (suc zero)))) f = (f 0 (omega arith), (f 1 (omega arith), (f 2 (omega arith), (f 3 (omega arith), tt))))
-        go (suc (suc (suc (suc (suc zero))))) f = (
-          f 0 (omega arith),
-          (
-            f 1 (omega arith),
-            (
-              f 2 (omega arith),
-              (
-                f 3 (omega arith),
-                (
-                  f 4
-                      (omega arith),
-                  tt,
-                ),
-              ),
-            ),
-          ),
-        )
-        go (suc (suc (suc (suc (suc (suc n)))))) f = (
-          f 0 (omega arith),
-          (
-            f 1 (omega arith),
-            (
-              f 2 (omega arith),
-              (
-                f 3 (omega arith),
-                (
-                  f 4
-                      (omega arith),
-                  (f 5 (omega arith), subst Fits (sym (take-nil n)) tt),
-                ),
-              ),
-            ),
-          ),
-        )
+    fit-parts p k = each-operand t p (Fit t) (λ i l. fit-part p i k l)
 
     parts-of : (p c : ℕ) (ps : List ℕ) → table t .patterns p ≡ PCON c ps → Fits ps
     unfolding tableBy
@@ -316,74 +298,80 @@ module _ (t : List ℕ) where
         go (suc zero) k q = let y : operands t p ≡ ps = cc in subst Fits y (fit-parts p (omega arith))
         go (suc (suc n)) k q = absurd (different q)
 
-    entry-applied : (x h k : ℕ) (b : Bindings ℕ) → kindOf t x ≡ k → Good (strategy (getD (byKind (argumentOf t x) (wordAt t x 2) (wordAt t
-        x 3) (operands t x) (maskBy ours t x) (wordAt t x 3)) k tables.FAIL) h b)
-    unfolding byKind strategy Fine
-    entry-applied x h zero b e = tt
-    entry-applied x h (suc zero) b e = tt
-    entry-applied x h (suc (suc zero)) b e = (tt, (λ h b. tt), tt)
-    entry-applied x h (suc (suc (suc zero))) b e = (tt, (λ h b. tt), tt)
-    entry-applied x h (suc (suc (suc (suc zero)))) b e = (tt, (λ h b. (tt, (λ h b. tt), tt)), tt)
-    entry-applied x h (suc (suc (suc (suc (suc zero))))) b e = (tt, (λ h b. tt), (tt, (λ h b. tt), tt))
-    entry-applied x h (suc (suc (suc (suc (suc (suc zero)))))) b e = (tt, (λ h b. tt), (tt, (λ h b. tt), tt))
-    entry-applied x h (suc (suc (suc (suc (suc (suc (suc zero))))))) b e = (tt, (λ h b. tt), tt)
-    entry-applied x h (suc (suc (suc (suc (suc (suc (suc (suc zero)))))))) b e = (tt, (λ h b. tt), tt)
-    entry-applied x h (suc (suc (suc (suc (suc (suc (suc (suc (suc zero))))))))) b e = λ c hs. given-good (nth hs (argumentOf t x)) _ (λ g.
-        (tt, (λ g b. again-good h c (put hs (argumentOf t x) g) b), tt))
-    entry-applied x h (suc (suc (suc (suc (suc (suc (suc (suc (suc (suc zero)))))))))) b e = λ c hs. when-good _ _ (walk-good (zip apply
-        (operands t x) hs) [] b _ (applied (operands t x) hs) (λ gs b. again-good h c gs b))
-    entry-applied x h (suc (suc (suc (suc (suc (suc (suc (suc (suc (suc (suc zero))))))))))) b e = λ c hs. walk-good (map (apply (wordAt t
-        x 2)) hs) [] b _ (all-applied (wordAt t x 2) hs) (λ gs b. again-good h c gs b)
-    entry-applied x h (suc (suc (suc (suc (suc (suc (suc (suc (suc (suc (suc (suc zero)))))))))))) b e = λ c hs. one-good (wordAt t x 2) []
-        hs b _ (λ gs b. again-good h c gs b)
-    entry-applied x h (suc (suc (suc (suc (suc (suc (suc (suc (suc (suc (suc (suc (suc zero))))))))))))) b e = λ c hs. some-good (wordAt t
-        x 2) false [] hs b _ (λ gs b. again-good h c gs b)
-    entry-applied x h (suc (suc (suc (suc (suc (suc (suc (suc (suc (suc (suc (suc (suc (suc zero)))))))))))))) b e = (
-      fit-operand x 14 e
-          (inl refl),
-      (λ h b. tt),
-      tt,
-    )
-    entry-applied x h (suc (suc (suc (suc (suc (suc (suc (suc (suc (suc (suc (suc (suc (suc (suc zero))))))))))))))) b e = (
-      fit-operand x
-          15 e (inr refl),
-      (λ h b. tt),
-      tt,
-    )
-    entry-applied x h (suc (suc (suc (suc (suc (suc (suc (suc (suc (suc (suc (suc (suc (suc (suc (suc zero)))))))))))))))) b e = (
-      tt,
-      (λ h
-          b. tt),
-      tt,
-    )
-    entry-applied x h (suc (suc (suc (suc (suc (suc (suc (suc (suc (suc (suc (suc (suc (suc (suc (suc (suc zero))))))))))))))))) b e = (
-      tt,
-      (λ h b. tt),
-      tt,
-    )
-    entry-applied x h (suc (suc (suc (suc (suc (suc (suc (suc (suc (suc (suc (suc (suc (suc (suc (suc (suc (suc k)))))))))))))))))) b e = tt
+    -- an entry of each kind; n, i: it has as many operands as its kind needs, and each may be applied where its kind takes strategies
+    of-kind : (x h k : ℕ) (b : Bindings ℕ) → kindOf t x ≡ k → kind k .least ≤ operandCount t x
+        → (takes k ≡ Strategy → (j : ℕ) → j < operandCount t x → Applied t (wordAt t x (operandsFromBy ours k + j)))
+        → Good (strategy (getD (byKind (argumentOf t x) (wordAt t x 2) (wordAt t x 3) (operands t x) (maskBy ours t x) (wordAt t x 3)) k
+        tables.FAIL) h b)
+    unfolding byKind strategy Fine kind lineOf lines takes
+    of-kind x h zero b e n i = tt
+    of-kind x h (suc zero) b e n i = tt
+    of-kind x h (suc (suc zero)) b e n i = (i refl 0 (omega arith), (λ h b. tt), tt)
+    of-kind x h (suc (suc (suc zero))) b e n i = (i refl 0 (omega arith), (λ h b. tt), tt)
+    of-kind x h (suc (suc (suc (suc zero)))) b e n i = (i refl 0 (omega arith), (λ h b. (i refl 1 (omega arith), (λ h b. tt), tt)), tt)
+    of-kind x h (suc (suc (suc (suc (suc zero))))) b e n i =
+        (i refl 0 (omega arith), (λ h b. tt), (i refl 1 (omega arith), (λ h b. tt), tt))
+    of-kind x h (suc (suc (suc (suc (suc (suc zero)))))) b e n i =
+        (i refl 0 (omega arith), (λ h b. tt), (i refl 1 (omega arith), (λ h b. tt), tt))
+    of-kind x h (suc (suc (suc (suc (suc (suc (suc zero))))))) b e n i = (i refl 0 (omega arith), (λ h b. tt), tt)
+    of-kind x h (suc (suc (suc (suc (suc (suc (suc (suc zero)))))))) b e n i = (i refl 0 (omega arith), (λ h b. tt), tt)
+    of-kind x h (suc (suc (suc (suc (suc (suc (suc (suc (suc zero))))))))) b e n i =
+        λ c hs. given-good (nth hs (argumentOf t x)) _
+        (λ g. (i refl 0 (omega arith), (λ g b. again-good h c (put hs (argumentOf t x) g) b), tt))
+    of-kind x h (suc (suc (suc (suc (suc (suc (suc (suc (suc (suc zero)))))))))) b e n i =
+        λ c hs. when-good _ _ (walk-good (zip apply (operands t x) hs) [] b _
+        (applied (operands t x) hs (each-operand t x (Applied t) (i refl))) (again-good h c))
+    of-kind x h (suc (suc (suc (suc (suc (suc (suc (suc (suc (suc (suc zero))))))))))) b e n i =
+        λ c hs. walk-good (map (apply (wordAt t x 2)) hs) [] b _ (all-applied (wordAt t x 2) hs (i refl 0 (omega arith))) (again-good h c)
+    of-kind x h (suc (suc (suc (suc (suc (suc (suc (suc (suc (suc (suc (suc zero)))))))))))) b e n i =
+        λ c hs. one-good (wordAt t x 2) [] hs b _ (i refl 0 (omega arith)) (again-good h c)
+    of-kind x h (suc (suc (suc (suc (suc (suc (suc (suc (suc (suc (suc (suc (suc zero))))))))))))) b e n i =
+        λ c hs. some-good (wordAt t x 2) false [] hs b _ (i refl 0 (omega arith)) (again-good h c)
+    of-kind x h (suc (suc (suc (suc (suc (suc (suc (suc (suc (suc (suc (suc (suc (suc zero)))))))))))))) b e n i =
+        (fit-operand x 14 e (inl refl), (λ h b. tt), tt)
+    of-kind x h (suc (suc (suc (suc (suc (suc (suc (suc (suc (suc (suc (suc (suc (suc (suc zero))))))))))))))) b e n i =
+        (fit-operand x 15 e (inr refl), (λ h b. tt), tt)
+    of-kind x h (suc (suc (suc (suc (suc (suc (suc (suc (suc (suc (suc (suc (suc (suc (suc (suc zero)))))))))))))))) b e n i =
+        (i refl 0 (omega arith), (λ h b. tt), tt)
+    of-kind x h (suc (suc (suc (suc (suc (suc (suc (suc (suc (suc (suc (suc (suc (suc (suc (suc (suc zero))))))))))))))))) b e n i =
+        (i refl 0 (omega arith), (λ h b. tt), tt)
+    of-kind x h (suc (suc (suc (suc (suc (suc (suc (suc (suc (suc (suc (suc (suc (suc (suc (suc (suc (suc k)))))))))))))))))) b e n i = tt
 
-    rules-fair : (q : Visit ℕ) → FairVisit t q → Good (does (table t) q)
+    -- an operand of an entry inside the table may be applied, where its kind takes strategies; CALL's is a REC
+    operand-applied : (x : ℕ) → EntryBy ours t x → takes (kindOf t x) ≡ Strategy → (j : ℕ) → j < operandCount t x
+        → Applied t (wordAt t x (operandsFromBy ours (kindOf t x) + j))
+    unfolding sortOf
+    operand-applied x g e j l = (g .placed .inside j l, go (eqb (kindOf t x) 8) refl)
+      where
+        go : (b : Bool) → eqb (kindOf t x) 8 ≡ b → sortOf (kindOf t (wordAt t x (operandsFromBy ours (kindOf t x) + j))) ≡ Strategy
+        go true z = ap sortOf (g .sorted .called (eqb-true _ _ z) j l)
+        go false z = g .sorted .sorted (eqb-false _ _ z) j l ∙ e
+
+    pub rules-fair : (q : Visit ℕ) → FairVisit t q → Good (does (table t) q)
     unfolding does comparing tableBy Fine
-    rules-fair (apply x h b) f = entry-applied x h (kindOf t x) b refl
+    rules-fair (apply x h b) f =
+        let g = entry-inside x (f .0) in
+        of-kind x h (kindOf t x) b refl (g .counted .least) (operand-applied x g)
     rules-fair (match p h b) f = pattern-met p (table t .patterns p) h b (parts-of p)
     rules-fair (build p h b) f = pattern-built (table t .patterns p) h b (parts-of p)
     rules-fair (compare g h b) f = λ c gs d hs. when-good _ _ (walk-good (zip compare gs hs) [] b _ (compared gs hs) (λ ks b. tt))
 
-pub always-fair : (i : Input) → Accepted i → (n : ℕ)
-    → Fair (i .table) (steps (stored places) (does (table (i .table))) n (start (stored places) (does (table (i .table))) deepest (apply (i
-    .start) (i .subject) (bindings (i .bindings))) (on (i .store) (i .mark) nowhere) (i .units)))
+pub always-fair : (sh : Bool) (i : Input) → Accepted i → (n : ℕ)
+    → Fair (i .table) (steps (storeBy sh history) (does (table (i .table))) n
+    (start (storeBy sh history) (does (table (i .table))) deepest (apply (i
+    .start) (i .subject) (bindings (i .bindings))) (on (i .store) (i .mark) (nowhere, [])) (i .units)))
 unfolding start Fine
-always-fair i a n = out (steps (stored places) (does (table (i .table))) n begins) (steps-holds (stored places) (does (table (i .table)))
-    (FairVisit (i .table)) (rules-fair (i .table) (a .table)) n begins first)
+always-fair sh i a n = out (steps (storeBy sh history) (does (table (i .table))) n begins)
+    (steps-holds (storeBy sh history) (does (table (i .table)))
+    (FairVisit (i .table)) (rules-fair sh (i .table) (a .table)) n begins first)
   where
     begins : Run
-    begins = start (stored places) (does (table (i .table))) deepest (apply (i .start) (i .subject) (bindings (i .bindings))) (on (i
-        .store) (i .mark) nowhere) (i .units)
+    begins = start (storeBy sh history) (does (table (i .table))) deepest (apply (i .start) (i .subject) (bindings (i .bindings))) (on (i
+        .store) (i .mark) (nowhere, [])) (i .units)
 
-    first : Holds (stored places) (does (table (i .table))) (FairVisit (i .table)) begins
-    first = (tt, (((λ h b. tt), tt), tt))
+    first : Holds (storeBy sh history) (does (table (i .table))) (FairVisit (i .table)) begins
+    first = ((a .inside, a .strategy), (((λ h b. tt), tt), tt))
 
-    out : (X : Run) → Holds (stored places) (does (table (i .table))) (FairVisit (i .table)) X → Fair (i .table) X
+    out : (X : Run) → Holds (storeBy sh history) (does (table (i .table))) (FairVisit (i .table)) X → Fair (i .table) X
     out (over r) h = tt
     out (next s u f fs) h = h .0

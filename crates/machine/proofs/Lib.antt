@@ -9,3 +9,5 @@ pub mod Padding
 pub mod Turning
 pub mod Going
 pub mod Fairness
+pub mod Noting
+pub mod Standing

@@ -8,12 +8,16 @@ use crate::frames::restore;
 use crate::frames::take_turn;
 use crate::nodes::put_node;
 use crate::nodes::row_inside;
+use crate::nodes::standing_leaf;
+use crate::nodes::standing_row;
+use checks::Found;
 use turns::turn::Act;
 use turns::turn::RECORD;
 use turns::turn::Turn;
 ghost use mathlib.Core.Path.{_≡_};
+ghost use mathlib.Core.Bool.{false};
 ghost use Prim.Native.Nat.{ℕ, _+_, _*_, _<_, _≤_};
-ghost use Rattle.machine.specs.Machine.{Lent, Carried, Turned, Went};
+ghost use Rattle.machine.specs.Machine.{Lent, Carried, Turned, Gone};
 
 mod frames;
 mod nodes;
@@ -58,9 +62,17 @@ fn state(m: Machine, level: u32, mode: u32, x: u32, y: u32) -> Machine
 }
 
 // A turn of the visit after i others. The deepest visit opens no frame: what it asks for is cut off, and its place has the run's own words.
-fn act(table: &[u32], store: &mut [u32], work: &mut [u32], i: u32, m: Machine, t: Turn) -> Machine
+fn act(
+    table: &[u32],
+    store: &mut [u32],
+    work: &mut [u32],
+    i: u32,
+    m: Machine,
+    t: Turn,
+    shares: bool,
+) -> Machine
     requires { ⌜ (i < 4096) × Lent (now store) (now work) ⌝ }
-    ensures { λ r. ⌜ Carried (now (table .entry)) (now (store .entry)) (now (work .entry)) i m t r (now (store .exit)) (now (work .exit)) ⌝ }
+    ensures { λ r. ⌜ Carried shares (now (table .entry)) (now (store .entry)) (now (work .entry)) i m t r (now (store .exit)) (now (work .exit)) ⌝ }
 {
     let a = t.act;
     match a {
@@ -91,8 +103,24 @@ fn act(table: &[u32], store: &mut [u32], work: &mut [u32], i: u32, m: Machine, t
                 mask: m.mask | (1 << v),
             }
         }
-        Act::Leaf => put_node(store, m, i, [t.x, 0, 0, 0, 0, 0, 0, 0]),
-        Act::Made => put_node(store, m, i, row_inside(work, 10 * i + 1)),
+        Act::Leaf => {
+            if shares {
+                let found = standing_leaf(store, m.mark, t.x);
+                if let Found::At(y) = found {
+                    return state(m, i, SUCCEEDED, 0, y);
+                }
+            }
+            put_node(store, m, i, [t.x, 0, 0, 0, 0, 0, 0, 0])
+        }
+        Act::Made => {
+            if shares {
+                let found = standing_row(store, work, 10 * i + 1, m.mark);
+                if let Found::At(y) = found {
+                    return state(m, i, SUCCEEDED, 0, y);
+                }
+            }
+            put_node(store, m, i, row_inside(work, 10 * i + 1))
+        }
         Act::Ask => {
             if i < 4095 {
                 open(table, store, work, 10 * i, m, t);
@@ -144,9 +172,16 @@ fn act(table: &[u32], store: &mut [u32], work: &mut [u32], i: u32, m: Machine, t
 }
 
 // A visit begins, or one has ended and the frame below it goes on: the visit after i others.
-fn turned(table: &[u32], store: &mut [u32], work: &mut [u32], m: Machine, i: u32) -> Machine
+fn turned(
+    table: &[u32],
+    store: &mut [u32],
+    work: &mut [u32],
+    m: Machine,
+    i: u32,
+    shares: bool,
+) -> Machine
     requires { ⌜ (i < 4096) × (3 < m .mode → i < 4095) × Lent (now store) (now work) ⌝ }
-    ensures { λ r. ⌜ Turned (now (table .entry)) (now (store .entry)) (now (work .entry)) i m r (now (store .exit)) (now (work .exit)) ⌝ }
+    ensures { λ r. ⌜ Turned shares (now (table .entry)) (now (store .entry)) (now (work .entry)) i m r (now (store .exit)) (now (work .exit)) ⌝ }
 {
     let k = restore(work, 10 * i, m);
     let r = Machine {
@@ -160,13 +195,21 @@ fn turned(table: &[u32], store: &mut [u32], work: &mut [u32], m: Machine, i: u32
         mask: k.mask,
     };
     let t = take_turn(table, store, work, 10 * i, r);
-    act(table, store, work, i, r, t)
+    act(table, store, work, i, r, t, shares)
 }
 
-// Visits until `stop` units are left, and what follows them up to the next one's limit test; or to the end of the run.
-pub fn go(table: &[u32], store: &mut [u32], work: &mut [u32], a: Machine, stop: u32) -> Machine
+// Visits until `stop` units are left, and what follows them up to the next one's limit test; or to the end of the run; or one turn alone.
+pub fn go(
+    table: &[u32],
+    store: &mut [u32],
+    work: &mut [u32],
+    a: Machine,
+    stop: u32,
+    shares: bool,
+    once: bool,
+) -> Machine
     requires { ⌜ (a .level ≤ 4096) × (3 < a .mode → a .level < 4096) × (stop ≤ a .fuel) × Lent (now store) (now work) ⌝ }
-    ensures { λ r. ⌜ Went (now (table .entry)) (now (store .entry)) (now (work .entry)) a stop r (now (store .exit)) (now (work .exit)) ⌝ }
+    ensures { λ r. ⌜ Gone once shares (now (table .entry)) (now (store .entry)) (now (work .entry)) a stop r (now (store .exit)) (now (work .exit)) ⌝ }
 {
     let mut m = a;
     loop {
@@ -188,6 +231,9 @@ pub fn go(table: &[u32], store: &mut [u32], work: &mut [u32], a: Machine, stop: 
             }
             i = m.level - 1;
         }
-        m = turned(table, store, work, m, i);
+        m = turned(table, store, work, m, i, shares);
+        if once {
+            return m;
+        }
     }
 }

@@ -2,12 +2,19 @@
 use crate::FULL;
 use crate::Machine;
 use crate::SUCCEEDED;
+use checks::Found;
+use index::chains::has;
 use turns::turn::few;
 use words::put_row;
 ghost use mathlib.Core.Path.{_≡_};
 ghost use Prim.Native.Nat.{ℕ, _+_, _*_, _%_, _≤_, _<_};
 ghost use lib.ListN.{length, getD};
+ghost use Rattle.checks.specs.Checked.{placeOf};
 ghost use Rattle.meaning.specs.Store.{row as nodeRow};
+ghost use mathlib.Core.Bool.{false};
+ghost use mathlib.Core.List.{[]};
+ghost use Rattle.words.specs.Words.{wordAt};
+ghost use Rattle.meaning.specs.Shared.{nodeWith};
 ghost use Rattle.turns.specs.Ways.{kids};
 ghost use Rattle.machine.specs.Stack.{rowAt};
 ghost use Rattle.machine.specs.Machine.{childOr0, Node};
@@ -66,10 +73,39 @@ fn padded(row: [u32; 8]) -> [u32; 8]
     ]
 }
 
+// The node below the mark that has these words.
+fn standing(store: &[u32], mark: u32, row: [u32; 8]) -> Found
+    ensures { λ f. ⌜ placeOf f ≡ nodeWith (now (store .entry)) row mark ⌝ }
+{
+    let mut k = mark;
+    while 0 < k {
+        k -= 1;
+        if has(store, k, row) {
+            return Found::At(k);
+        }
+    }
+    Found::Nothing
+}
+
+// The node of the constructor c without children, where it stands. What is asked for is told by numbers: a row would be in memory.
+pub fn standing_leaf(store: &[u32], mark: u32, c: u32) -> Found
+    ensures { λ f. ⌜ placeOf f ≡ nodeWith (now (store .entry)) (nodeRow c []) mark ⌝ }
+{
+    standing(store, mark, padded([c, 0, 0, 0, 0, 0, 0, 0]))
+}
+
+// The node of row r of the list of frames, where it stands.
+pub fn standing_row(store: &[u32], work: &[u32], r: u32, mark: u32) -> Found
+    requires { ⌜ 8 * r + 8 ≤ length (now work) ⌝ }
+    ensures { λ f. ⌜ placeOf f ≡ nodeWith (now (store .entry)) (nodeRow (wordAt (now (work .entry)) r 0) (kids (rowAt (now (work .entry)) r))) mark ⌝ }
+{
+    standing(store, mark, padded(row_inside(work, r)))
+}
+
 // The node of a row at the mark; no room where the mark equals the store's nodes.
 pub fn put_node(store: &mut [u32], m: Machine, i: u32, row: [u32; 8]) -> Machine
     requires { ⌜ (length (now store) % 8 ≡ 0) × (length (now store) ≤ 1048576) ⌝ }
-    ensures { λ r. ⌜ Node (now (store .entry)) i m row r (now (store .exit)) ⌝ }
+    ensures { λ r. ⌜ Node false (now (store .entry)) i m row r (now (store .exit)) ⌝ }
 {
     let k = m.mark;
     if store.len() < 8 * (k as usize) + 8 {

@@ -27,7 +27,7 @@ use Rattle.meaning.specs.Rules.{Visit, apply, does}
 use Rattle.meaning.specs.Derivation.{what, Notes}
 use Rattle.meaning.specs.Limits.{Store, ended, lost, cut, run}
 use Rattle.meaning.specs.Store.{children, row, State, on, Left, rest, stored, named, bindings, Input, AcceptedBy, Ran, ranBy, deepest, Kept, Leaves}
-use Rattle.meaning.specs.Shared.{fullFor, numberFor, stateFor}
+use Rattle.meaning.specs.Shared.{fullFor, numberFor, stateFor, finds}
 use Rattle.meaning.specs.Above.{inStore, SameBelow, same-ended, same-lost, same-cut, Above-mark, Obeyed}
 use Rattle.meaning.proofs.Tests.{impossible}
 use Rattle.meaning.proofs.Alike.{Holdable, Makeable, Worlds, ORel, o-none, o-some, LRel, l-nil, l-cons, BRel, QRel, q-apply, q-match, q-build, q-compare}
@@ -61,19 +61,7 @@ pub record Finding : Type 1 where
 
 -- the store that finds its nodes so
 abbrev pub finding : Finding → {N : Type 0} → Notes N → Store ℕ (Visit ℕ) (State N) (Left N)
-finding F Λ = record {
-  con = stored Λ .con;
-  kids = stored Λ .kids;
-  full = λ s c hs. fullFor (F .node (s .words) (row c hs) (s .mark)) (stored Λ .full s c hs);
-  new = λ s c hs. numberFor (F .node (s .words) (row c hs) (s .mark)) (stored Λ .new s c hs);
-  put = λ s c hs. stateFor (F .node (s .words) (row c hs) (s .mark)) s (stored Λ .put s c hs);
-  left = stored Λ .left;
-  back = stored Λ .back;
-  missed = stored Λ .missed;
-  begins = stored Λ .begins;
-  ends = stored Λ .ends;
-  fails = stored Λ .fails;
-}
+finding F Λ = finds (F .node) Λ
 
 -- the run of such a store
 abbrev pub foundBy : ℕ → Finding → {N : Type 0} → Notes N → N → Input → Ran N

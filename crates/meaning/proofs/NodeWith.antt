@@ -53,6 +53,13 @@ nodeWith-none w r (suc m) j h z e = go (λ l y. nodeWith-none w r m j l y e) (al
     go f false a y (no n) = f (omega arith) y
     go f false a y (yes q) = true≢false (sym (subst (λ s. alike (eight w m) s ≡ true) (ap (eight w) (sym q) ∙ e) (alike-refl (eight w m))) ∙ a)
 
+-- the highest node is looked at first
+pub nodeWith-next : (w r : List ℕ) (k : ℕ) → 0 < k
+    → nodeWith w r k ≡ (if alike (eight w (k - 1)) r then some (k - 1) else nodeWith w r (k - 1))
+unfolding nodeWith
+nodeWith-next w r zero h = absurd (omega arith)
+nodeWith-next w r (suc k) h = let e : suc k - 1 ≡ k = omega arith in rw e refl
+
 -- eight words that are one by one the same
 pub eight-same : (w w′ : List ℕ) (k : ℕ) → ((j : ℕ) → j < 8 → wordAt w k j ≡ wordAt w′ k j) → eight w k ≡ eight w′ k
 eight-same w w′ k o = λ z. o 0 (omega arith) z ∷ o 1 (omega arith) z ∷ o 2 (omega arith) z ∷ o 3 (omega arith) z ∷ o 4 (omega arith) z ∷ o 5 (omega arith) z ∷ o 6 (omega arith) z ∷ o 7 (omega arith) z ∷ []

@@ -26,9 +26,11 @@ use Rattle.meaning.specs.Derivation.{what, Notes, terms}
 use Rattle.meaning.specs.Limits.{Limit, units, room, nesting, unbound, Res, ended, lost, cut, Counted, at, counting, roomFor, settled, after, closed, runPlan, run, Store}
 use Rattle.meaning.specs.System.{Env}
 use Rattle.meaning.specs.Store.{children, row, State, on, Left, rest, stored, term, named, bindings, termOf, meant, Input, AcceptedBy, Ran, value, deepest, Kept, Sound, Leaves}
+use Rattle.meaning.specs.Store.{ranBy}
 use Rattle.meaning.specs.Demands.{Says, limits, startVisit, Agreed, started, Either-order}
 use Rattle.meaning.specs.Above.{inStore, SameBelow, same-ended, same-lost, same-cut}
 use Rattle.meaning.specs.Shared.{eight, alike, nodeWith, fullFor, numberFor, stateFor, shared, sharedRanBy, Distinct, OneNode, One-node, Shared-leaves, Shared-obeyed, Shared-above, Spares, Shared-spares, sized, Shares, share-done, share-failed, share-cut, share-room, Demand-2-shared, Demand-3-shared}
+use Rattle.meaning.specs.Shared.{standing, ranSharing, Not-shared, All-shared}
 use Rattle.meaning.proofs.Tests.{impossible}
 use Rattle.meaning.proofs.Alike.{Holdable, Makeable, Worlds, ORel, o-none, o-some, LRel, l-nil, l-cons, BRel, QRel, q-apply, q-match, q-build, q-compare}
 use Rattle.meaning.proofs.Checked.{Filled, good-of-node, store-filled, table-makeable}
@@ -40,6 +42,16 @@ use Rattle.meaning.proofs.Above.{Finding, foundBy, found-above, found-o
 use Rattle.meaning.proofs.Numbers.{equal-numbers}
 use Rattle.meaning.proofs.Demands.{demand-2-values, over-the-words}
 use Rattle.meaning.proofs.Orders.{agreed}
+
+-- ---- the flag
+
+pub not-shared : Not-shared
+unfolding standing fullFor numberFor stateFor ranBy ranSharing
+not-shared = (λ N Λ. refl, λ W N Λ n i. refl)
+
+pub all-shared : All-shared
+unfolding standing sharedRanBy ranSharing
+all-shared = (λ N Λ. refl, λ W N Λ n i. refl)
 
 -- ---- beside the plain store with room for `size` nodes, by the nodes' terms
 

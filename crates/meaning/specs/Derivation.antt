@@ -93,6 +93,15 @@ places = record { missed = λ p n. p; begins = λ w n. n; ends = λ w t n. n }
 abbrev pub nowhere : ℕ
 nowhere = 4096
 
+-- what happens to a visit: it begins; it ends, with success or not
+pub data Event : Type 0 where
+  began : What → Event
+  ended : What → Bool → Event
+
+-- notes of the last match that gave up and, beside it, of all that happened to visits, the latest first
+abbrev pub history : Notes (ℕ × List Event)
+history = record { missed = λ p n. (p, n .1); begins = λ w n. (n .0, began w ∷ n .1); ends = λ w t n. (n .0, ended w t ∷ n .1) }
+
 -- a visit's end is noted
 unfoldable pub shut : {N : Type 0} → Notes N → What → Fate → N → N
 shut Λ w stays n = Λ .ends w true n

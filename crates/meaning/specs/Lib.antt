@@ -24,3 +24,5 @@ pub mod Small
 pub mod Ours
 pub mod Upper
 pub mod Uses
+pub mod Mapped
+pub mod Tallies

@@ -53,13 +53,14 @@ unfoldable pub stateFor : {N : Type 0} → Option ℕ → State N → State N �
 stateFor none s s′ = s′
 stateFor (some k) s s′ = s
 
-abbrev pub shared : {N : Type 0} → Notes N → Store ℕ (Visit ℕ) (State N) (Left N)
-shared Λ = record {
+-- the store that finds its nodes so
+abbrev pub finds : (List ℕ → List ℕ → ℕ → Option ℕ) → {N : Type 0} → Notes N → Store ℕ (Visit ℕ) (State N) (Left N)
+finds node Λ = record {
   con = stored Λ .con;
   kids = stored Λ .kids;
-  full = λ s c hs. fullFor (nodeWith (s .words) (row c hs) (s .mark)) (stored Λ .full s c hs);
-  new = λ s c hs. numberFor (nodeWith (s .words) (row c hs) (s .mark)) (stored Λ .new s c hs);
-  put = λ s c hs. stateFor (nodeWith (s .words) (row c hs) (s .mark)) s (stored Λ .put s c hs);
+  full = λ s c hs. fullFor (node (s .words) (row c hs) (s .mark)) (stored Λ .full s c hs);
+  new = λ s c hs. numberFor (node (s .words) (row c hs) (s .mark)) (stored Λ .new s c hs);
+  put = λ s c hs. stateFor (node (s .words) (row c hs) (s .mark)) s (stored Λ .put s c hs);
   left = stored Λ .left;
   back = stored Λ .back;
   missed = stored Λ .missed;
@@ -68,9 +69,27 @@ shared Λ = record {
   fails = stored Λ .fails;
 }
 
+abbrev pub shared : {N : Type 0} → Notes N → Store ℕ (Visit ℕ) (State N) (Left N)
+shared Λ = finds nodeWith Λ
+
+-- the node that stands for another, where nodes are shared
+unfoldable pub standing : Bool → List ℕ → List ℕ → ℕ → Option ℕ
+standing true w r m = nodeWith w r m
+standing false w r m = none
+
+-- the variant where nodes are shared, and the plain store where they are not
+abbrev pub storeBy : {N : Type 0} → Bool → Notes N → Store ℕ (Visit ℕ) (State N) (Left N)
+storeBy sh Λ = finds (standing sh) Λ
+
 -- the variant's run over the words
 unfoldable pub sharedRanBy : ℕ → {N : Type 0} → Notes N → N → Input → Ran N
 sharedRanBy W Λ n i = run (shared Λ) (does (tableBy W (i .table))) deepest (apply (i .start) (i .subject) (bindings (i .bindings))) (on (i .store) (i .mark) n) (i .units)
+
+-- the run over the words, by whether nodes are shared
+unfoldable pub ranSharing : Bool → ℕ → {N : Type 0} → Notes N → N → Input → Ran N
+ranSharing sh W Λ n i =
+    run (storeBy sh Λ) (does (tableBy W (i .table))) deepest (apply (i .start) (i .subject) (bindings (i .bindings)))
+    (on (i .store) (i .mark) n) (i .units)
 
 -- no two nodes below m have the same words; two terms below m are equal exactly when their numbers are
 abbrev pub Distinct : List ℕ → ℕ → Type 0
@@ -89,6 +108,17 @@ fresh w k = absent (nodeWith w (eight w k) k)
 
 abbrev pub twin : List ℕ → ℕ → Option ℕ
 twin w m = rejected (fresh w) 0 m
+
+-- Where nodes are not shared it is the plain store, and where they are it is the variant; so it is with the runs.
+abbrev pub Not-shared : Type 1
+Not-shared =
+    ((N : Type 0) (Λ : Notes N) → storeBy false Λ ≡ stored Λ)
+    × ((W : ℕ) (N : Type 0) (Λ : Notes N) (n : N) (i : Input) → ranSharing false W Λ n i ≡ ranBy W Λ n i)
+
+abbrev pub All-shared : Type 1
+All-shared =
+    ((N : Type 0) (Λ : Notes N) → storeBy true Λ ≡ shared Λ)
+    × ((W : ℕ) (N : Type 0) (Λ : Notes N) (n : N) (i : Input) → ranSharing true W Λ n i ≡ sharedRanBy W Λ n i)
 
 -- Two terms are equal exactly when their numbers are: where the given nodes are distinct, those of a done run are.
 abbrev pub One-node : Type 1

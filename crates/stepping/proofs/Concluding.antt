@@ -19,57 +19,76 @@ use Rattle.checks.specs.Kinds.{ours, variables}
 use Rattle.checks.specs.Promises.{StoreFits}
 use Rattle.checks.proofs.Promises.{storePasses}
 use Rattle.meaning.specs.Bindings.{Bindings}
-use Rattle.meaning.specs.Derivation.{places, nowhere}
+use Rattle.meaning.specs.Derivation.{What, Event, places, history, nowhere}
+use Rattle.meaning.specs.Mapped.{renoted}
 use Rattle.meaning.specs.Table.{table}
 use Rattle.meaning.specs.Rules.{Visit, apply, does}
 use Rattle.meaning.specs.Plan.{keep, ret, fail}
 use Rattle.meaning.specs.Limits.{Limit, Res, ended, lost, cut, units, nesting, room, unbound, run}
 use Rattle.meaning.specs.Steps.{Next, over, next, one, steps, start}
 use Rattle.meaning.specs.Store.{Input, Accepted, Ran, Leaves, bindings, deepest, on, rest, stored, ran, ranBy}
+use Rattle.meaning.specs.Shared.{storeBy, ranSharing}
 use Rattle.meaning.specs.Answer.{number, placeOf, bindingWords, returned, returnedBy}
 use Rattle.meaning.proofs.Demands.{over-the-words}
+use Rattle.meaning.proofs.Mapped.{renotes}
+use Rattle.meaning.proofs.Shared.{not-shared, all-shared, shared-leaves}
 use Rattle.meaning.proofs.Steps.{steps-in-parts, steps-suc, over-stays, one-end}
 use Rattle.calls.specs.Run.{atReturn}
 use Rattle.calls.specs.declared.Outcome.{Outcome}
 use Rattle.turns.specs.Ways.{recordFrom, heldAt, way, last, visitOf}
-use Rattle.machine.specs.Stack.{rowAt, present, wayAt, Open, Run, Pending, Stack, Asks, Ends, Stands, Fair}
+use Rattle.machine.specs.Stack.{rowAt, present, wayAt, Noted, Open, Run, Pending, Stack, Asks, Ends, Stands, Fair}
 use Rattle.machine.specs.Machine.{ownFrom, Lent, OwnStay, Went as Goes}
 use Rattle.machine.specs.declared.Machine.{Machine}
 use Rattle.machine.proofs.Holding.{held-same}
 use Rattle.machine.proofs.Stacked.{stable, stands-asked}
 use Rattle.machine.proofs.Fairness.{always-fair}
-use Rattle.stepping.specs.Stepping.{workWords, numbers, Lists, lists, runAfter, ownRow, machineIn, Given, Holds, lengthsFit, Zero, AnswersAt, Answers, StepAnswer, done as ends-done, failed as ends-failed, cut-off, unbound as ends-unbound, unfinished, levelIn}
-use Rattle.stepping.specs.Ended.{Saved, Loaded, PutBack, Used, Ended, Finished, Paused, Went, deepest as too-deep, used-up, paused, done, failed, full, stuck}
+use Rattle.stepping.specs.Stepping.{workWords, numbers, Lists, lists, runAfterBy, runAfter, ownRow, machineIn, Given, Holds, lengthsFit, Zero}
+use Rattle.stepping.specs.Stepping.{AnswersAt, Answers, StepAnswer, done as ends-done, failed as ends-failed, cut-off}
+use Rattle.stepping.specs.Stepping.{unbound as ends-unbound, unfinished, levelIn}
+use Rattle.stepping.specs.Ended.{Saved, Loaded, PutBack, Used, Ended, Finished, Paused, Went, deepest as too-deep, used-up, paused}
+use Rattle.stepping.specs.Ended.{done, failed, full, stuck}
 use Rattle.stepping.proofs.Loading.{put-back-words}
 use Rattle.stepping.proofs.Rooted.{root-done, root-failed, cut-units, cut-nesting}
 
 -- steps of a run that has come so far
-pub after-more : (i : Input) (n v : ℕ) → steps (stored places) (does (table (i .table))) v (runAfter i n) ≡ runAfter i (n + v)
-unfolding runAfter
-after-more i n v = sym (steps-in-parts _ _ _ _ _ (stored places) (does (table (i .table))) n v _)
+pub after-more : (sh : Bool) (i : Input) (n v : ℕ)
+    → steps (storeBy sh history) (does (table (i .table))) v (runAfterBy sh i n) ≡ runAfterBy sh i (n + v)
+unfolding runAfterBy
+after-more sh i n v = sym (steps-in-parts _ _ _ _ _ (storeBy sh history) (does (table (i .table))) n v _)
 
 -- where it is over after m of v visits, or by one more, it is over after v
-pub over-by : (i : Input) (n m v : ℕ) (e : Ran ℕ) → m ≤ v → runAfter i (n + m) ≡ over e → runAfter i (n + v) ≡ over e
-over-by i n m v e l z =
+pub over-by : (sh : Bool) (i : Input) (n m v : ℕ) (e : Ran Noted) → m ≤ v → runAfterBy sh i (n + m) ≡ over e
+    → runAfterBy sh i (n + v) ≡ over e
+over-by sh i n m v e l z =
     let s : n + v ≡ (n + m) + (v - m) = omega arith in
-    ap (λ (x : ℕ). runAfter i x) s ∙ sym (after-more i (n + m) (v - m)) ∙ ap (steps (stored places) (does (table (i .table))) (v - m)) z ∙
-    over-stays (stored places) (does (table (i .table))) (v - m) e
+    ap (λ (x : ℕ). runAfterBy sh i x) s ∙ sym (after-more sh i (n + m) (v - m))
+    ∙ ap (steps (storeBy sh history) (does (table (i .table))) (v - m)) z
+    ∙ over-stays (storeBy sh history) (does (table (i .table))) (v - m) e
 
-pub over-next : (i : Input) (n m v : ℕ) (e : Ran ℕ) → m < v → one (stored places) (does (table (i .table))) (runAfter i (n + m)) ≡ over e →
-    runAfter i (n + v) ≡ over e
+pub over-next : (sh : Bool) (i : Input) (n m v : ℕ) (e : Ran Noted) → m < v
+    → one (storeBy sh history) (does (table (i .table))) (runAfterBy sh i (n + m)) ≡ over e → runAfterBy sh i (n + v) ≡ over e
 unfolding steps
-over-next i n m v e l z =
+over-next sh i n m v e l z =
     let s : n + suc m ≡ (n + m) + 1 = omega arith in
-    over-by i n (suc m) v e l (ap (λ (x : ℕ). runAfter i x) s ∙ sym (after-more i (n + m) 1) ∙ go (runAfter i (n + m)) ∙ z)
+    over-by sh i n (suc m) v e l (ap (λ (x : ℕ). runAfterBy sh i x) s ∙ sym (after-more sh i (n + m) 1) ∙ go (runAfterBy sh i (n + m)) ∙ z)
   where
-    go : (X : Run) → steps (stored places) (does (table (i .table))) 1 X ≡ one (stored places) (does (table (i .table))) X
+    go : (X : Run) → steps (storeBy sh history) (does (table (i .table))) 1 X ≡ one (storeBy sh history) (does (table (i .table))) X
     go X = refl
 
 -- the end that it comes to is the run's own
-pub end-is-ran : (i : Input) (m : ℕ) (e : Ran ℕ) → runAfter i m ≡ over e → e ≡ ran places nowhere i
-unfolding runAfter ranBy
-end-is-ran i m e z = one-end _ _ _ _ _ (stored places) (does (table (i .table))) (λ s l. refl) deepest (apply (i .start) (i .subject)
-    (bindings (i .bindings))) (on (i .store) (i .mark) nowhere) (i .units) m e z
+pub end-is-ran : (sh : Bool) (i : Input) (m : ℕ) (e : Ran Noted) → runAfterBy sh i m ≡ over e
+    → e ≡ ranSharing sh ours history (nowhere, []) i
+unfolding runAfterBy ranSharing
+end-is-ran sh i m e z = one-end _ _ _ _ _ (storeBy sh history) (does (table (i .table))) (λ s l. refl) deepest (apply (i .start) (i .subject)
+    (bindings (i .bindings))) (on (i .store) (i .mark) (nowhere, [])) (i .units) m e z
+
+pub end-is-run : (i : Input) (m : ℕ) (e : Ran Noted) → runAfter i m ≡ over e → renoted (λ (n : Noted). n .0) e ≡ ran places nowhere i
+end-is-run i m e z =
+    ap (renoted (λ (n : Noted). n .0)) (end-is-ran false i m e z ∙ not-shared .1 ours Noted history (nowhere, []) i)
+    ∙ renotes ours _ _ history places (λ n. n .0) (record { missed = λ p n. refl; begins = λ w n. refl; ends = λ w t n. refl }) (
+      nowhere,
+      [],
+    ) i
 
 -- the units used
 pub used-is : (given left used : ℕ) → left ≤ given → used < 4294967296 → Used given left used → used ≡ given - left
@@ -96,8 +115,9 @@ module _ (t w k k′ : List ℕ) (m : Machine) (below : (j : ℕ) → j < ownFro
       ))
       (below-or-from n 4096)
 
-  pub asks-same : {v : Visit ℕ} {u : ℕ} {X : Run} → Asks t k (m .level) v (on w (m .mark) (m .place)) u X → Asks t k′ (m .level) v (on w (m
-      .mark) (m .place)) u X
+  pub asks-same : {es : List What} {log : List Event} {v : Visit ℕ} {u : ℕ} {X : Run}
+      → Asks t k (m .level) es v (on w (m .mark) (m .place, log)) u X
+      → Asks t k′ (m .level) es v (on w (m .mark) (m .place, log)) u X
   asks-same s = let z = top-same (m .level) (s .top) (s .others) (s .pending) (s .stack) in record {
     top = s .top;
     others = s .others;
@@ -106,11 +126,14 @@ module _ (t w k k′ : List ℕ) (m : Machine) (below : (j : ℕ) → j < ownFro
     visit = s .visit;
     pending = z .0;
     stack = z .1;
+    whats = s .whats;
   }
 
-  pub stands-same : {X : Run} → m .mode < 4 → Stands t m w k X → Stands t m w k′ X
-  stands-same {X} h s = stands-asked h (subst (λ b. Asks t k′ (m .level) (visitOf (m .mode) (m .x) (m .y) b) (on w (m .mark) (m .place)) (m
-      .fuel) X) (sym present-same) (asks-same (s .asked h)))
+  pub stands-same : {sh : Bool} {es : List What} {log : List Event} {X : Run} → m .mode < 4 → Stands sh t m w k es log X
+      → Stands sh t m w k′ es log X
+  stands-same {sh} {es} {log} {X} h s =
+      stands-asked h (subst (λ b. Asks t k′ (m .level) es (visitOf (m .mode) (m .x) (m .y) b) (on w (m .mark) (m .place, log)) (m .fuel) X)
+      (sym present-same) (asks-same (s .asked h)))
 
 -- the machine that was saved is there
 pub machine-saved : (k k′ : List ℕ) (m : Machine) (u s g : ℕ) → Saved k m u s g k′ → m .mode < 4 → m .level ≤ 4096 → machineIn k′ ≡ m
@@ -171,6 +194,17 @@ given-saved i k k′ m u s g d eu es eg = record {
   mark = ap (λ r. getD r 3 0) (d .given) ∙ eg;
 }
 
+-- what was given stays where the run's own words do
+pub given-own : (i : Input) (k k′ : List ℕ) → OwnStay k k′ → Given i k → Given i k′
+given-own i k k′ own g =
+    let s : (j : ℕ) → j < 8 → wordAt k′ (ownRow + 1) j ≡ wordAt k (ownRow + 1) j = λ j l. own (8 * (ownRow + 1) + j) (omega arith)
+    (omega arith) in
+    record {
+      units = s 1 (omega arith) ∙ g .units;
+      subject = s 2 (omega arith) ∙ g .subject;
+      mark = s 3 (omega arith) ∙ g .mark;
+    }
+
 -- the lengths of lists that hold a run fit
 pub lengths-hold : (i : Input) (t : List ℕ) (n : ℕ) (M : Lists) → Accepted i → i .table ≡ t → Holds i n M → lengthsFit t M ≡ true
 unfolding lengthsFit storeLengthFits tableCheckedBy
@@ -213,9 +247,10 @@ module _ (i : Input) (w k b w′ k′ : List ℕ) (r : Outcome) (answer place le
       let s : w′ ≡ clearedFrom w (8 * i .mark) = d .store ∙ ap (λ (m : ℕ). clearedFrom w (8 * m)) (g .mark) in
       λ z. atReturn (n z) (s z) (eb z)
 
-  pub ended-cut : (c : Limit) (p n : ℕ) → answer ≡ number c → place ≡ placeOf c → AnswersAt i n (over (cut c (rest w p) left)) r (lists w′
+  pub ended-cut : (c : Limit) (p : Noted) (n : ℕ) → answer ≡ number c → place ≡ placeOf c
+      → AnswersAt i n (over (cut c (rest w p) left)) r (lists w′
       b k′)
-  unfolding returnedBy
+  unfolding returnedBy renoted
   ended-cut c p n ea ep = (
     not-done ∙ (λ z. record {
       answer = ea z;
@@ -230,8 +265,8 @@ module _ (i : Input) (w k b w′ k′ : List ℕ) (r : Outcome) (answer place le
     cleared-zero k k′ (d .work),
   )
 
-  pub ended-lost : (p n : ℕ) → answer ≡ 1 → place ≡ p → AnswersAt i n (over (lost (rest w p) left)) r (lists w′ b k′)
-  unfolding returnedBy
+  pub ended-lost : (p : Noted) (n : ℕ) → answer ≡ 1 → place ≡ p .0 → AnswersAt i n (over (lost (rest w p) left)) r (lists w′ b k′)
+  unfolding returnedBy renoted
   ended-lost p n ea ep = (
     not-done ∙ (λ z. record {
       answer = ea z;
@@ -246,25 +281,34 @@ module _ (i : Input) (w k b w′ k′ : List ℕ) (r : Outcome) (answer place le
     cleared-zero k k′ (d .work),
   )
 
--- an accepted run that is done has its bound nodes in the store
-bound-small : (i : Input) → Accepted i → (y m p u : ℕ) (w : List ℕ) (c : Bindings ℕ) → ended y c (on w m p) u ≡ ran places nowhere i → (v j
-    : ℕ) → c v ≡ some j → j < 131072
-bound-small i a y m p u w c e v j h =
-    let l : Leaves (i .store) (i .mark) (ended y c (on w m p) u) = subst (Leaves (i .store) (i .mark)) (sym e) (over-the-words ours ℕ
-    places nowhere i a .1) in
+-- an accepted run leaves a sound store, with nodes shared or not
+leaves : (sh : Bool) (i : Input) → Accepted i → Leaves (i .store) (i .mark) (ranSharing sh ours history (nowhere, []) i)
+leaves false i a =
+    subst (Leaves (i .store) (i .mark)) (sym (not-shared .1 ours Noted history (nowhere, []) i))
+    (over-the-words ours Noted history (nowhere, []) i a .1)
+leaves true i a =
+    subst (Leaves (i .store) (i .mark)) (sym (all-shared .1 ours Noted history (nowhere, []) i))
+    (shared-leaves ours Noted history (nowhere, []) i a)
+
+-- one that is done has its bound nodes in the store
+bound-small : (sh : Bool) (i : Input) → Accepted i → (y m u : ℕ) (p : Noted) (w : List ℕ) (c : Bindings ℕ)
+    → ended y c (on w m p) u ≡ ranSharing sh ours history (nowhere, []) i
+    → (v j : ℕ) → c v ≡ some j → j < 131072
+bound-small sh i a y m u p w c e v j h =
+    let l : Leaves (i .store) (i .mark) (ended y c (on w m p) u) = subst (Leaves (i .store) (i .mark)) (sym e) (leaves sh i a) in
     let f = storePasses (i .store) (i .mark) .0 (ap (λ (c : Checked). c .answer) (a .store)) in
     omega (arith, l .2 .bound v j h, l .2 .fits, l .1 .long, f .0 .0 .most)
 
-ended-done : (i : Input) → Accepted i → (w k w′ b′ k′ : List ℕ) (m : Machine) (r : Outcome) → Given i k → m .fuel ≤ i .units → Finished w k
-    m r w′ b′ k′
-    → ended (m .y) (present k m) (on w (m .mark) (m .place)) (m .fuel) ≡ ran places nowhere i → (n : ℕ) → AnswersAt i n (over (ended (m .y)
-    (present k m) (on w (m .mark) (m .place)) (m .fuel))) r (lists w′ b′ k′)
-unfolding returnedBy
-ended-done i a w k w′ b′ k′ m r g fits d e x =
+pub ended-done : (sh : Bool) (i : Input) → Accepted i → (w k w′ b′ k′ : List ℕ) (m : Machine) (log : List Event) (r : Outcome) → Given i k
+    → m .fuel ≤ i .units → Finished w k m r w′ b′ k′
+    → ended (m .y) (present k m) (on w (m .mark) (m .place, log)) (m .fuel) ≡ ranSharing sh ours history (nowhere, []) i → (n : ℕ)
+    → AnswersAt i n (over (ended (m .y) (present k m) (on w (m .mark) (m .place, log)) (m .fuel))) r (lists w′ b′ k′)
+unfolding returnedBy renoted
+ended-done sh i a w k w′ b′ k′ m log r g fits d e x =
     let u : d .used ≡ i .units - m .fuel = used-is (i .units) (m .fuel) (d .used) fits (d .few) (d .units ∙ g .units) in
     let n : r ≡ numbers 0 0 (m .y) (m .mark) (i .units - m .fuel) = d .numbers ∙ ap (λ (u : ℕ). numbers 0 0 (m .y) (m .mark) u) u in
-    let q : b′ ≡ bindingWords variables (present k m) = put-back-words k b′ (m .mask) (d .bindings) (bound-small i a (m .y) (m .mark) (m
-    .place) (m .fuel) w (present k m) e) in
+    let q : b′ ≡ bindingWords variables (present k m) = put-back-words k b′ (m .mask) (d .bindings)
+    (bound-small sh i a (m .y) (m .mark) (m .fuel) (m .place, log) w (present k m) e) in
     ((λ z. atReturn (n z) (d .store z) (q z)), cleared-zero k k′ (d .work))
 
 -- ---- a step, all in all
@@ -275,7 +319,7 @@ stopAt had v = if ltb v had then had - v else 0
 
 module _ (fair : (i : Input) → Accepted i → (n : ℕ) → Fair (i .table) (runAfter i n))
     (i : Input) (n v : ℕ) (M : Lists) (a : Accepted i) (h : Holds i n M) (stop : ℕ) (es : stop ≡ stopAt (machineIn (M .work) .fuel) v)
-    (m : Machine) (w₁ k₁ : List ℕ) (g : Goes (i .table) (M .store) (M .work) (machineIn (M .work)) stop m w₁ k₁) where
+    (m : Machine) (w₁ k₁ : List ℕ) (g : Goes false (i .table) (M .store) (M .work) (machineIn (M .work)) stop m w₁ k₁) where
   abbrev had : ℕ
   had = machineIn (M .work) .fuel
 
@@ -294,27 +338,28 @@ module _ (fair : (i : Input) → Accepted i → (n : ℕ) → Fair (i .table) (r
       more : stop < m .fuel
       more = ⊎-elim (λ l. l) (λ l. absurd (ne (omega (arith, g .rest)))) (below-or-from stop (m .fuel))
 
-  stands : Stands (i .table) m w₁ k₁ (runAfter i (n + made))
-  stands =
-      subst (Stands (i .table) m w₁ k₁) (after-more i n made)
-      (g .goes (runAfter i n) (h .stands) (λ j. subst (Fair (i .table)) (sym (after-more i n j)) (fair i a (n + j))))
+  gone : (es : List What) × (log : List Event) × Stands false (i .table) m w₁ k₁ es log
+      (steps (storeBy false history) (does (table (i .table))) made (runAfter i n))
+  gone = g .goes (h .flight) (h .log) (runAfter i n) (h .stands) (λ j. subst (Fair (i .table)) (sym (after-more false i n j)) (fair i a (n + j)))
+
+  abbrev flight : List What
+  flight = gone .0
+
+  abbrev log : List Event
+  log = gone .1
+
+  stands : Stands false (i .table) m w₁ k₁ flight log (runAfter i (n + made))
+  stands = subst (Stands false (i .table) m w₁ k₁ flight log) (after-more false i n made) (gone .2)
 
   given-stays : Given i k₁
-  given-stays =
-      let s : (j : ℕ) → j < 8 → wordAt k₁ (ownRow + 1) j ≡ wordAt (M .work) (ownRow + 1) j = λ j l. g .own (8 * (ownRow + 1) + j) (omega
-      arith) (omega arith) in
-      record {
-        units = s 1 (omega arith) ∙ h .given .units;
-        subject = s 2 (omega arith) ∙ h .given .subject;
-        mark = s 3 (omega arith) ∙ h
-            .given .mark;
-      }
+  given-stays = given-own i (M .work) k₁ (g .own) (h .given)
 
   fuel-fits : m .fuel ≤ i .units
   fuel-fits = omega (arith, g .fuel, h .fuel)
 
   -- where the run is over
-  at-end : (e : Ran ℕ) (r : Outcome) (M′ : Lists) → runAfter i (n + v) ≡ over e → AnswersAt i (n + v) (over e) r M′ → Answers i (n + v) r M′
+  at-end : (e : Ran Noted) (r : Outcome) (M′ : Lists) → runAfter i (n + v) ≡ over e → AnswersAt i (n + v) (over e) r M′
+      → Answers i (n + v) r M′
   at-end e r M′ z x = subst (λ X. AnswersAt i (n + v) X r M′) (sym z) x
 
   pub concluded : (r : Outcome) (w′ b′ k′ : List ℕ) → Went w₁ (M .bindings) k₁ had v stop m r w′ b′ k′ → Answers i (n + v) r (lists w′ b′
@@ -324,20 +369,21 @@ module _ (fair : (i : Input) → Accepted i → (n : ℕ) → Fair (i .table) (r
       let s = stands .asked l in
       let deep : 4096 ≤ m .level = ⊎-elim (λ z. absurd (ne z)) (λ z. z) (g .asking l) in
       let some : (m .fuel ≡ 0 → ⊥) = λ z. ne (omega (arith, g .rest)) in
-      at-end _ r _ (over-next i n made v _ (fewer-made ne) (cut-nesting (i .table) w₁ k₁ (m .level) (m .mark) (m .place) (m .fuel) _ _ deep
+      at-end _ r _
+      (over-next false i n made v _ (fewer-made ne) (cut-nesting false (i .table) w₁ k₁ (m .level) (m .mark) (m .place, log) (m .fuel) _ _ _ deep
       some s))
-      (ended-cut i w₁ k₁ b′ w′ k′ r 8 0 (m .fuel) given-stays fuel-fits (eb ∙ h .bindings) d nesting (m .place) (n + v) refl refl)
+      (ended-cut i w₁ k₁ b′ w′ k′ r 8 0 (m .fuel) given-stays fuel-fits (eb ∙ h .bindings) d nesting (m .place, log) (n + v) refl refl)
   concluded r w′ b′ k′ (used-up l e lt eb d) =
       let zero-left : m .fuel ≡ 0 = ⊎-elim (λ z. absurd (omega (arith, z .0))) (λ z. e ∙ z .1) stops in
-      let s = subst (λ (u : ℕ). Asks (i .table) k₁ (m .level) (visitOf (m .mode) (m .x) (m .y) (present k₁ m)) (on w₁ (m .mark) (m .place))
+      let s = subst (λ (u : ℕ). Asks (i .table) k₁ (m .level) flight (visitOf (m .mode) (m .x) (m .y) (present k₁ m)) (on w₁ (m .mark) (m .place, log))
       u (runAfter i (n + made))) zero-left (stands .asked l) in
-      at-end _ r _ (over-next i n made v _ (omega arith) (cut-units (i .table) w₁ k₁ (m .level) (m .mark) (m .place) _ _ s))
+      at-end _ r _ (over-next false i n made v _ (omega arith) (cut-units false (i .table) w₁ k₁ (m .level) (m .mark) (m .place, log) _ _ _ s))
       (ended-cut i w₁ k₁ b′ w′ k′ r 6 0 0 given-stays (omega arith) (eb ∙ h .bindings) (subst (λ (u : ℕ). Ended w₁ k₁ 6 0 u r w′ k′)
-      zero-left d) units (m .place) (n + v) refl refl)
+      zero-left d) units (m .place, log) (n + v) refl refl)
   concluded r w′ b′ k′ (paused l e le d) =
       let all : made ≡ v = ⊎-elim (λ z. omega (arith, z .0, z .1, e)) (λ z. omega (arith, z .0, z .1, e)) stops in
-      let S : Stands (i .table) m w₁ k₁ (runAfter i (n + v)) = subst (λ (x : ℕ). Stands (i .table) m w₁ k₁ (runAfter i (n + x))) all stands
-      in
+      let S : Stands false (i .table) m w₁ k₁ flight log (runAfter i (n + v)) =
+      subst (λ (x : ℕ). Stands false (i .table) m w₁ k₁ flight log (runAfter i (n + x))) all stands in
       let s = S .asked l in
       let u : d .used ≡ i .units - m .fuel = used-is (i .units) (m .fuel) (d .used) fuel-fits (d .few) (d .units ∙ given-stays .units) in
       let all-units : m .fuel + (n + v) ≡ i .units = omega (arith, all, g .fuel, h .fuel) in
@@ -359,7 +405,10 @@ module _ (fair : (i : Input) → Accepted i → (n : ℕ) → Fair (i .table) (r
         };
         begun = omega (arith, ap (λ r. getD r 0 0) (d .work .own));
         asked = subst (λ m. m .mode < 4) (sym same) l;
-        stands = subst (λ m. Stands (i .table) m w′ k′ (runAfter i (n + v))) (sym same) (subst (λ w. Stands (i .table) m w k′ (runAfter i
+        flight = flight;
+        log = log;
+        stands = subst (λ m. Stands false (i .table) m w′ k′ flight log (runAfter i (n + v))) (sym same)
+            (subst (λ w. Stands false (i .table) m w k′ flight log (runAfter i
             (n + v))) (sym (d .store)) (stands-same (i .table) w₁ k₁ k′ m (λ j x. d .work .other j (inl x)) (λ j x. d .work .other j (inr
             x)) l S));
         fuel = subst (λ m. m .fuel + (n + v) ≡ i .units) (sym same) all-units;
@@ -369,22 +418,26 @@ module _ (fair : (i : Input) → Accepted i → (n : ℕ) → Fair (i .table) (r
       subst (λ X. AnswersAt i (n + v) X r (lists w′ b′ k′)) (sym (s .is)) (N, H)
   concluded r w′ b′ k′ (done e d) =
       let level-0 : m .level ≡ 0 = g .ended (omega arith) (omega arith) in
-      let z = root-done (i .table) w₁ k₁ (present k₁ m) (m .y) (m .mark) (m .place) (m .fuel) _ (subst (λ (l : ℕ). Ends (i .table) k₁ (suc
-      l) (ended (m .y) (present k₁ m) (on w₁ (m .mark) (m .place)) (m .fuel)) (runAfter i (n + made))) level-0 (stands .succeeded e)) in
-      let o = over-by i n made v _ few-made z in
-      at-end _ r _ o (ended-done i a w₁ k₁ w′ b′ k′ m r given-stays fuel-fits d (end-is-ran i (n + v) _ o) (n + v))
+      let z = root-done false (i .table) w₁ k₁ (present k₁ m) (m .y) (m .mark) (m .fuel) (m .place, log) flight _
+      (subst (λ (l : ℕ). Ends false (i .table) k₁ (suc l) flight (ended (m .y) (present k₁ m)
+      (on w₁ (m .mark) (m .place, log)) (m .fuel)) (runAfter i (n + made))) level-0
+      (stands .succeeded e)) in
+      let o = over-by false i n made v _ few-made z in
+      at-end _ r _ o (ended-done false i a w₁ k₁ w′ b′ k′ m _ r given-stays fuel-fits d (end-is-ran false i (n + v) _ o) (n + v))
   concluded r w′ b′ k′ (failed e eb d) =
       let level-0 : m .level ≡ 0 = g .ended (omega arith) (omega arith) in
-      let z = root-failed (i .table) w₁ k₁ (m .place) (m .fuel) _ (subst (λ (l : ℕ). Ends (i .table) k₁ (suc l) (lost (rest w₁ (m .place))
-      (m .fuel)) (runAfter i (n + made))) level-0 (stands .failed e)) in
-      at-end _ r _ (over-by i n made v _ few-made z) (ended-lost i w₁ k₁ b′ w′ k′ r 1 (m .place) (m .fuel) given-stays fuel-fits (eb ∙ h
-      .bindings) d (m .place) (n + v) refl refl)
+      let z = root-failed false (i .table) w₁ k₁ (m .place, log) (m .fuel) flight _
+      (subst (λ (l : ℕ). Ends false (i .table) k₁ (suc l) flight (lost (rest w₁ (m .place, log)) (m .fuel))
+      (runAfter i (n + made))) level-0 (stands .failed e)) in
+      at-end _ r _ (over-by false i n made v _ few-made z) (ended-lost i w₁ k₁ b′ w′ k′ r 1 (m .place) (m .fuel) given-stays fuel-fits
+      (eb ∙ h
+      .bindings) d (m .place, _) (n + v) refl refl)
   concluded r w′ b′ k′ (full e eb d) =
-      at-end _ r _ (over-by i n made v _ few-made (stands .full e)) (ended-cut i w₁ k₁ b′ w′ k′ r 7 0 (m .fuel) given-stays fuel-fits (eb ∙
-      h .bindings) d room (m .place) (n + v) refl refl)
+      at-end _ r _ (over-by false i n made v _ few-made (stands .full e)) (ended-cut i w₁ k₁ b′ w′ k′ r 7 0 (m .fuel) given-stays fuel-fits (eb ∙
+      h .bindings) d room (m .place, log) (n + v) refl refl)
   concluded r w′ b′ k′ (stuck e eb d) =
-      at-end _ r _ (over-by i n made v _ few-made (stands .stuck (omega (arith, stands .known)))) (ended-cut i w₁ k₁ b′ w′ k′ r 12 (m .x)
-      (m .fuel) given-stays fuel-fits (eb ∙ h .bindings) d (unbound (m .x)) (m .place) (n + v) refl refl)
+      at-end _ r _ (over-by false i n made v _ few-made (stands .stuck (omega (arith, stands .known)))) (ended-cut i w₁ k₁ b′ w′ k′ r 12 (m .x)
+      (m .fuel) given-stays fuel-fits (eb ∙ h .bindings) d (unbound (m .x)) (m .place, log) (n + v) refl refl)
 
 -- ---- for the functions of the step
 
@@ -450,16 +503,17 @@ pub stop-few : (had v stop : ℕ) → stop ≡ stopAt had v → stop ≤ had
 stop-few had v stop e = ⊎-elim (λ l. omega (arith, e ∙ sym (stop-then had v l))) (λ l. omega (arith, e ∙ sym (stop-else had v l)))
     (below-or-from v had)
 
-fair-after : (i : Input) → Accepted i → (n : ℕ) → Fair (i .table) (runAfter i n)
-unfolding runAfter
-fair-after i a n = always-fair i a n
+pub fair-after : (sh : Bool) (i : Input) → Accepted i → (n : ℕ) → Fair (i .table) (runAfterBy sh i n)
+unfolding runAfterBy
+fair-after sh i a n = always-fair sh i a n
 
 pub step-goes : (i : Input) (n v : ℕ) (M : Lists) → Accepted i → Holds i n M → (t : List ℕ) → i .table ≡ t → (a : Machine) → a ≡ machineIn
     (M .work) → (stop : ℕ) → stop ≡ stopAt (a .fuel) v
-    → (m : Machine) (w₁ k₁ : List ℕ) → Goes t (M .store) (M .work) a stop m w₁ k₁ → (r : Outcome) (w′ b′ k′ : List ℕ) → Went w₁ (M
+    → (m : Machine) (w₁ k₁ : List ℕ) → Goes false t (M .store) (M .work) a stop m w₁ k₁ → (r : Outcome) (w′ b′ k′ : List ℕ) → Went w₁ (M
     .bindings) k₁ (a .fuel) v stop m r w′ b′ k′
     → Answers i (n + v) r (lists w′ b′ k′)
 step-goes i n v M ac h t et a ea stop es m w₁ k₁ g r w′ b′ k′ d =
-    concluded fair-after i n v M ac h stop (es ∙ ap (λ a. stopAt (a .fuel) v) ea) m w₁ k₁ (subst (λ a. Goes (i .table) (M .store) (M .work)
-    a stop m w₁ k₁) ea (subst (λ t. Goes t (M .store) (M .work) a stop m w₁ k₁) (sym et) g))
+    concluded (fair-after false) i n v M ac h stop (es ∙ ap (λ a. stopAt (a .fuel) v) ea) m w₁ k₁
+    (subst (λ a. Goes false (i .table) (M .store) (M .work) a stop m w₁ k₁) ea
+    (subst (λ t. Goes false t (M .store) (M .work) a stop m w₁ k₁) (sym et) g))
     r w′ b′ k′ (subst (λ a. Went w₁ (M .bindings) k₁ (a .fuel) v stop m r w′ b′ k′) ea d)

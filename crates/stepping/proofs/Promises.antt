@@ -13,6 +13,7 @@ use Rattle.checks.specs.Kinds.{ours}
 use Rattle.checks.specs.Checked.{checked}
 use Rattle.checks.specs.declared.Checked.{Checked}
 use Rattle.meaning.specs.Derivation.{places, nowhere}
+use Rattle.meaning.specs.Mapped.{renoted}
 use Rattle.meaning.specs.Limits.{Limit, units, room, nesting, unbound, ended, lost, cut}
 use Rattle.meaning.specs.Steps.{over, next}
 use Rattle.meaning.specs.Store.{Input, Accepted, Ran, ran}
@@ -21,9 +22,10 @@ use Rattle.calls.specs.Run.{atReturn, runWith, runWithBy}
 use Rattle.calls.specs.declared.Outcome.{Outcome}
 use Rattle.calls.proofs.Accepting.{refusal-with}
 use Rattle.machine.specs.Stack.{Run}
-use Rattle.stepping.specs.Stepping.{numbers, startRefused, startNumbers, Lists, lists, runAfter, Holds, Starts, Zero, AnswersAt, Answers, Steps-on, lengthsFit, ownRow}
+use Rattle.stepping.specs.Stepping.{numbers, startRefused, startNumbers, Lists, lists, runAfter, Holds, Starts, Zero, AnswersAt}
+use Rattle.stepping.specs.Stepping.{Answers, Steps-on, lengthsFit, ownRow}
 use Rattle.stepping.specs.Promises.{sum, Calls, last, more, Stepped-by, Any-steps, Exact-visits, Ends-in-time, Agreeing, Zero-refused}
-use Rattle.stepping.proofs.Concluding.{end-is-ran}
+use Rattle.stepping.proofs.Concluding.{end-is-run}
 use Rattle.stepping.proofs.Starting.{verdict, not-25}
 
 -- no run's end answers 25
@@ -39,7 +41,8 @@ not-unfinished i (cut (unbound v) l u) z = omega arith
 -- where 25 is answered the lists hold the run
 unfinished-holds : (i : Input) (n : ℕ) (X : Run) (r : Outcome) (M : Lists) → AnswersAt i n X r M → r .answer ≡ 25 → (r ≡ numbers 25 0 (i
     .subject) (i .mark) n) × Holds i n M
-unfinished-holds i n (over e) r M a z = absurd (not-unfinished i e (sym (ap (λ (x : Returned). x .answer) (a .0)) ∙ z))
+unfinished-holds i n (over e) r M a z =
+    absurd (not-unfinished i (renoted (λ n. n .0) e) (sym (ap (λ (x : Returned). x .answer) (a .0)) ∙ z))
 unfinished-holds i n (next s u f fs) r M a z = a
 
 -- calls in turn come to as many visits as they have together
@@ -80,7 +83,7 @@ module _ (g : Option (List ℕ)) (i : Input) (vs : List ℕ) (r : Outcome) (M : 
 
   ends : (X : Run) → runAfter i (sum vs) ≡ X → AnswersAt i (sum vs) X r M → (r .answer ≡ 25 → ⊥) → (atReturn r (M .store) (M .bindings) ≡
       runWith g i) × Zero (M .work)
-  ends (over e) x a n = (a .0 ∙ ap (returned i) (end-is-ran i (sum vs) e x) ∙ run-is, a .1)
+  ends (over e) x a n = (a .0 ∙ ap (returned i) (end-is-run i (sum vs) e x) ∙ run-is, a .1)
   ends (next t u f fs) x a n = absurd (n (ap (λ (r : Outcome). r .answer) (a .0)))
 
   exact : r .answer ≡ 25 → (r ≡ numbers 25 0 (i .subject) (i .mark) (sum vs)) × Holds i (sum vs) M

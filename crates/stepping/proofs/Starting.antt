@@ -15,7 +15,7 @@ use Rattle.checks.specs.Kinds.{ours}
 use Rattle.checks.specs.Checked.{checked}
 use Rattle.checks.specs.declared.Checked.{Checked}
 use Rattle.checks.proofs.Promises.{storePasses}
-use Rattle.meaning.specs.Derivation.{places, nowhere}
+use Rattle.meaning.specs.Derivation.{nowhere}
 use Rattle.meaning.specs.Table.{table}
 use Rattle.meaning.specs.Rules.{apply, does}
 use Rattle.meaning.specs.Plan.{keep, ret, fail}
@@ -32,13 +32,13 @@ use Rattle.machine.specs.Machine.{Lent}
 use Rattle.machine.specs.declared.Machine.{Machine}
 use Rattle.machine.proofs.Holding.{held-same}
 use Rattle.machine.proofs.Stacked.{stands-asked}
-use Rattle.stepping.specs.Stepping.{numbers, startRefused, startNumbers, lists, runAfter, ownRow, machineIn, Holds, Starts}
+use Rattle.stepping.specs.Stepping.{numbers, startRefused, startNumbers, lists, runAfterBy, runAfter, ownRow, machineIn, Holds, Starts}
 use Rattle.stepping.specs.Ended.{Saved, Loaded}
 use Rattle.stepping.proofs.Concluding.{machine-saved, given-saved}
 
 -- a fresh run stands in a list that holds its bindings
-first-visit : (i : Input) (k : List ℕ) (mask : ℕ) → heldAt k recordFrom mask ≡ bindings (i .bindings)
-    → Stands (i .table) (record {
+pub first-visit : (sh : Bool) (i : Input) (k : List ℕ) (mask : ℕ) → heldAt k recordFrom mask ≡ bindings (i .bindings)
+    → Stands sh (i .table) (record {
       x = i .start;
       mode = 0;
       y = i .subject;
@@ -48,15 +48,15 @@ first-visit : (i : Input) (k : List ℕ) (mask : ℕ) → heldAt k recordFrom ma
       fuel = i .units;
       mask =
           mask;
-    }) (i .store) k (runAfter i 0)
-unfolding runAfter steps start visitOf wayAt
-first-visit i k mask e = stands-asked (omega arith) (record {
+    }) (i .store) k [] [] (runAfterBy sh i 0)
+unfolding runAfterBy steps start visitOf wayAt
+first-visit sh i k mask e = stands-asked (omega arith) (record {
   top = record {
     visit = apply (i .start) (i .subject) (bindings (i .bindings));
     left = 4096;
     keeps = keep;
     before = on (i .store) (i
-        .mark) nowhere;
+        .mark) (nowhere, []);
     yes = ret;
     no = fail;
   };
@@ -65,7 +65,14 @@ first-visit i k mask e = stands-asked (omega arith) (record {
   visit = ap (apply (i .start) (i .subject)) (sym e);
   pending = record { left = omega arith; ways = λ _. refl; mark = λ _ z. absurd (omega arith) };
   stack = tt;
+  whats = refl;
 })
+
+-- the bindings that were loaded are held in the list that was saved
+pub fresh-held : {k k₁ k₂ : List ℕ} {m : Machine} {u s g : ℕ} (b : List ℕ) (mask : ℕ) → Loaded k b mask k₁ → Saved k₁ m u s g k₂
+    → heldAt k₂ recordFrom mask ≡ bindings b
+fresh-held {k₁} {k₂} b mask o d =
+    held-same k₁ k₂ recordFrom recordFrom mask (λ v l _. d .other (recordFrom + v) (inr (omega arith))) ∙ o .held
 
 module _ (g : Option (List ℕ)) (i : Input) (k : List ℕ) where
   abbrev pub verdict : Checked
@@ -132,9 +139,6 @@ module _ (g : Option (List ℕ)) (i : Input) (k : List ℕ) where
       same : machineIn k₂ ≡ fresh
       same = machine-saved k₁ k₂ fresh _ _ _ d (omega arith) (omega arith)
 
-      held : heldAt k₂ recordFrom mask ≡ bindings (i .bindings)
-      held = held-same k₁ k₂ recordFrom recordFrom mask (λ v l _. d .other (recordFrom + v) (inr (omega arith))) ∙ o .held
-
       holds : Accepted i → Holds i 0 (lists (i .store) (i .bindings) k₂)
       holds a =
           let f = storePasses (i .store) (i .mark) .0 (ap (λ (c : Checked). c .answer) (a .store)) in
@@ -142,7 +146,9 @@ module _ (g : Option (List ℕ)) (i : Input) (k : List ℕ) where
             lent = record { nodes = f .0 .0 .whole; small = f .0 .0 .most; frames = omega (arith, d .long, o .long) };
             begun = omega (arith, ap (λ r. getD r 0 0) (d .own));
             asked = subst (λ m. m .mode < 4) (sym same) (omega arith);
-            stands = subst (λ m. Stands (i .table) m (i .store) k₂ (runAfter i 0)) (sym same) (first-visit i k₂ mask held);
+            flight = [];
+            log = [];
+            stands = subst (λ m. Stands false (i .table) m (i .store) k₂ [] [] (runAfter i 0)) (sym same) (first-visit false i k₂ mask (fresh-held (i .bindings) mask o d));
             fuel = subst (λ m. m .fuel + 0 ≡ i .units) (sym same) (omega arith);
             given = given-saved i k₁ k₂ fresh _ _ _ d refl refl refl;
             bindings = refl;

@@ -2,7 +2,7 @@
 use mathlib.Core.Path.{_≡_}
 use mathlib.Core.Bool.{Bool, true, false, _&&_}
 use mathlib.Core.Option.{Option}
-use mathlib.Core.List.{List}
+use mathlib.Core.List.{List, []}
 use Prim.Native.Nat.{ℕ, _+_, _-_, _*_, _<_, _≤_, min}
 use lib.Dec.{eqb, ltb, leb}
 use lib.ListN.{length, getD}
@@ -11,11 +11,13 @@ use Rattle.words.specs.Tests.{if_then_else_}
 use Rattle.checks.specs.Kinds.{variables}
 use Rattle.checks.specs.Checked.{checked, tableLengthFits, storeLengthFits}
 use Rattle.checks.specs.declared.Checked.{Checked}
-use Rattle.meaning.specs.Derivation.{places, nowhere}
+use Rattle.meaning.specs.Derivation.{What, Event, history, nowhere}
+use Rattle.meaning.specs.Mapped.{renoted}
 use Rattle.meaning.specs.Table.{table}
 use Rattle.meaning.specs.Rules.{apply, does}
 use Rattle.meaning.specs.Steps.{Next, over, next, steps, start}
-use Rattle.meaning.specs.Store.{Input, Accepted, bindings, deepest, on, stored}
+use Rattle.meaning.specs.Store.{Input, Accepted, bindings, deepest, on}
+use Rattle.meaning.specs.Shared.{storeBy}
 use Rattle.meaning.specs.Answer.{returned}
 use Rattle.calls.specs.Refused.{refusedWith}
 use Rattle.calls.specs.Run.{atReturn}
@@ -57,12 +59,16 @@ pub record Lists : Type 0 where
 abbrev pub lists : List ℕ → List ℕ → List ℕ → Lists
 lists w b k = record { store = w; bindings = b; work = k }
 
--- the run of an input, before its visit n + 1
-unfoldable pub runAfter : Input → ℕ → Run
-runAfter i n =
-    steps (stored places) (does (table (i .table))) n
-    (start (stored places) (does (table (i .table))) deepest (apply (i .start) (i .subject) (bindings (i .bindings)))
-    (on (i .store) (i .mark) nowhere) (i .units))
+-- the run of an input, before its visit n + 1, with nodes shared or not; what happens to visits is noted, which no answer shows
+unfoldable pub runAfterBy : Bool → Input → ℕ → Run
+runAfterBy sh i n =
+    steps (storeBy sh history) (does (table (i .table))) n
+    (start (storeBy sh history) (does (table (i .table))) deepest (apply (i .start) (i .subject) (bindings (i .bindings)))
+    (on (i .store) (i .mark) (nowhere, [])) (i .units))
+
+-- nodes are not shared in a run that can be set aside
+abbrev pub runAfter : Input → ℕ → Run
+runAfter = runAfterBy false
 
 -- the two rows of the run's own words stand at the place of the deepest visit, which opens no frame: 1 more than the mode, then the
 -- machine's other words; and what was given: units, subject, mark
@@ -97,7 +103,9 @@ pub record Holds (i : Input) (n : ℕ) (M : Lists) : Type 0 where
   pub lent : Lent (M .store) (M .work)
   pub begun : 0 < wordAt (M .work) ownRow 0
   pub asked : machineIn (M .work) .mode < 4
-  pub stands : Stands (i .table) (machineIn (M .work)) (M .store) (M .work) (runAfter i n)
+  pub flight : List What
+  pub log : List Event
+  pub stands : Stands false (i .table) (machineIn (M .work)) (M .store) (M .work) flight log (runAfter i n)
   pub fuel : machineIn (M .work) .fuel + n ≡ i .units
   pub given : Given i (M .work)
   pub bindings : M .bindings ≡ i .bindings
@@ -123,7 +131,7 @@ Zero k = (j : ℕ) → getD k j 0 ≡ 0
 -- what is answered where the run has come to X by n visits: it is over, and numbers, store and bindings are those of the run's end and the
 -- work list is zero; or it is unfinished, 25 with subject and mark as given and n units used, and the lists hold it
 abbrev pub AnswersAt : Input → ℕ → Run → Outcome → Lists → Type 0
-AnswersAt i n (over e) r M = (atReturn r (M .store) (M .bindings) ≡ returned i e) × Zero (M .work)
+AnswersAt i n (over e) r M = (atReturn r (M .store) (M .bindings) ≡ returned i (renoted (λ n. n .0) e)) × Zero (M .work)
 AnswersAt i n (next s u f fs) r M = (r ≡ numbers 25 0 (i .subject) (i .mark) n) × Holds i n M
 
 abbrev pub Answers : Input → ℕ → Outcome → Lists → Type 0

@@ -27,7 +27,7 @@ ghost use Rattle.calls.specs.Run.{input};
 ghost use Rattle.stepping.specs.Stepping.{lists, lengthsFit, Starts, Steps-on};
 ghost use Rattle.stepping.specs.Ended.{Ended, Finished, Went};
 
-mod own;
+pub mod own;
 
 // The least length of a work list: 80 words for each of 4,096 levels.
 pub const WORK: usize = 327680;
@@ -215,7 +215,7 @@ fn finish(store: &mut [u32], bindings: &mut [u32], work: &mut [u32], m: Machine)
 }
 
 // What a step answers where the machine has stopped: it had `had` units, and was to go until `stop` of them are left.
-fn conclude(
+pub fn conclude(
     store: &mut [u32],
     bindings: &mut [u32],
     work: &mut [u32],
@@ -288,6 +288,6 @@ pub fn step_run(
     }
     let a = saved(work);
     let stop = if visits < a.fuel { a.fuel - visits } else { 0 };
-    let m = go(table, store, work, a, stop);
+    let m = go(table, store, work, a, stop, false, false);
     conclude(store, bindings, work, a.fuel, visits, stop, m)
 }

@@ -25,7 +25,7 @@ pub(crate) fn given(work: &[u32], j: u32) -> u32
 }
 
 // The machine, and what was given, written into the list.
-pub(crate) fn save(work: &mut [u32], m: Machine, units: u32, subject: u32, mark: u32)
+pub fn save(work: &mut [u32], m: Machine, units: u32, subject: u32, mark: u32)
     requires { ⌜ (327680 ≤ length (now work)) × (m .mode < 4) ⌝ }
     ensures { λ _. ⌜ Saved (now (work .entry)) m units subject mark (now (work .exit)) ⌝ }
 {
@@ -88,7 +88,7 @@ pub(crate) fn saved(work: &[u32]) -> Machine
 }
 
 // The given bindings as words of the list; their mask.
-pub(crate) fn load_bindings(work: &mut [u32], bindings: &[u32]) -> u64
+pub fn load_bindings(work: &mut [u32], bindings: &[u32]) -> u64
     requires { ⌜ (327680 ≤ length (now work)) × (length (now bindings) ≡ 64) ⌝ }
     ensures { λ r. ⌜ Loaded (now (work .entry)) (now (bindings .entry)) r (now (work .exit)) ⌝ }
 {

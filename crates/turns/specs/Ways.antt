@@ -7,9 +7,10 @@ use mathlib.Core.List.{List, [], _∷_, _++_}
 use Prim.Native.Nat.{ℕ, _+_, _<_, _≤_, _%_, min}
 use lib.Dec.{eqb, ltb, leb}
 use lib.ListN.{length, getD, take, drop, set}
-use Rattle.words.specs.Words.{wordAt}
+use Rattle.words.specs.Words.{wordAt, rows}
 use Rattle.words.specs.Tests.{if_then_else_}
-use Rattle.checks.specs.Kinds.{ours, variables}
+use Rattle.checks.specs.Kinds.{ours, variables, sortOf}
+use Rattle.checks.specs.declared.kinds.Sort.the-variants.{Strategy}
 use Rattle.checks.specs.Good.{kindOf, operandCount, argumentOf, constructorOf, childCount, maskBy}
 use Rattle.meaning.specs.Bindings.{Bindings, unbound, bind, has, masked}
 use Rattle.meaning.specs.Table.{six}
@@ -183,9 +184,13 @@ pub record Fit (t : List ℕ) (p : ℕ) : Type 0 where
   pub is : (kindOf t p ≡ 19 → ⊥) → kindOf t p ≡ 18
   pub variable : kindOf t p ≡ 18 → argumentOf t p < variables
 
--- what a visit needs of the table: a pattern, where one is met
+-- entry x lies inside the table and is a strategy
+abbrev pub Applied : List ℕ → ℕ → Type 0
+Applied t x = (x < rows t) × (sortOf (kindOf t x) ≡ Strategy)
+
+-- what a visit needs of the table: such an entry; a pattern, where one is met
 abbrev pub FairVisit : List ℕ → Visit ℕ → Type 0
-FairVisit t (apply x h b) = Unit {0}
+FairVisit t (apply x h b) = Applied t x
 FairVisit t (match p h b) = Fit t p
 FairVisit t (build p h b) = Fit t p
 FairVisit t (compare g h b) = Unit {0}

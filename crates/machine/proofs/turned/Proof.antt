@@ -20,7 +20,8 @@ returns : tie.Need-returns
 returns c =
     let start = c .before .before .before .before .before .before .before .before .before .before .before .before .before .before .before
     .before .before in
-    turned-is (start .args .table .now) (start .args .store .now) (start .args .work .now) _ (start .args .i) (start .args .m) _ (start
+    turned-is (start .args .shares) (start .args .table .now) (start .args .store .now) (start .args .work .now) _ (start .args .i)
+    (start .args .m) _ (start
     .pre .0) (start .pre .1) (c .before .before .before .before .before .before .before .before .before .before .before .before
     .restore .ensures) _ (c .before .before .before .before .before .before .before .take-turn .ensures) _ _ _ (c .before .before
     .before .before .act .ensures)

@@ -65,7 +65,7 @@ conclude-requires c κs =
     (sym (c .before .before .before .before .before .before .before .before .before .before .before .before .before .before .before
     .before .before .before .lengths-fit .ensures) ∙ not-false _ (c .before .before .before .before .before .before .before .before
     .before .before .before .before .before .before .before .before .before .if1 .left)) in
-    (z .1, c .before .before .before .before .before .before .before .go .ensures .lent .frames)
+    (z .1, c .before .before .before .before .before .before .before .go .ensures .on refl .lent .frames)
 
 returns-3 : tie.Need-returns-3
 returns-3 c =
@@ -86,7 +86,7 @@ returns-3 c =
           .work .now)) a h _ e _ (c .before .before .before .before .before .before .before .before .before .before .before .before .before
           .before .before .before .before .before .before .saved .ensures) _ (stopped (c .before .before .before .before .before .before
           .before .before .before .before .before .before .before .before .before .before .before)) _ _ _ (c .before .before .before
-          .before .before .before .before .before .before .before .before .before .before .before .go .ensures) _ _ _ _ (c .before .before
+          .before .before .before .before .before .before .before .before .before .before .before .go .ensures .on refl) _ _ _ _ (c .before .before
           .before .before .before .before .conclude .ensures);
       listed = went-listed (c .before .before .before .before .before .before .conclude .ensures);
     }
