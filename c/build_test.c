@@ -85,12 +85,21 @@ static void tables(void)
     mt_item swap = mt_rule(&b, mt_con2(&b, PAIR, x, y), mt_con2(&b, PAIR, y, x));
     mt_item pass = mt_bottom_up(&b, mt_attempt(&b, mt_left(&b, swap, double_not(&b))));
     size_t length = mt_finish(&b);
+    static uint64_t counts[MT_COUNTS * 64];
+    const uint64_t *tried;
+    uint32_t subject, seven[7];
     hold(length == 8 * (size_t)b.entries && b.fault == MT_BUILT, "finished");
     mt_check_table(words, length, numbers);
     hold(numbers[MT_ANSWER] == MT_DONE, "the table check");
     hold(run(length, mt_start(&b, pass)) == MT_DONE && is_text(text, "PAIR(101, a)"), "bottom up");
     hold(run(length, mt_start(&b, swap)) == MT_DONE && is_text(text, "PAIR(101, NOT(NOT(a)))"), "a start inside the table");
     hold(mt_id(&b) == MT_NO_ITEM && b.fault == MT_BUILD_FULL, "nothing is made after the end");
+    /* The pass tries the swap on each of five nodes, and it succeeds on the pair. */
+    subject = term();
+    mt_run_counted(words, length, store, 8 * NODES, bindings, MT_VARIABLES, mark, mt_start(&b, pass), subject, 10000, counts, length / 2, seven);
+    tried = mt_counts(&b, swap, counts);
+    hold(seven[MT_ANSWER] == MT_DONE && tried[MT_VISITS] == 5 && tried[MT_SUCCESSES] == 1 && tried[MT_FAILURES] == 4 && tried[MT_IN_FLIGHT] == 0,
+         "the counts of a rule");
 }
 
 /* One traversal over the rule that takes double negations away: its answer and its term. */
@@ -184,6 +193,7 @@ static void answers(void)
         known += !is_text(mt_answer_text(k), mt_answer_text(3));
     hold(known >= 13, "every answer has words");
     hold(is_text(mt_answer_text(MT_TOO_DEEP), "a visit is nested too deep"), "the words of an answer");
+    hold(is_text(mt_answer_text(MT_FULL_COUNT), "a count is too high to be added to"), "the words of answer 24");
     hold(mt_version() == VERSION, "the version is the Rust crate's");
 }
 

@@ -1,6 +1,6 @@
 /*
- * Calls the library by its C header: the job of document 01, the refusals, a signature, many subjects, runs in steps, the collection, rules as
- * text, and null with length 0 everywhere. Prints what is wrong, or one line that nothing is. Plain C99. Of the C library it takes puts alone, and declares it, so that it compiles
+ * Calls the library by its C header: the job of document 01, the refusals, a signature, many subjects, runs in steps, an index, counts,
+ * the collection, rules as text, and null with length 0 everywhere. Prints what is wrong, or one line that nothing is. Plain C99. Of the C library it takes puts alone, and declares it, so that it compiles
  * where the C library's headers are not at hand.
  */
 #include "marshtrundle.h"
@@ -631,6 +631,118 @@ static void indexed_runs(void)
     hold(is(numbers, MT_TWIN_NODE, 1, 9, 3, 0), "indexed: a twin, before a bad start");
 }
 
+/* Counts of the eight entries of the job's table: what was there, and what a run adds. */
+static uint64_t counts[MT_COUNTS * 8 + 1];
+static uint32_t seven[7];
+
+/* Every count is 100 and its number before a run. */
+static void fresh_counts(void)
+{
+    size_t i;
+    fresh();
+    for (i = 0; i < MT_COUNTS * 8 + 1; i++)
+        counts[i] = 100 + i;
+    for (i = 0; i < 7; i++)
+        seven[i] = 77;
+}
+
+/* Whether a run added these to an entry's four counts. */
+static int added(size_t entry, uint64_t visits, uint64_t successes, uint64_t failures, uint64_t in_flight)
+{
+    const uint64_t *four = counts + MT_COUNTS * entry;
+    uint64_t before = 100 + MT_COUNTS * entry;
+    return four[MT_VISITS] == before + visits && four[MT_SUCCESSES] == before + 1 + successes &&
+           four[MT_FAILURES] == before + 2 + failures && four[MT_IN_FLIGHT] == before + 3 + in_flight;
+}
+
+/* Whether the two other numbers are these, and the counts of the patterns and the word behind them are as they were. */
+static int patterns_and_pairs(uint32_t patterns, uint32_t pairs)
+{
+    size_t e;
+    for (e = 4; e < 8; e++)
+        if (!added(e, 0, 0, 0, 0))
+            return 0;
+    return seven[MT_PATTERN_VISITS] == patterns && seven[MT_PAIR_VISITS] == pairs && counts[32] == 132;
+}
+
+/* A counted run was refused with these numbers, and no count moved. */
+static void counts_refused(uint32_t answer, uint32_t place, const char *text)
+{
+    size_t i;
+    hold(is(seven, answer, place, 2, 3, 0) && seven[MT_PATTERN_VISITS] == 0 && seven[MT_PAIR_VISITS] == 0, text);
+    for (i = 0; i < MT_COUNTS * 8 + 1 && (counts[i] == 100 + i || counts[i] > MT_MOST_COUNT); i++)
+        continue;
+    hold(i == MT_COUNTS * 8 + 1 && same(store, given, 32), text);
+}
+
+static void counted_runs(void)
+{
+    static const uint32_t twice[24] = {MT_ENTRY(MT_MATCH, 1), 0, 1, 0, 0, 0, 0, 0, MT_ENTRY(MT_PCON, 2), 5, 2, 2, 0, 0, 0, 0,
+                                       MT_ENTRY(MT_PVAR, 0)};
+    uint32_t lent[40];
+    size_t i;
+    fresh_counts();
+    mt_run_counted(table, 64, store, 32, bindings, 64, 3, 0, 2, 10, counts, 32, seven);
+    hold(is(seven, MT_DONE, 0, 3, 4, 10) && same(store, after, 32), "counted: the run is the run");
+    hold(added(0, 1, 1, 0, 0) && added(1, 1, 1, 0, 0) && added(2, 1, 1, 0, 0) && added(3, 1, 1, 0, 0), "counted: done");
+    hold(patterns_and_pairs(6, 0), "counted: six patterns of the rule");
+    fresh_counts();
+    mt_run_counted(table, 64, store, 32, bindings, 64, 3, 0, 2, 9, counts, 32, seven);
+    hold(is(seven, MT_OUT_OF_UNITS, 0, 2, 3, 9) && patterns_and_pairs(5, 0), "counted: out of units");
+    hold(added(0, 1, 0, 0, 1) && added(1, 1, 0, 0, 1) && added(2, 1, 1, 0, 0) && added(3, 1, 0, 0, 1), "counted: in flight");
+    fresh_counts();
+    mt_run_counted(table, 64, store, 32, bindings, 64, 3, 0, 0, 10, counts, 32, seven);
+    hold(is(seven, MT_FAILED, 4, 0, 3, 4) && patterns_and_pairs(1, 0), "counted: failed");
+    hold(added(0, 1, 0, 1, 0) && added(1, 1, 0, 1, 0) && added(2, 1, 0, 1, 0) && added(3, 0, 0, 0, 0), "counted: failures");
+    fresh_counts();
+    mt_run_counted(twice, 24, store, 32, bindings, 64, 3, 0, 2, 10, counts, 12, seven);
+    hold(is(seven, MT_FAILED, 2, 2, 3, 5) && seven[MT_PATTERN_VISITS] == 3 && seven[MT_PAIR_VISITS] == 1, "counted: a pair");
+    fresh_counts();
+    mt_run_counted_signed(table, 64, store, 32, bindings, 64, 3, 0, 2, 10, counts, 32, signature, 6, seven);
+    hold(is(seven, MT_DONE, 0, 3, 4, 10) && added(3, 1, 1, 0, 0), "counted: with a signature");
+    fresh_counts();
+    for (i = 0; i < 40; i++)
+        lent[i] = i < 32 ? given[i] : 9;
+    mt_run_indexed_counted(table, 64, lent, 40, 32, bindings, 64, 3, 0, 2, 10, counts, 32, seven);
+    hold(is(seven, MT_DONE, 0, 3, 4, 10) && same(lent, after, 32) && patterns_and_pairs(6, 0), "counted: with an index");
+    for (i = 32; i < 40 && lent[i] == 0; i++)
+        continue;
+    hold(i == 40 && added(0, 1, 1, 0, 0), "counted: the index is zero");
+    fresh_counts();
+    mt_run_indexed_counted_signed(table, 64, lent, 40, 32, bindings, 64, 4, 0, 2, 10, counts, 32, signature, 6, seven);
+    hold(is(seven, MT_DONE, 0, 3, 4, 10) && added(3, 1, 1, 0, 0), "counted: with both, the pair stands");
+    /* The list has four words for each entry, no more and no fewer. */
+    for (i = 0; i < 34; i++) {
+        if (i == 32)
+            continue;
+        fresh_counts();
+        mt_run_counted(table, 64, store, 32, bindings, 64, 3, 0, 2, 10, counts, i, seven);
+        counts_refused(MT_BAD_SIZES, 0, "counted: a list of another length");
+    }
+    fresh_counts();
+    mt_run_counted(table, 64, store, 32, bindings, 64, 3, 0, 2, 10, NULL, 32, seven);
+    counts_refused(MT_BAD_SIZES, 0, "counted: a null list");
+    mt_run_indexed_counted(NULL, 64, NULL, 40, 32, NULL, 64, 3, 0, 2, 10, NULL, 32, seven);
+    counts_refused(MT_BAD_SIZES, 0, "counted: null everywhere");
+    mt_run_counted_signed(table, 64, store, 32, bindings, 64, 3, 0, 2, 10, counts, 32, NULL, 0, seven);
+    counts_refused(MT_DISOBEYING_ENTRY, 4, "counted: an empty signature");
+    /* A count that is too high, of a pattern's entry too; the lowest entry; after a bad start. */
+    counts[30] = MT_MOST_COUNT + 1;
+    mt_run_counted(table, 64, store, 32, bindings, 64, 3, 0, 2, 10, counts, 32, seven);
+    counts_refused(MT_FULL_COUNT, 7, "counted: a pattern's count is too high");
+    counts[9] = UINT64_MAX;
+    mt_run_counted(table, 64, store, 32, bindings, 64, 3, 0, 2, 10, counts, 32, seven);
+    counts_refused(MT_FULL_COUNT, 2, "counted: the lowest entry");
+    mt_run_counted(table, 64, store, 32, bindings, 64, 3, 4, 2, 10, counts, 32, seven);
+    counts_refused(MT_BAD_START, 0, "counted: a bad start comes first");
+    fresh_counts();
+    counts[0] = MT_MOST_COUNT;
+    mt_run_counted(table, 64, store, 32, bindings, 64, 3, 0, 2, 0, counts, 32, seven);
+    hold(is(seven, MT_OUT_OF_UNITS, 0, 2, 3, 0) && counts[0] == MT_MOST_COUNT, "counted: the highest count is taken");
+    mt_run_counted(table, 64, store, 32, bindings, 64, 3, 0, 2, 1, counts, 32, seven);
+    hold(is(seven, MT_OUT_OF_UNITS, 0, 2, 3, 1) && counts[0] == MT_MOST_COUNT + 1, "counted: and added to");
+}
+
 int main(void)
 {
     the_job();
@@ -640,6 +752,7 @@ int main(void)
     many_subjects();
     steps();
     indexed_runs();
+    counted_runs();
     collection();
     rules_as_text();
     empty_slices();

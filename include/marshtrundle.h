@@ -8,20 +8,21 @@
  * marshtrundle_build.h makes tables and terms by functions, and shows terms and answers as text.
  *
  * SLICES. A slice is a pointer and a number of 32-bit words, not of bytes. The pointer is aligned to 4 bytes and valid for
- * that many words. A null pointer is an empty slice. What is written (store, bindings, work, results, numbers) overlaps
- * nothing else that is passed in the same call. The table, the subjects and a signature are only read. mt_run_many and
+ * that many words. Counts alone are words of 64 bits, aligned to 8 bytes, and their length is a number of such words. A null
+ * pointer is an empty slice. What is written (store, bindings, work, results, counts, numbers) overlaps nothing else that is
+ * passed in the same call. The table, the subjects and a signature are only read. mt_run_many and
  * mt_run_many_signed only read the bindings, mt_start_run and mt_start_run_signed write the work list alone, and the checks only read. Of the functions for rules as text, mt_translate_rules writes
  * the table and mt_write_rule the buffer; a text and a buffer are a pointer and a number of bytes, of any alignment.
  *
  * NUMBERS. `numbers` is where the answer goes. It is never null: it is aligned and valid for writing as many numbers of 32 or 64 bits
- * as the function's parameter says, 5, 4, 3 or 2. Nothing else is asked of the caller.
+ * as the function's parameter says, 7, 5, 4, 3 or 2. Nothing else is asked of the caller.
  *
  * OWNERSHIP. All memory is the caller's. Nothing is allocated, no pointer is kept after the call, nothing is freed.
  *
  * THREADS. There is no global state. Calls in several threads may run at the same time if none writes what another uses.
  * Several runs may share one table.
  *
- * THE SIGNATURE of mt_run_signed and mt_run_many_signed. One word for each constructor from 0 on: the child count that it is
+ * THE SIGNATURE of the functions whose name ends with _signed. One word for each constructor from 0 on: the child count that it is
  * declared with, or MT_UNDECLARED. At most 65,536 words. A constructor beyond the list is undeclared. An empty signature
  * (null with length 0) is not no signature: with it every constructor is undeclared.
  *
@@ -36,11 +37,17 @@
  * term, then runs each condition's REC on its starting term and matches the outcome, and then builds the right term, all in a scope
  * of the rule's variables. The right term and a starting term have only variables that were matched before.
  *
- * THE INDEX of mt_run_indexed, mt_run_many_indexed and their forms with a signature. One slice, `lent`, holds the store's words and
+ * THE INDEX of mt_run_indexed, mt_run_many_indexed, mt_run_indexed_counted and their forms with a signature. One slice, `lent`, holds the store's words and
  * behind them the index's; `words` says how many are the store's. Where it says more than there are, all are. The index has at least
  * two words for each node of the store, so that `lent` has at least words + words / 4. It may hold anything before. After a call that
  * was not refused it is all zero; after one that was it is as lent. With an index a node that stands below the mark with the same
  * eight words is not made again: two terms are equal exactly when their numbers are. So no two given nodes may have the same words.
+ *
+ * THE COUNTS of mt_run_counted, mt_run_indexed_counted and their forms with a signature. Four words of 64 bits for each entry of the
+ * table, pattern entries too, just so many: the words of entry e are 4e to 4e + 3, as enum mt_count names them. A run adds to them, so
+ * that they go on over many runs; make them zero before the first. The words of a pattern entry stay as they are. Over a run the visits
+ * of all entries, the visits of patterns and the visits of pairs make the units, and an entry's successes, failures and visits in flight make
+ * its visits. No word may be above MT_MOST_COUNT before a run: then no count can overflow. A refused run adds nothing.
  *
  * THE WORK LIST of mt_collect. A word for each node of the store, or more. It may hold anything, and is zero afterwards.
  *
@@ -51,9 +58,10 @@
  * below the mark and the bindings are then as given, and the work list serves another start as it is.
  *
  * THE STACK. Give a thread that calls a function whose name begins with mt_run MT_STACK bytes (2 MiB). A run nests at most
- * 4,096 visits, and each form of visit takes its own number of bytes. The deepest, CONG, takes 1.9 MiB in all; in this is a
+ * 4,096 visits, and each form of visit takes its own number of bytes. The deepest, SCOPE, takes 1.9 MiB in all; in this is a
  * copy of the table, 128 KiB whatever the table's size. It is measured, not proved: the Rust crate's tests run 4,096 levels
- * of each form on a thread of exactly 2 MiB, with one subject and with two. mt_translate_rules and mt_write_rule take less
+ * of each form on a thread of exactly 2 MiB, with one subject and with two, and with counts. A counted run does not nest calls: it
+ * takes 1.3 MiB whatever its form and its nesting. mt_translate_rules and mt_write_rule take less
  * than 256 KiB, the other functions, mt_step_run among them, less than 64 KiB. On a smaller stack a deep run ends in the
  * thread's guard page, if it has one: the code touches every page of a large frame in order.
  *
@@ -122,6 +130,10 @@ extern "C" {
 /* The least words of the work list of a run in steps: 80 for each of 4,096 levels. */
 #define MT_WORK_WORDS 327680
 
+/* The words of 64 bits that an entry has in the counts, and the highest that may be lent. */
+#define MT_COUNTS 4
+#define MT_MOST_COUNT UINT64_C(18446744069414584320)
+
 /* The most bytes of a rule's line that a table of 4,096 entries can have, its line feed included. */
 #define MT_RULE_BYTES 53272
 
@@ -161,8 +173,8 @@ enum mt_kind {
 };
 
 /*
- * The answers. They are asked in the order 2, 13 to 17, 4, 10, 11, 21, 5, then comes the run.
- * In answers 2, 4, 5, 10, 11, 13 to 23, 26 and 27 nothing is written but the numbers.
+ * The answers. They are asked in the order 2, 13 to 17, 4, 10, 11, 21, 5, 24, then comes the run.
+ * In answers 2, 4, 5, 10, 11, 13 to 24, 26 and 27 nothing is written but the numbers.
  * In answers 0, 1, 6, 7, 8 and 12 the nodes below the given mark are unchanged, and every store word from the returned mark
  * to the end is zero. In answers 1, 6, 7, 8 and 12 the bindings are as given. No strategy catches 6, 7, 8 or 12.
  */
@@ -174,14 +186,15 @@ enum mt_answer {
     MT_BAD_SIZES = 2,    /* the table is empty, over 32,768 words or no multiple of 8; the store is over 1,048,576 words or
                             no multiple of 8; the bindings are not 64 words; the mark exceeds the store's nodes; the
                             result list is not five words for each subject; the work list is too short; the signature is over 65,536 words or has
-                            a word above 7 */
+                            a word above 7; the index is shorter than two words for each node of the store; the counts are not
+                            four words for each entry */
     MT_BAD_NODE = 4,     /* a node below the mark is malformed; the place is the lowest such node */
     MT_BAD_START = 5,    /* the start is outside the table or a pattern; the subject, or one of several, is not below
                             the given mark; a binding word exceeds the mark */
     MT_OUT_OF_UNITS = 6, /* all units were used */
     MT_OUT_OF_ROOM = 7,  /* a node was to be made and the mark equals the store's nodes */
     MT_TOO_DEEP = 8,     /* a visit would have been nested deeper than 4,096 */
-    /* 10 and 11 are given by mt_run_signed and mt_run_many_signed alone. */
+    /* 10 and 11 are given where a signature is lent alone. */
     MT_DISOBEYING_ENTRY = 10, /* a CONG or a PCON, used or not, whose constructor is not declared with its count; the place is
                                  the lowest such entry */
     MT_DISOBEYING_NODE = 11,  /* the same of a node below the mark, reachable or not; the place is the lowest such node */
@@ -203,6 +216,7 @@ enum mt_answer {
                               lowest such node */
     MT_RULE_CALL = 22,     /* a condition's number is no REC without free variables among the entries in use */
     MT_NO_ENTRIES = 23,    /* the rule's entries pass the lent length of the table, or 4,096 */
+    MT_FULL_COUNT = 24,    /* with counts alone: a count is above MT_MOST_COUNT; the place is the lowest entry that has such a word */
     /* 25 and 27 are given by the functions for runs in steps alone. */
     MT_UNFINISHED = 25,    /* the run goes on, and is set aside before its next visit; the place is 0, subject and mark as given, the units
                               those used so far */
@@ -214,16 +228,27 @@ enum mt_answer {
 /* Where each number stands in `numbers`. */
 enum mt_number {
     MT_ANSWER = 0,  /* one of enum mt_answer */
-    MT_PLACE = 1,   /* the pattern's entry in answer 1, the bad entry in 10 and 13 to 17, the bad node in 4, 11 and 21, the variable in 12,
+    MT_PLACE = 1,   /* the pattern's entry in answer 1, the bad entry in 10, 13 to 17 and 24, the bad node in 4, 11 and 21, the variable in 12,
                        and 0 otherwise */
     MT_SUBJECT = 2, /* a run, mt_collect: the new subject in answer 0, and the given one otherwise */
     MT_MARK = 3,    /* a run, mt_collect: the new mark in answer 0, and the given one otherwise */
     MT_UNITS = 4,   /* a run: the visits counted; 0 where nothing was run */
+    MT_PATTERN_VISITS = 5, /* a run with counts: the pattern positions met; 0 where nothing was run */
+    MT_PAIR_VISITS = 6,    /* a run with counts: the pairs of nodes compared; 0 where nothing was run */
     MT_MASK = 2,    /* mt_free_variables: the mask in answer 0, and 0 otherwise */
     MT_LINE = 1,    /* mt_translate_rules: the first bad line, from 1; the bad entry in 13 to 17; 0 in 0 and 2 */
     MT_FIELD = 2,   /* mt_translate_rules: the first bad field, from 1, in 18; 0 otherwise */
     MT_USED = 3,    /* mt_translate_rules: the entries in use, the new ones among them in answer 0, as given otherwise */
     MT_LENGTH = 2   /* mt_write_rule: the bytes written, the line feed among them; 0 in all answers but 0 */
+};
+
+/* The counts of an entry, in the order of their words. A visit in flight is one that had begun and not ended when the run was cut off: in
+   answers 6, 7, 8 and 12. The visit that 6 or 8 refused is no visit; the one that asked for it is in flight. */
+enum mt_count {
+    MT_VISITS = 0,    /* visits as a strategy */
+    MT_SUCCESSES = 1, /* of these, those that succeeded */
+    MT_FAILURES = 2,  /* those that failed, caught or not */
+    MT_IN_FLIGHT = 3  /* those in flight at a cut-off */
 };
 
 /* The archive's functions. They take no null pointer, not even with length 0: call the mt_ functions instead. */
@@ -268,6 +293,23 @@ void marshtrundle_run_many_indexed_signed(const uint32_t *table, size_t table_wo
                                           uint32_t start, const uint32_t *subjects, size_t subjects_words,
                                           uint32_t units, uint32_t *results, size_t results_words,
                                           const uint32_t *signature, size_t signature_words, uint32_t numbers[2]);
+void marshtrundle_run_counted(const uint32_t *table, size_t table_words, uint32_t *store, size_t store_words,
+                              uint32_t *bindings, size_t bindings_words, uint32_t mark, uint32_t start,
+                              uint32_t subject, uint32_t units, uint64_t *counts, size_t counts_words,
+                              uint32_t numbers[7]);
+void marshtrundle_run_counted_signed(const uint32_t *table, size_t table_words, uint32_t *store, size_t store_words,
+                                     uint32_t *bindings, size_t bindings_words, uint32_t mark, uint32_t start,
+                                     uint32_t subject, uint32_t units, uint64_t *counts, size_t counts_words,
+                                     const uint32_t *signature, size_t signature_words, uint32_t numbers[7]);
+void marshtrundle_run_indexed_counted(const uint32_t *table, size_t table_words, uint32_t *lent, size_t lent_words,
+                                      uint32_t words, uint32_t *bindings, size_t bindings_words, uint32_t mark,
+                                      uint32_t start, uint32_t subject, uint32_t units, uint64_t *counts,
+                                      size_t counts_words, uint32_t numbers[7]);
+void marshtrundle_run_indexed_counted_signed(const uint32_t *table, size_t table_words, uint32_t *lent,
+                                             size_t lent_words, uint32_t words, uint32_t *bindings,
+                                             size_t bindings_words, uint32_t mark, uint32_t start, uint32_t subject,
+                                             uint32_t units, uint64_t *counts, size_t counts_words,
+                                             const uint32_t *signature, size_t signature_words, uint32_t numbers[7]);
 void marshtrundle_collect(uint32_t *store, size_t store_words, uint32_t *bindings, size_t bindings_words,
                           uint32_t *work, size_t work_words, uint32_t mark, uint32_t subject, uint32_t numbers[4]);
 void marshtrundle_free_variables(const uint32_t *table, size_t table_words, uint32_t entry, uint64_t numbers[3]);
@@ -452,6 +494,75 @@ static inline void mt_step_run(const uint32_t *table, size_t table_words, uint32
     marshtrundle_step(table ? table : &none[0], table ? table_words : 0, store ? store : &none[1], store ? store_words : 0,
                       bindings ? bindings : &none[2], bindings ? bindings_words : 0, work ? work : &none[3],
                       work ? work_words : 0, visits, numbers);
+}
+
+/*
+ * Runs as mt_run does and counts the visits of every entry (see THE COUNTS): where the units go. The first five numbers, the store and the
+ * bindings are those of mt_run. `numbers` gets two more: the visits of patterns and of pairs. After 5 it asks for MT_FULL_COUNT. It is some
+ * ten times slower than mt_run: it is there for tuning.
+ */
+static inline void mt_run_counted(const uint32_t *table, size_t table_words, uint32_t *store, size_t store_words,
+                                  uint32_t *bindings, size_t bindings_words, uint32_t mark, uint32_t start,
+                                  uint32_t subject, uint32_t units, uint64_t *counts, size_t counts_words,
+                                  uint32_t numbers[7])
+{
+    uint32_t none[3] = {0, 0, 0};
+    uint64_t no_counts = 0;
+    marshtrundle_run_counted(table ? table : &none[0], table ? table_words : 0, store ? store : &none[1],
+                             store ? store_words : 0, bindings ? bindings : &none[2], bindings ? bindings_words : 0,
+                             mark, start, subject, units, counts ? counts : &no_counts, counts ? counts_words : 0,
+                             numbers);
+}
+
+/* The same with a signature, as mt_run_signed. */
+static inline void mt_run_counted_signed(const uint32_t *table, size_t table_words, uint32_t *store, size_t store_words,
+                                         uint32_t *bindings, size_t bindings_words, uint32_t mark, uint32_t start,
+                                         uint32_t subject, uint32_t units, uint64_t *counts, size_t counts_words,
+                                         const uint32_t *signature, size_t signature_words, uint32_t numbers[7])
+{
+    uint32_t none[4] = {0, 0, 0, 0};
+    uint64_t no_counts = 0;
+    marshtrundle_run_counted_signed(table ? table : &none[0], table ? table_words : 0, store ? store : &none[1],
+                                    store ? store_words : 0, bindings ? bindings : &none[2],
+                                    bindings ? bindings_words : 0, mark, start, subject, units,
+                                    counts ? counts : &no_counts, counts ? counts_words : 0,
+                                    signature ? signature : &none[3], signature ? signature_words : 0, numbers);
+}
+
+/*
+ * Runs as mt_run_indexed does, and counts. It looks for a standing node among the nodes one by one, so that making a node takes time that
+ * grows with the nodes in use; the index is cleared and not used. The counts are those of mt_run_counted where that does not answer 7. So
+ * for a full store count without an index.
+ */
+static inline void mt_run_indexed_counted(const uint32_t *table, size_t table_words, uint32_t *lent, size_t lent_words,
+                                          uint32_t words, uint32_t *bindings, size_t bindings_words, uint32_t mark,
+                                          uint32_t start, uint32_t subject, uint32_t units, uint64_t *counts,
+                                          size_t counts_words, uint32_t numbers[7])
+{
+    uint32_t none[3] = {0, 0, 0};
+    uint64_t no_counts = 0;
+    marshtrundle_run_indexed_counted(table ? table : &none[0], table ? table_words : 0, lent ? lent : &none[1],
+                                     lent ? lent_words : 0, words, bindings ? bindings : &none[2],
+                                     bindings ? bindings_words : 0, mark, start, subject, units,
+                                     counts ? counts : &no_counts, counts ? counts_words : 0, numbers);
+}
+
+/* The same with a signature. */
+static inline void mt_run_indexed_counted_signed(const uint32_t *table, size_t table_words, uint32_t *lent,
+                                                 size_t lent_words, uint32_t words, uint32_t *bindings,
+                                                 size_t bindings_words, uint32_t mark, uint32_t start,
+                                                 uint32_t subject, uint32_t units, uint64_t *counts,
+                                                 size_t counts_words, const uint32_t *signature,
+                                                 size_t signature_words, uint32_t numbers[7])
+{
+    uint32_t none[4] = {0, 0, 0, 0};
+    uint64_t no_counts = 0;
+    marshtrundle_run_indexed_counted_signed(table ? table : &none[0], table ? table_words : 0, lent ? lent : &none[1],
+                                            lent ? lent_words : 0, words, bindings ? bindings : &none[2],
+                                            bindings ? bindings_words : 0, mark, start, subject, units,
+                                            counts ? counts : &no_counts, counts ? counts_words : 0,
+                                            signature ? signature : &none[3], signature ? signature_words : 0,
+                                            numbers);
 }
 
 /*

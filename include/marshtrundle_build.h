@@ -237,6 +237,12 @@ static inline mt_item mt_innermost(mt_builder *b, mt_item s)
 /* Where an item stands in the finished table. */
 static inline uint32_t mt_start(const mt_builder *b, mt_item item) { return b->entries - 1 - item; }
 
+/* The four counts of an item among those of its finished table, as enum mt_count names them: how often a rule was tried, and how that went. */
+static inline const uint64_t *mt_counts(const mt_builder *b, mt_item item, const uint64_t *counts)
+{
+    return counts + MT_COUNTS * (size_t)mt_start(b, item);
+}
+
 /* The item of a recursion, or MT_NO_ITEM. */
 static inline mt_item mt_rec_of(const mt_builder *b, uint32_t recursion)
 {
@@ -409,6 +415,7 @@ static inline const char *mt_answer_text(uint32_t answer)
     case MT_RULE_VARIABLE: return "a rule's variable is above 63";
     case MT_RULE_CALL: return "a condition's entry is no REC in use without free variables";
     case MT_NO_ENTRIES: return "the table has no room for a rule's entries";
+    case MT_FULL_COUNT: return "a count is too high to be added to";
     case MT_UNFINISHED: return "the run is set aside";
     case MT_SHORT_BUFFER: return "the buffer is shorter than the rule's line";
     case MT_NO_RUN: return "the work list holds no run";

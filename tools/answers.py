@@ -39,6 +39,7 @@ LIST = {
     21: ("MT_TWIN_NODE", "TwinNode", "REPEATED_NODE", "found"),  # with an index alone
     22: ("MT_RULE_CALL", "NoSuchStrategy", "BAD_REC", "ruleAnswer"),
     23: ("MT_NO_ENTRIES", "TooManyEntries", "FULL_TABLE", "told"),
+    24: ("MT_FULL_COUNT", "FullCount", "FULL_COUNT", "found"),  # with counts alone
     26: ("MT_SHORT_BUFFER", "ShortBuffer", "SHORT_BUFFER", "wrote"),
     # of a run in steps alone
     25: ("MT_UNFINISHED", "Unfinished", "UNFINISHED", "numbers"),
@@ -64,7 +65,8 @@ def specs():
     found = {("number " + name, int(n)) for name, n in pairs(answer, r"(?m)^number \(?(\w+)(?: \w+\))? = (\d+)$")}
     found |= {("returned", int(n)) for n in re.findall(r"\banswer = (\d+);", answer)}
     found |= pairs(answer, r"\b(asGiven) i (\d+) ")
-    for path in ("crates/checks/specs/Checked.antt", "crates/checks/specs/Signature.antt", "crates/calls/specs/Refused.antt", "crates/calls/specs/Indexed.antt"):
+    for path in ("crates/checks/specs/Checked.antt", "crates/checks/specs/Signature.antt", "crates/calls/specs/Refused.antt", "crates/calls/specs/Indexed.antt",
+                 "crates/counting/specs/Counted.antt"):
         found |= pairs((ROOT / path).read_text(), r"\b(checked|found) (\d+) ")
     found |= pairs((ROOT / "crates/checks/specs/Plain.antt").read_text(), r"\b(of-\w+) : .*Faulty(?:By)? (\d+)")
     found |= pairs((ROOT / "crates/whole_job/specs/Whole.antt").read_text(), r"\b(answered) (\d+) ")

@@ -1,6 +1,7 @@
 #!/usr/bin/env python3
 """reach.py NAME..: the definitions of crates/*/specs that the statements NAME.. reach, and how many lines they are.
 
+Where several crates have a name, CRATE/NAME is that of one.
 A definition is a declaration with its clauses, constructors or fields; the declarations of a `mutual` block count as
 one. What it names is looked up in its own file and in the file's `use` lines; a name that may be two things reaches both.
 Printed for each file: the lines of the definitions reached, without comments, blank lines and `use` lines, and the file's
@@ -85,7 +86,8 @@ def reached(names_given):
     """The definitions that the statements reach, or nothing where a name is no statement."""
     todo, seen = set(), set()
     for name in names_given:
-        found = {at for key in files for at in find(*key, name) if at[:2] == key}
+        crate, _, own = name.rpartition("/")
+        found = {at for key in files if crate in ("", key[0]) for at in find(*key, own) if at[:2] == key}
         if not found:
             print("reach.py: no definition of crates/*/specs is named " + name, file=sys.stderr)
             return None

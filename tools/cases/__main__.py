@@ -1,7 +1,7 @@
 """cases DIR TWIN: writes DIR/stdin, the cases that the program vectors executes, and DIR/stdout, what it must write.
 
-The cases of checks.py, free.py, runs.py, signed.py, many.py, indexed.py, collects.py and jobs.py come with the answers of model.py, those of rules.py with
-the answers of the model in it. After those of a call
+The cases of checks.py, free.py, runs.py, signed.py, many.py, indexed.py, steps.py, counted.py, collects.py and jobs.py come with the answers of model.py,
+those of rules.py with the answers of the model in it. After those of a call
 stands a sample of what the program TWIN of rust/twin generates, with its own answers; last the jobs of examples/, with the answers stored there.
 A further call has a module here with a function write, and a line in CALLS.
 """
@@ -14,6 +14,7 @@ sys.dont_write_bytecode = True
 
 import checks
 import collects
+import counted
 import free
 import indexed
 import jobs
@@ -185,6 +186,36 @@ def stepped_sample(twin):
             lend.add("q" if 3 in slices else "p", body, line + b"\n")
 
 
+def counted_sample(twin):
+    """Slice 8 is the counts, of 64 bits, and slice 7 the index, which stands behind the store here. An answer is the label, seven numbers, the
+    bindings, ` :`, the store, ` :`, the index where one is lent, ` :`, the counts.
+    """
+    for case, answer in sample(twin, "counted", 500):
+        (mark, start, subject, units), slices, triples, label = call_of(case)
+        lengths, fills, patches = lent_by(mark, slices, [t for t in triples if t[0] <= 3])
+        own, (size, each) = lengths[1], slices.get(7, (0, 0))
+        above = 2**32 - 1 if fills[0] & 1 else 0
+        index = [each] * size
+        counts = [slices[8][1]] * slices[8][0]
+        for k, w, v in triples:
+            if k == 7:
+                index[w] = v
+            elif k == 8:
+                counts[w] = v
+        patches += [(1, own + i, v) for i, v in enumerate(index) if v != (above if own + i >= 8 * mark else 0)]
+        lengths[1] += size
+        body = counted.bytes_of([*lengths, mark, start, subject, units, *fills], patches, own, counts, slices[8][1], label)
+        head, store, *found, after = answer.split(b" :")
+        words = store_shown(store, own)
+        if size and lengths[1] > 512:
+            words = b" %d" % ((sum_of(store, own) * 31**size + sum_of(found[0], size)) % 2**32)
+        elif size:
+            words = store + b"".join(b" %d=%s" % (own + int(i), v) for i, v in (pair.split(b"=") for pair in found[0].split()))
+        line = head + b" :" + words + b" :" + store_shown(after, len(counts))
+        if len(body) <= 131072 and lengths[1] <= STORE_WORDS:
+            lend.add(counted.tag_of(3 in slices, 7 in slices), body, line + b"\n")
+
+
 def rules_sample(twin):
     """Tag `r` is the translator, with the text in slice 10, and `w` the writer, with the buffer in slice 11; MARK is the number of entries
     in use. An answer is the label, four numbers or three, and the words of the table or the buffer.
@@ -215,7 +246,7 @@ def job_sample(twin):
 
 
 CALLS = ((checks.write, None), (free.write, free_sample), (runs.write, run_sample), (signed.write, signed_sample), (many.write, many_sample),
-         (indexed.write, indexed_sample), (steps.write, stepped_sample), (collects.write, None), (rules.write, rules_sample), (jobs.write, job_sample))
+         (indexed.write, indexed_sample), (steps.write, stepped_sample), (counted.write, counted_sample), (collects.write, None), (rules.write, rules_sample), (jobs.write, job_sample))
 
 
 def write(folder, twin):

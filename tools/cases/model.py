@@ -1,5 +1,6 @@
 """A model of document 01, with what document 02 changes in it, written from their texts and sharing nothing with the crates: the
-two checks, the question of free variables, the run, also with a signature, on many subjects and in steps, the collection, and the job text.
+two checks, the question of free variables, the run, also with a signature, an index or counts, on many subjects and in steps, the collection, and
+the job text.
 What the executed cases must answer comes from it.
 """
 import re
@@ -167,9 +168,18 @@ def repeated(s, mark):
     return 0, 0
 
 
-def refusal(t, s, b, mark, start, subjects, signature=None, results=None, work=None, index=None):
+# The highest count that may be lent.
+MOST_COUNT = 18446744069414584320
+
+
+def full_count(counts):
+    """24 with the lowest entry that has a count above the highest; or 0."""
+    return next(((24, i // 4) for i, w in enumerate(counts) if w > MOST_COUNT), (0, 0))
+
+
+def refusal(t, s, b, mark, start, subjects, signature=None, results=None, work=None, index=None, counts=None):
     """The answer and the place; 0 where nothing is refused. No signature is None, and not an empty one. A list of results is lent
-    where there are many subjects, and a work list, of which the length is given, where a run is stepped.
+    where there are many subjects, a work list, of which the length is given, where a run is stepped, and counts where it is counted.
     """
     if not table_fits(t) or not store_fits(s, mark) or len(b) != VARIABLES:
         return 2, 0
@@ -178,6 +188,8 @@ def refusal(t, s, b, mark, start, subjects, signature=None, results=None, work=N
     if work is not None and not work_fits(work):
         return 2, 0
     if index is not None and len(index) < 2 * (len(s) // 8):
+        return 2, 0
+    if counts is not None and len(counts) != 4 * (len(t) // 8):
         return 2, 0
     bad = bad_entry(t)
     if bad == (0, 0):
@@ -188,6 +200,8 @@ def refusal(t, s, b, mark, start, subjects, signature=None, results=None, work=N
         bad = repeated(s, mark)
     if bad == (0, 0) and (not is_start(t, start) or any(k >= mark for k in subjects) or any(w > mark for w in b)):
         bad = 5, 0
+    if bad == (0, 0) and counts is not None:
+        bad = full_count(counts)
     return bad
 
 
@@ -196,7 +210,7 @@ class Cut(Exception):
 
 
 class Run:
-    def __init__(self, t, s, mark, units, aside=None, shared=False):
+    def __init__(self, t, s, mark, units, aside=None, shared=False, counts=None):
         # Whether a node that stands with the same words is not made again.
         self.shared = shared
         self.entries = [t[i:i + 8] for i in range(0, len(t), 8)]
@@ -206,6 +220,9 @@ class Run:
         self.miss = 4096
         # The visits after which it is set aside, before the next one's limit test.
         self.aside = aside
+        # Four counts for each entry: visits as a strategy, successes, failures, visits in flight; and the other visits.
+        self.counts = [0] * len(t) if counts is None else counts
+        self.patterns = self.pairs = 0
 
     def visit(self, nesting):
         if self.used == self.aside:
@@ -233,7 +250,18 @@ class Run:
         return got
 
     def strategy(self, e, t, b, n):
+        """A visit as a strategy, counted. A cut-off finds it in flight, whatever it is that ends the run."""
         self.visit(n)
+        self.counts[4 * e] += 1
+        ended = 3
+        try:
+            got = self.apply(e, t, b, n)
+            ended = 2 if got is None else 1
+        finally:
+            self.counts[4 * e + ended] += 1
+        return got
+
+    def apply(self, e, t, b, n):
         word = self.entries[e]
         kind, count = divmod(word[0], 16)
         argument = mask(word) if kind == SCOPE else word[1]
@@ -315,6 +343,7 @@ class Run:
 
     def match(self, p, t, b, n):
         self.visit(n)
+        self.patterns += 1
         word = self.entries[p]
         if word[0] // 16 == PVAR:
             v = word[1]
@@ -335,6 +364,7 @@ class Run:
 
     def same(self, x, y, n):
         self.visit(n)
+        self.pairs += 1
         a, b = self.nodes[x], self.nodes[y]
         if (a[0], len(a[1])) != (b[0], len(b[1])):
             return False
@@ -342,6 +372,7 @@ class Run:
 
     def build(self, p, b, n):
         self.visit(n)
+        self.patterns += 1
         word = self.entries[p]
         if word[0] // 16 == PVAR:
             if word[1] not in b:
@@ -357,7 +388,21 @@ def run(t, s, b, mark, start, subject, units, signature=None, aside=None, index=
     bad = refusal(t, s, b, mark, start, [subject], signature, index=index)
     if bad[0]:
         return [*bad, subject, mark, 0], s, b
-    r = Run(t, s, mark, units, aside, index is not None)
+    return accepted(Run(t, s, mark, units, aside, index is not None), s, b, mark, start, subject)
+
+
+def run_counted(t, s, b, mark, start, subject, units, counts, signature=None, index=None):
+    """The five numbers and the visits of patterns and of pairs; store, bindings and counts at return."""
+    bad = refusal(t, s, b, mark, start, [subject], signature, index=index, counts=counts)
+    if bad[0]:
+        return [*bad, subject, mark, 0, 0, 0], s, b, counts
+    r = Run(t, s, mark, units, None, index is not None, list(counts))
+    five, after, bound = accepted(r, s, b, mark, start, subject)
+    return [*five, r.patterns, r.pairs], after, bound, r.counts
+
+
+def accepted(r, s, b, mark, start, subject):
+    """What a run that nothing refuses gives and leaves."""
     clean = s[:8 * mark] + [0] * (len(s) - 8 * mark)
     try:
         got = r.strategy(start, subject, {v: w - 1 for v, w in enumerate(b) if w}, 1)

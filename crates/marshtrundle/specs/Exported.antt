@@ -6,6 +6,8 @@ use Rattle.checks.specs.declared.Checked.{Checked}
 use Rattle.collect.specs.declared.Collected.{Collected}
 use Rattle.free.specs.declared.FreeVariables.{FreeVariables}
 use Rattle.calls.specs.declared.Outcome.{Outcome}
+use Rattle.counting.specs.declared.Counted.{Counted}
+use Rattle.counting.specs.declared.Seen.{Seen}
 use Rattle.rules.specs.declared.check.Translated.{Translated}
 use Rattle.write_rules.specs.declared.rule.Written.{Written}
 
@@ -24,6 +26,10 @@ four w = record { answer = getD w 0 0; place = getD w 1 0; subject = getD w 2 0;
 -- answer, place, subject, mark and units used
 abbrev pub five : List ℕ → Outcome
 five w = record { answer = getD w 0 0; place = getD w 1 0; subject = getD w 2 0; mark = getD w 3 0; units = getD w 4 0 }
+
+-- the same, and the visits of patterns and of pairs
+abbrev pub seven : List ℕ → Counted
+seven w = record { ended = five w; seen = record { patterns = getD w 5 0; pairs = getD w 6 0 } }
 
 -- answer, line, field and the entries in use
 abbrev pub translation : List ℕ → Translated

@@ -2,7 +2,9 @@
 // most 131,072, and a line feed. Where the input is not of this form, or ends inside a case, the last line is `# broken`.
 //
 //     t  check_table     s  check_store     f  free_variables     r  run     g  run_signed     c  collect     j  answer_job
-//     m  run_many        n  run_many_signed    a  translate    w  write_rule
+//     m  run_many        n  run_many_signed    a  translate    w  write_rule    i  run_indexed    k  run_many_indexed
+//     p  start_run and step_run     q  start_run_signed and step_run
+//     v  run_counted     x  run_counted_signed    y  run_indexed_counted    z  run_indexed_counted_signed
 //
 // The bytes of `j` are a job's text. Those of the others say which memory is lent (memory.rt), and end in a label. A further
 // call takes a tag and a function in requests.rt, and tools/cases.py writes its cases.
@@ -13,6 +15,7 @@ use libc::STDOUT_FILENO;
 use numbers::number;
 use requests::answer_case;
 
+mod counted;
 mod memory;
 mod numbers;
 mod requests;

@@ -15,7 +15,9 @@
 // signature has it behind the table: the table has ARGUMENT words, and the rest is the signature. A call over many subjects has
 // their number in the place of SUBJECT. Before its label stand the length of its result list and the subjects; every word of the result
 // list is 4294967295 before the call. A run in steps has before its label the length of the work list, what each of its words is before the
-// call, the number of steps and the visits of each. The translator and the writer of rules have the number of entries in use in the place of SUBJECT.
+// call, the number of steps and the visits of each. A run with counts has before its label the words of the store, behind which the index
+// stands; the length of the counts; what each of them is before the call, its upper half and its lower; and of each that is another its
+// number and its halves, the number of these first. The translator and the writer of rules have the number of entries in use in the place of SUBJECT.
 // Of the translator START is the length of the text, which stands before the label. The writer's buffer has the lowest byte of each store word.
 ghost use Prim.Native.Nat.{_+_, _*_, _≤_};
 ghost use lib.ListN.{length};

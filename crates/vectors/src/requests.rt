@@ -1,4 +1,6 @@
 // The call of each tag.
+use crate::counted::call_counted;
+use crate::counted::is_counted;
 use crate::memory::Given;
 use crate::memory::heads;
 use crate::memory::make;
@@ -256,7 +258,7 @@ fn call_write(given: Given, table: &[u32], store: &mut [u32]) -> bool {
 }
 
 // Prints the label, makes the call of a case and prints what it gives back. Of a call over many subjects the label comes after them, of a
-// run in steps after those, of the translator after its text.
+// run in steps after those, of a run with counts after the counts, of the translator after its text.
 fn answer_made(
     tag: u8,
     text: &[u8],
@@ -280,6 +282,9 @@ fn answer_made(
     }
     if tag == b'q' {
         return call_steps(text, next, given, table, store, bindings, true);
+    }
+    if is_counted(tag) {
+        return call_counted(tag, text, next, given, table, store, bindings);
     }
     if tag == b'a' {
         return call_translate(text, next, given, table);

@@ -3,6 +3,7 @@ ghost use Prim.Native.Nat.{_<_};
 use calls::Outcome;
 use checks::Checked;
 use collect::Collected;
+use counting::Seen;
 use free::FreeVariables;
 use libc::STDOUT_FILENO;
 use rules::check::Translated;
@@ -144,6 +145,62 @@ pub fn show_outcome(r: Outcome) {
 pub fn show_run(r: Outcome, store: &[u32], bindings: &[u32]) {
     show_outcome(r);
     show_memory(store, bindings);
+}
+
+// Prints count i with its place, unless it is zero.
+fn show_count(i: u64, w: u64) {
+    if w != 0 {
+        show_number(i);
+        io::write_all(STDOUT_FILENO, b"=");
+        io::print_decimal(STDOUT_FILENO, w);
+    }
+}
+
+// Prints each count that is not zero.
+fn show_each(counts: &[u64]) {
+    let mut i: usize = 0;
+    while i < counts.len() {
+        show_count(i as u64, counts[i]);
+        i += 1;
+    }
+}
+
+// The sum with one count more.
+fn add_count(h: u64, w: u64) -> u64
+    requires { ⌜ h < 4294967296 ⌝ }
+    ensures { λ r. ⌜ r < 4294967296 ⌝ }
+{
+    (h * 31 + w % 4294967296) % 4294967296
+}
+
+// The sum of all counts modulo 2^32, each times 31 for each count after it.
+fn sum_counts(counts: &[u64]) -> u64 {
+    let mut h: u64 = 0;
+    let mut i: usize = 0;
+    while i < counts.len() {
+        h = add_count(h, counts[i]);
+        i += 1;
+    }
+    h
+}
+
+// Prints in up to 512 counts those that are not zero, in more the sum of all.
+fn show_counts(counts: &[u64]) {
+    if counts.len() <= 512 {
+        show_each(counts);
+    } else {
+        show_number(sum_counts(counts));
+    }
+}
+
+// Prints what a run with counts returns, and the memory that it leaves, the counts last.
+pub fn show_counted(r: Outcome, seen: Seen, store: &[u32], bindings: &[u32], counts: &[u64]) {
+    show_outcome(r);
+    show_number(seen.patterns as u64);
+    show_number(seen.pairs as u64);
+    show_memory(store, bindings);
+    io::write_all(STDOUT_FILENO, b" :");
+    show_counts(counts);
 }
 
 // Prints ` /` and what a step returns.

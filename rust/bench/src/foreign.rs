@@ -196,6 +196,72 @@ extern "C" {
         visits: u32,
         numbers: *mut u32,
     );
+    fn marshtrundle_run_counted(
+        table: *const u32,
+        table_words: usize,
+        store: *mut u32,
+        store_words: usize,
+        bindings: *mut u32,
+        bindings_words: usize,
+        mark: u32,
+        start: u32,
+        subject: u32,
+        units: u32,
+        counts: *mut u64,
+        counts_words: usize,
+        numbers: *mut u32,
+    );
+    fn marshtrundle_run_counted_signed(
+        table: *const u32,
+        table_words: usize,
+        store: *mut u32,
+        store_words: usize,
+        bindings: *mut u32,
+        bindings_words: usize,
+        mark: u32,
+        start: u32,
+        subject: u32,
+        units: u32,
+        counts: *mut u64,
+        counts_words: usize,
+        signature: *const u32,
+        signature_words: usize,
+        numbers: *mut u32,
+    );
+    fn marshtrundle_run_indexed_counted(
+        table: *const u32,
+        table_words: usize,
+        lent: *mut u32,
+        lent_words: usize,
+        words: u32,
+        bindings: *mut u32,
+        bindings_words: usize,
+        mark: u32,
+        start: u32,
+        subject: u32,
+        units: u32,
+        counts: *mut u64,
+        counts_words: usize,
+        numbers: *mut u32,
+    );
+    fn marshtrundle_run_indexed_counted_signed(
+        table: *const u32,
+        table_words: usize,
+        lent: *mut u32,
+        lent_words: usize,
+        words: u32,
+        bindings: *mut u32,
+        bindings_words: usize,
+        mark: u32,
+        start: u32,
+        subject: u32,
+        units: u32,
+        counts: *mut u64,
+        counts_words: usize,
+        signature: *const u32,
+        signature_words: usize,
+        numbers: *mut u32,
+    );
     fn marshtrundle_collect(
         store: *mut u32,
         store_words: usize,
@@ -611,6 +677,120 @@ pub fn run_many_indexed(
                 units,
                 results.as_mut_ptr(),
                 results.len(),
+                numbers.as_mut_ptr(),
+            ),
+        }
+    }
+    numbers
+}
+
+/// The run with counts: the five numbers, the visits of patterns and those of
+/// pairs.
+#[allow(clippy::too_many_arguments)]
+pub fn run_counted(
+    table: &[u32],
+    store: &mut [u32],
+    bindings: &mut [u32],
+    mark: u32,
+    start: u32,
+    subject: u32,
+    units: u32,
+    counts: &mut [u64],
+    signature: Option<&[u32]>,
+) -> [u32; 7] {
+    let mut numbers = [0; 7];
+    // The slices are borrowed for the call, three of them alone; `numbers` is a
+    // local of seven words.
+    unsafe {
+        match signature {
+            Some(signature) => marshtrundle_run_counted_signed(
+                table.as_ptr(),
+                table.len(),
+                store.as_mut_ptr(),
+                store.len(),
+                bindings.as_mut_ptr(),
+                bindings.len(),
+                mark,
+                start,
+                subject,
+                units,
+                counts.as_mut_ptr(),
+                counts.len(),
+                signature.as_ptr(),
+                signature.len(),
+                numbers.as_mut_ptr(),
+            ),
+            None => marshtrundle_run_counted(
+                table.as_ptr(),
+                table.len(),
+                store.as_mut_ptr(),
+                store.len(),
+                bindings.as_mut_ptr(),
+                bindings.len(),
+                mark,
+                start,
+                subject,
+                units,
+                counts.as_mut_ptr(),
+                counts.len(),
+                numbers.as_mut_ptr(),
+            ),
+        }
+    }
+    numbers
+}
+
+/// The same with an index: the first `words` of `lent` are the store's.
+#[allow(clippy::too_many_arguments)]
+pub fn run_indexed_counted(
+    table: &[u32],
+    lent: &mut [u32],
+    words: u32,
+    bindings: &mut [u32],
+    mark: u32,
+    start: u32,
+    subject: u32,
+    units: u32,
+    counts: &mut [u64],
+    signature: Option<&[u32]>,
+) -> [u32; 7] {
+    let mut numbers = [0; 7];
+    // The slices are borrowed for the call, three of them alone; `numbers` is a
+    // local of seven words.
+    unsafe {
+        match signature {
+            Some(signature) => marshtrundle_run_indexed_counted_signed(
+                table.as_ptr(),
+                table.len(),
+                lent.as_mut_ptr(),
+                lent.len(),
+                words,
+                bindings.as_mut_ptr(),
+                bindings.len(),
+                mark,
+                start,
+                subject,
+                units,
+                counts.as_mut_ptr(),
+                counts.len(),
+                signature.as_ptr(),
+                signature.len(),
+                numbers.as_mut_ptr(),
+            ),
+            None => marshtrundle_run_indexed_counted(
+                table.as_ptr(),
+                table.len(),
+                lent.as_mut_ptr(),
+                lent.len(),
+                words,
+                bindings.as_mut_ptr(),
+                bindings.len(),
+                mark,
+                start,
+                subject,
+                units,
+                counts.as_mut_ptr(),
+                counts.len(),
                 numbers.as_mut_ptr(),
             ),
         }

@@ -497,6 +497,7 @@ mod tests {
     use super::{beside, page, Machine};
     use crate::maude::{Maude, Row, Timed};
     use crate::measure::{All, Measured};
+    use crate::whole_module::Whole;
 
     fn measured(name: &str) -> Measured {
         Measured {
@@ -546,6 +547,17 @@ mod tests {
             tasks: vec![measured("one")],
             maude: None,
             costs: Vec::new(),
+            whole: Whole {
+                mark: 1,
+                done: 1,
+                visits: 1,
+                made: 1,
+                together: 1.0,
+                one_by_one: 2.0,
+                checks: 1.0,
+                all_idle: 1.0,
+                one_idle: 1.0,
+            },
             growth: [Vec::new(), Vec::new(), Vec::new()],
             rounds: 1,
         };

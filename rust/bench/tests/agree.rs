@@ -46,7 +46,7 @@ fn left_by(run: Run, case: &RunCase) -> ([u32; 5], Vec<u32>, Vec<u32>) {
 #[test]
 fn on_generated_runs() {
     with_big_stack(|| {
-        let mut answers = [0; 9];
+        let mut answers = [0; 18];
         for index in 0..CASES {
             let case = twin::generate::run_case(7, index);
             let plain = left_by(plain_run, &case);
@@ -56,8 +56,12 @@ fn on_generated_runs() {
                 assert!(plain == other, "{} differ", case.label);
             }
         }
-        // Each answer is among them.
-        assert!(answers.iter().all(|&count| count > 0), "{:?}", answers);
+        // Each answer is among them; 3 is no longer given, 9 is of jobs, 10 and 11 of
+        // signatures.
+        for (answer, &count) in answers.iter().enumerate() {
+            let given = !matches!(answer, 3 | 9 | 10 | 11);
+            assert_eq!(given, count > 0, "{}: {}", answer, count);
+        }
     });
 }
 
@@ -85,7 +89,7 @@ fn once(task: &tasks::Task) -> ([u32; 5], Vec<u32>) {
     let numbers = plain_run(
         &task.table,
         &mut store,
-        &mut [0; 32],
+        &mut [0; 64],
         task.mark,
         tasks::ONCE,
         task.subject,

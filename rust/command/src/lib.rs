@@ -10,8 +10,8 @@ mod options;
 
 use marshtrundle::job::{entry_lines, Job, TextFault};
 use marshtrundle::show::{Names, Show};
-use marshtrundle::{free_variables, with_stack, Answer, Entry, Outcome, RuleError, Table};
-use options::{Options, Subcommand};
+use marshtrundle::{free_variables, with_stack, Answer, Entry, Outcome, Profile, RuleError, Table};
+use options::{Options, Profiled, Subcommand};
 use std::io::Read;
 use std::path::Path;
 
@@ -21,7 +21,7 @@ pub const BAD_USAGE: u8 = 64;
 pub const NO_INPUT: u8 = 66;
 
 /// How the command is used.
-pub const USAGE: &str = "usage: marshtrundle run FILE [--print] [--difference] [--steps N]
+pub const USAGE: &str = "usage: marshtrundle run FILE [--print] [--difference] [--steps N | --profile [--svg]]
        marshtrundle check FILE
        marshtrundle free FILE
        marshtrundle print FILE [--entries] [--graph term|table]
@@ -29,7 +29,8 @@ pub const USAGE: &str = "usage: marshtrundle run FILE [--print] [--difference] [
        marshtrundle rules FILE [--onto JOB | --back]
 
   run      runs the job and writes its answer; --print writes the new term, --difference what changed in it; --steps runs it N visits at a
-           time, and draws on standard error how many of its units are used. The answer is the same
+           time, and draws on standard error how many of its units are used. The answer is the same; --profile writes where the units
+           go, by the names of entries, and with --svg as a picture
   check    says whether a run would refuse the job, and why
   free     says which variables the start leaves free
   print    writes the strategies and the subject; --entries every entry, --graph a graph for Graphviz
@@ -126,6 +127,7 @@ fn begin(words: &[String], draw: &mut dyn FnMut(&str)) -> Result<Said, Stop> {
             print,
             difference,
             steps,
+            profile: None,
         } => {
             let before = job.clone();
             let end = match steps {
@@ -133,6 +135,32 @@ fn begin(words: &[String], draw: &mut dyn FnMut(&str)) -> Result<Said, Stop> {
                 Some(visits) => ran_in_steps(&mut job, visits, draw),
             };
             told(&before, &job, end, &names, show, print, difference)
+        }
+        Subcommand::Run {
+            print,
+            difference,
+            steps: _,
+            profile: Some(how),
+        } => {
+            let before = job.clone();
+            let (end, profile) = ran_counted(&mut job);
+            let mut said = told(&before, &job, end, &names, show, print, difference);
+            if !print && !difference {
+                said.output = String::new();
+            }
+            if !end.answer.is_refusal() {
+                said.output.push_str(&match how {
+                    Profiled::Text => show.profile(&job.table, &profile),
+                    Profiled::Picture => {
+                        let title = match options.file.as_str() {
+                            "-" => "The job",
+                            file => file,
+                        };
+                        show.profile_svg(&[(title, &job.table, &profile)])
+                    }
+                });
+            }
+            said
         }
         Subcommand::Check => check(job, &names),
         Subcommand::Free => free(&job, &names),
@@ -197,6 +225,13 @@ fn in_words(job: &Job, names: &Names, answer: Answer) -> String {
 /// Runs a job on a thread with enough stack.
 fn ran(job: &mut Job) -> Outcome {
     with_stack(|| job.run()).expect("a thread")
+}
+
+/// Runs a job on a thread with enough stack, and counts where its units go.
+fn ran_counted(job: &mut Job) -> (Outcome, Profile) {
+    let mut profile = Profile::of(&job.table);
+    let end = with_stack(|| job.run_counted(&mut profile)).expect("a thread");
+    (end, profile)
 }
 
 /// Runs a job so many visits at a time, and draws a bar after each step that is not the last. Its width is 40.

@@ -15,6 +15,7 @@ pub(crate) enum Subcommand {
         print: bool,
         difference: bool,
         steps: Option<u32>,
+        profile: Option<Profiled>,
     },
     Check,
     Free,
@@ -30,6 +31,13 @@ pub(crate) enum Subcommand {
         onto: Option<String>,
         back: bool,
     },
+}
+
+/// How a profile is written.
+#[derive(Clone, Copy, PartialEq, Eq)]
+pub(crate) enum Profiled {
+    Text,
+    Picture,
 }
 
 #[derive(Clone, Copy)]
@@ -48,6 +56,7 @@ impl Options {
                 print: false,
                 difference: false,
                 steps: None,
+                profile: None,
             },
             "check" => Subcommand::Check,
             "free" => Subcommand::Free,
@@ -74,6 +83,7 @@ impl Options {
             length: None,
         };
         let mut files = vec![];
+        let mut svg = false;
         while let Some(word) = words.next() {
             let mut value = || words.next().ok_or(format!("{word} needs a value"));
             match (word, &mut options.subcommand) {
@@ -87,6 +97,8 @@ impl Options {
                         );
                     }
                 }
+                ("--profile", Subcommand::Run { profile, .. }) => *profile = Some(Profiled::Text),
+                ("--svg", Subcommand::Run { .. }) => svg = true,
                 ("--entries", Subcommand::Print { entries, .. }) => *entries = true,
                 ("--html", Subcommand::Explain { html, .. }) => *html = true,
                 ("--all", Subcommand::Explain { all, .. }) => *all = true,
@@ -121,6 +133,26 @@ impl Options {
             [file] => options.file = file.to_owned(),
             [] => return Err("no FILE".to_owned()),
             [_, other, ..] => return Err(format!("'{other}' is one word too many")),
+        }
+        if let Subcommand::Run {
+            print,
+            difference,
+            steps,
+            profile,
+        } = &mut options.subcommand
+        {
+            if profile.is_some() && steps.is_some() {
+                return Err("--profile and --steps do not go together".to_owned());
+            }
+            if svg && profile.is_none() {
+                return Err("--svg goes with --profile".to_owned());
+            }
+            if svg && (*print || *difference) {
+                return Err("--svg writes a picture, and no other text goes with it".to_owned());
+            }
+            if svg {
+                *profile = Some(Profiled::Picture);
+            }
         }
         if let Subcommand::Rules {
             onto: Some(onto),

@@ -680,3 +680,93 @@ fn a_job_is_run_in_steps() {
         assert_eq!(told(words, &loop_).status, 64);
     }
 }
+
+/// With counts: the status and the words of the answer are the same, and the profile stands in place of the answer.
+#[test]
+fn a_job_is_profiled() {
+    let mut cut_off = 0;
+    for file in std::fs::read_dir(root().join("examples")).unwrap() {
+        let path = file.unwrap().path();
+        if path.extension().map_or(true, |end| end != "job") {
+            continue;
+        }
+        let name = path.to_str().unwrap();
+        let plain = told(&["run", name], "");
+        let ran = told(&["run", name, "--profile"], "");
+        assert_eq!(
+            (ran.status, &ran.error),
+            (plain.status, &plain.error),
+            "{name}"
+        );
+        // The units are those of the answer, and the visits of the rows add up to them.
+        let units = plain.output.lines().next().unwrap().rsplit('\t').next();
+        let head = ran.output.lines().next().unwrap();
+        assert_eq!(head.split(' ').nth(2), units, "{name}");
+        let mut visits = 0;
+        for row in ran.output.lines().skip(2) {
+            let number = row
+                .split(" %")
+                .next()
+                .unwrap()
+                .split_whitespace()
+                .rev()
+                .nth(1);
+            visits += number.unwrap().parse::<u64>().unwrap();
+            cut_off += usize::from(row.split(" %").nth(1).unwrap().ends_with(" 1"));
+        }
+        assert_eq!(Some(visits.to_string().as_str()), units, "{name}");
+    }
+    assert!(cut_off > 0, "a visit in flight");
+    let ran = told(&["run", "examples/swap.job", "--profile"], "");
+    let wanted = "\
+1 run, 10 units
+name            visits    share       tried   succeeded      failed  in flight
+swap                 4   40.0 %           1           1           0          0
+(patterns)           6   60.0 %
+(pairs)              0    0.0 %
+";
+    assert_eq!(ran.output, wanted);
+    let cut = told(
+        &["run", "examples/swap.job", "--profile", "--units", "3"],
+        "",
+    );
+    assert_eq!(cut.status, 6);
+    assert!(cut.output.starts_with("1 run, 3 units\n"));
+    assert!(cut.output.contains(
+        "swap                 3  100.0 %           1           0           0          1\n"
+    ));
+    let printed = told(&["run", "examples/swap.job", "--profile", "--print"], "");
+    let term = told(&["run", "examples/swap.job", "--print"], "").output;
+    assert_eq!(printed.output, term + wanted);
+}
+
+#[test]
+fn a_profile_is_drawn() {
+    let ran = told(&["run", "examples/swap.job", "--profile", "--svg"], "");
+    assert_eq!((ran.status, ran.error.as_str()), (0, ""));
+    assert!(ran.output.starts_with("<svg ") && ran.output.ends_with("</svg>\n"));
+    assert!(ran
+        .output
+        .contains(">examples/swap.job: 1 run, 10 units</text>"));
+    assert!(ran.output.contains(">6 (60.0 %)</text>"));
+    let read = told(
+        &["run", "-", "--profile", "--svg"],
+        &job(&["job 9 0 0 1", "e 0 0", "n 1"]),
+    );
+    assert!(read.output.contains(">The job: 1 run, 1 unit</text>"));
+    // Nothing is counted of a job that is refused.
+    let refused = job(&["job 9 0 5 1", "e 0 0", "n 1"]);
+    let ran = told(&["run", "-", "--profile"], &refused);
+    assert_eq!((ran.status, ran.output.as_str()), (5, ""));
+    assert!(ran.error.contains("answer 5"));
+    for words in [
+        &["run", "-", "--svg"][..],
+        &["run", "-", "--profile", "--steps", "3"],
+        &["run", "-", "--profile", "--svg", "--print"],
+        &["run", "-", "--svg", "--profile", "--difference"],
+        &["check", "-", "--profile"],
+        &["explain", "-", "--svg"],
+    ] {
+        assert_eq!(told(words, "").status, 64, "{words:?}");
+    }
+}

@@ -18,8 +18,8 @@ const RECORD: u16 = 15;
 const SELECT: u16 = 16;
 const PAPP: u16 = 17;
 const APP: u16 = 18;
-const LET: u16 = 19;
-const LETREC: u16 = 20;
+pub const LET: u16 = 19;
+pub const LETREC: u16 = 20;
 const ASSIGN: u16 = 30;
 
 /// The names of the constructors: the language's, then those of one program.
@@ -220,15 +220,53 @@ fn many_down_up(s: Strategy) -> Strategy {
     })
 }
 
+/// The rules, each made once: a table that has a rule in several places then has its entries once.
+pub struct Rules {
+    /// Hoist1 and Hoist2.
+    pub hoist: [Strategy; 2],
+    /// Dead1 and Dead2.
+    pub dead: [Strategy; 2],
+    /// Inl1 and Inl2.
+    pub inline: [Strategy; 2],
+    /// Select.
+    pub select: Strategy,
+    /// Prop.
+    pub prop: Strategy,
+}
+
+/// All rules.
+pub fn rules() -> Rules {
+    Rules {
+        hoist: [hoist1(), hoist2()],
+        dead: [dead1(), dead2()],
+        inline: [inline1(), inline2()],
+        select: select(),
+        prop: prop(),
+    }
+}
+
 /// The paper's optimize1, without EtaExp.
 pub fn optimise() -> Strategy {
-    let dead = left(dead1(), dead2());
-    let shrink = left_of([inline1(), seq(inline2(), dead2()), select(), prop()]);
+    optimise_by(&rules(), |s| s)
+}
+
+/// The same by these rules. What is tried on a subterm, the rules for hoisting and the rules of a step, goes through `tried` first.
+pub fn optimise_by(rules: &Rules, tried: impl Fn(Strategy) -> Strategy) -> Strategy {
+    let [inline1, inline2] = rules.inline.clone();
+    let dead = left_of(rules.dead.clone());
+    let inline_once = seq(inline2, rules.dead[1].clone());
+    let shrink = left_of([
+        inline1,
+        inline_once,
+        rules.select.clone(),
+        rules.prop.clone(),
+    ]);
     let step = left(
         seq(shrink, repeat(dead.clone())),
         seq(dead.clone(), repeat(dead)),
     );
-    repeat(seq(innermost(left(hoist1(), hoist2())), many_down_up(step)))
+    let hoist = left_of(rules.hoist.clone());
+    repeat(seq(innermost(tried(hoist)), many_down_up(tried(step))))
 }
 
 /// What a strategy makes of a term of the language, both as text; nothing where it fails.

@@ -28,10 +28,7 @@ fn made(mut work: impl FnMut(&mut Store, &[Node]) -> Result<(), Answer>) -> (u32
         let mark = store.mark();
         let start = Instant::now();
         work(&mut store, &declared).expect("it is not refused");
-        best = (
-            store.mark() as u32 - mark as u32,
-            best.1.min(start.elapsed()),
-        );
+        best = (store.mark() - mark, best.1.min(start.elapsed()));
     }
     best
 }

@@ -40,6 +40,7 @@ impl Answer {
                  scope hides them; and a branch that failed leaves none."
             }
             13..=17 => "Correct that entry of the table, or let the crate's builders lay it out.",
+            24 => "Begin the counts anew: a profile of zeros, or zeros in the lent words.",
             25 => "Step on: the run goes on where it was set aside.",
             27 => "Start a run on that work list before it is stepped. At the end of a run the work list is zero again.",
             _ => "docs/REFERENCE.md says what this answer means.",

@@ -32,6 +32,9 @@ pub enum Answer {
     /// 21: this node is the lowest below the mark that has the eight words of an earlier one. Nothing was written.
     /// [`run_indexed`](crate::run_indexed) and its kin alone give it.
     TwinNode(u32),
+    /// 24: a count of this entry, the lowest such, is too high to be added to. Nothing was written. [`run_counted`](crate::run_counted) and
+    /// [`run_indexed_counted`](crate::run_indexed_counted) alone give it.
+    FullCount(u32),
     /// 5: the start is outside the table or a pattern, the subject is not below the mark, or a binding names no node below
     /// the mark. Nothing was written.
     BadStart,
@@ -75,6 +78,7 @@ impl Answer {
             16 => Answer::BadEntry(place, Fault::Sort),
             17 => Answer::BadEntry(place, Fault::Word),
             21 => Answer::TwinNode(place),
+            24 => Answer::FullCount(place),
             25 => Answer::Unfinished,
             27 => Answer::NoRun,
             other => panic!("the archive answers {other}, which this crate does not know"),
@@ -100,6 +104,7 @@ impl Answer {
             Answer::DisobeyingEntry(_) => 10,
             Answer::DisobeyingNode(_) => 11,
             Answer::TwinNode(_) => 21,
+            Answer::FullCount(_) => 24,
             Answer::BadStart => 5,
             Answer::OutOfUnits => 6,
             Answer::OutOfRoom => 7,
@@ -118,7 +123,8 @@ impl Answer {
             | Answer::BadNode(place)
             | Answer::DisobeyingEntry(place)
             | Answer::DisobeyingNode(place)
-            | Answer::TwinNode(place) => place,
+            | Answer::TwinNode(place)
+            | Answer::FullCount(place) => place,
             Answer::Unbound(var) => var.number(),
             Answer::Failed(miss) => miss.map_or(ENTRIES as u32, Entry::number),
             Answer::Done
@@ -132,7 +138,7 @@ impl Answer {
         }
     }
 
-    /// True for answers 2, 4, 5, 10, 11, 13 to 17, 21 and 27: the input is malformed, or there is no run to step, and nothing was run.
+    /// True for answers 2, 4, 5, 10, 11, 13 to 17, 21, 24 and 27: the input is malformed, or there is no run to step, and nothing was run.
     pub fn is_refusal(self) -> bool {
         matches!(
             self,
@@ -142,6 +148,7 @@ impl Answer {
                 | Answer::DisobeyingEntry(_)
                 | Answer::DisobeyingNode(_)
                 | Answer::TwinNode(_)
+                | Answer::FullCount(_)
                 | Answer::BadStart
                 | Answer::NoRun
         )
@@ -172,6 +179,7 @@ impl fmt::Display for Answer {
             Answer::DisobeyingEntry(e) => write!(f, "entry {e} does not obey the signature"),
             Answer::DisobeyingNode(k) => write!(f, "node {k} does not obey the signature"),
             Answer::TwinNode(k) => write!(f, "node {k} has the words of an earlier node"),
+            Answer::FullCount(e) => write!(f, "a count of entry {e} is too high to be added to"),
             Answer::BadStart => f.write_str("the start, the subject or a binding is bad"),
             Answer::OutOfUnits => f.write_str("all units are used"),
             Answer::OutOfRoom => f.write_str("the store has no room"),
@@ -289,14 +297,14 @@ mod tests {
 
     #[test]
     fn every_answer_has_its_own_number() {
-        for number in (0..=2).chain(4..=8).chain(10..=17).chain([25, 27]) {
+        for number in (0..=2).chain(4..=8).chain(10..=17).chain([21, 24, 25, 27]) {
             assert_eq!(Answer::told(number, 0).number(), number);
         }
     }
 
     #[test]
     fn no_other_number_is_an_answer() {
-        for number in [3, 9, 18, 24, 26, 28, u32::MAX] {
+        for number in [3, 9, 18, 23, 26, 28, u32::MAX] {
             assert!(std::panic::catch_unwind(|| Answer::told(number, 0)).is_err());
         }
     }

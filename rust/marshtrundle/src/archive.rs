@@ -1,4 +1,4 @@
-//! The thirteen functions of the archive, as safe functions over slices of words. This is the only module with `unsafe` in it.
+//! The functions of the archive, as safe functions over slices of words. This is the only module with `unsafe` in it.
 //!
 //! The archive asks one thing of its caller: each pointer is aligned and valid for its words, and what is lent for writing
 //! overlaps nothing else. Rust's references give this, empty slices too. So every word and every number is allowed here.
@@ -172,6 +172,72 @@ extern "C" {
         units: u32,
         results: *mut u32,
         results_words: usize,
+        signature: *const u32,
+        signature_words: usize,
+        numbers: *mut u32,
+    );
+    fn marshtrundle_run_counted(
+        table: *const u32,
+        table_words: usize,
+        store: *mut u32,
+        store_words: usize,
+        bindings: *mut u32,
+        bindings_words: usize,
+        mark: u32,
+        start: u32,
+        subject: u32,
+        units: u32,
+        counts: *mut u64,
+        counts_words: usize,
+        numbers: *mut u32,
+    );
+    fn marshtrundle_run_counted_signed(
+        table: *const u32,
+        table_words: usize,
+        store: *mut u32,
+        store_words: usize,
+        bindings: *mut u32,
+        bindings_words: usize,
+        mark: u32,
+        start: u32,
+        subject: u32,
+        units: u32,
+        counts: *mut u64,
+        counts_words: usize,
+        signature: *const u32,
+        signature_words: usize,
+        numbers: *mut u32,
+    );
+    fn marshtrundle_run_indexed_counted(
+        table: *const u32,
+        table_words: usize,
+        lent: *mut u32,
+        lent_words: usize,
+        words: u32,
+        bindings: *mut u32,
+        bindings_words: usize,
+        mark: u32,
+        start: u32,
+        subject: u32,
+        units: u32,
+        counts: *mut u64,
+        counts_words: usize,
+        numbers: *mut u32,
+    );
+    fn marshtrundle_run_indexed_counted_signed(
+        table: *const u32,
+        table_words: usize,
+        lent: *mut u32,
+        lent_words: usize,
+        words: u32,
+        bindings: *mut u32,
+        bindings_words: usize,
+        mark: u32,
+        start: u32,
+        subject: u32,
+        units: u32,
+        counts: *mut u64,
+        counts_words: usize,
         signature: *const u32,
         signature_words: usize,
         numbers: *mut u32,
@@ -563,6 +629,119 @@ pub fn run_many_indexed(
                 units,
                 results.as_mut_ptr(),
                 results.len(),
+                numbers.as_mut_ptr(),
+            ),
+        }
+    }
+    numbers
+}
+
+/// The run with counts: answer, place, subject, mark and units used, then the visits of patterns and of pairs. The counts are four words for
+/// each entry of the table: visits as a strategy, successes, failures, and visits in flight at a cut-off. The run adds to them.
+#[allow(clippy::too_many_arguments)]
+pub fn run_counted(
+    table: &[u32],
+    store: &mut [u32],
+    bindings: &mut [u32],
+    mark: u32,
+    start: u32,
+    subject: u32,
+    units: u32,
+    counts: &mut [u64],
+    signature: Option<&[u32]>,
+) -> [u32; 7] {
+    let mut numbers = [0; 7];
+    // SAFETY: as in `run`. Store, bindings and counts are mutable references, and `numbers` has the seven words that are written.
+    unsafe {
+        match signature {
+            Some(signature) => marshtrundle_run_counted_signed(
+                table.as_ptr(),
+                table.len(),
+                store.as_mut_ptr(),
+                store.len(),
+                bindings.as_mut_ptr(),
+                bindings.len(),
+                mark,
+                start,
+                subject,
+                units,
+                counts.as_mut_ptr(),
+                counts.len(),
+                signature.as_ptr(),
+                signature.len(),
+                numbers.as_mut_ptr(),
+            ),
+            None => marshtrundle_run_counted(
+                table.as_ptr(),
+                table.len(),
+                store.as_mut_ptr(),
+                store.len(),
+                bindings.as_mut_ptr(),
+                bindings.len(),
+                mark,
+                start,
+                subject,
+                units,
+                counts.as_mut_ptr(),
+                counts.len(),
+                numbers.as_mut_ptr(),
+            ),
+        }
+    }
+    numbers
+}
+
+/// The run with counts and an index. The first `words` of `lent` are the store's, and the rest is the index, at least two words for each
+/// node. Making a node takes time that grows with the nodes in use.
+#[allow(clippy::too_many_arguments)]
+pub fn run_indexed_counted(
+    table: &[u32],
+    lent: &mut [u32],
+    words: u32,
+    bindings: &mut [u32],
+    mark: u32,
+    start: u32,
+    subject: u32,
+    units: u32,
+    counts: &mut [u64],
+    signature: Option<&[u32]>,
+) -> [u32; 7] {
+    let mut numbers = [0; 7];
+    // SAFETY: as in `run`. Lent words, bindings and counts are mutable references, and `numbers` has the seven words that are written.
+    unsafe {
+        match signature {
+            Some(signature) => marshtrundle_run_indexed_counted_signed(
+                table.as_ptr(),
+                table.len(),
+                lent.as_mut_ptr(),
+                lent.len(),
+                words,
+                bindings.as_mut_ptr(),
+                bindings.len(),
+                mark,
+                start,
+                subject,
+                units,
+                counts.as_mut_ptr(),
+                counts.len(),
+                signature.as_ptr(),
+                signature.len(),
+                numbers.as_mut_ptr(),
+            ),
+            None => marshtrundle_run_indexed_counted(
+                table.as_ptr(),
+                table.len(),
+                lent.as_mut_ptr(),
+                lent.len(),
+                words,
+                bindings.as_mut_ptr(),
+                bindings.len(),
+                mark,
+                start,
+                subject,
+                units,
+                counts.as_mut_ptr(),
+                counts.len(),
                 numbers.as_mut_ptr(),
             ),
         }

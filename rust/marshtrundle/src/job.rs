@@ -17,6 +17,7 @@
 use crate::answer::Outcome;
 use crate::bindings::{Bindings, Var, VARIABLES};
 use crate::kind;
+use crate::profile::Profile;
 use crate::steps::{Stepper, WorkList};
 use crate::store::{Node, Store};
 use crate::table::{Entry, Table};
@@ -123,6 +124,21 @@ impl Job {
                 units: 0,
             },
         }
+    }
+
+    /// Runs the job and counts its visits in a profile of its table. The outcome, the store and the bindings are those of [`run`](Job::run).
+    /// The calling thread needs [`STACK`](crate::STACK) bytes of stack.
+    pub fn run_counted(&mut self, profile: &mut Profile) -> Outcome {
+        crate::run_counted(
+            &self.table,
+            &mut self.store,
+            &mut self.bindings,
+            None,
+            profile,
+            self.start,
+            self.subject,
+            self.units,
+        )
     }
 
     /// The text of the answer, once the job has run: the five numbers, and where something was run the nodes and the bindings.

@@ -94,6 +94,16 @@ impl<'n> Show<'n> {
         }
     }
 
+    /// The names to show by.
+    pub(crate) fn names(&self) -> &'n Names {
+        self.names
+    }
+
+    /// The most rows of a profile that a picture has.
+    pub(crate) fn rows_drawn(&self) -> usize {
+        self.length
+    }
+
     /// A term. A shared subterm with children is shown once.
     pub fn term(&self, term: Term<'_>) -> String {
         let shared = if self.is_sharing {

@@ -92,6 +92,42 @@ fn store(r: &mut Random, nodes: u32, room: u32, damage: bool) -> Vec<u32> {
     words
 }
 
+/// Makes the run with counts beside the run that gave these numbers and left these words, and holds the counts to their laws.
+fn counted(
+    table: &[u32],
+    given: &[u32],
+    bound: &[u32],
+    [mark, start, subject, units]: [u32; 4],
+    end: [u32; 5],
+    left: (&[u32], &[u32]),
+) {
+    let (mut store, mut bindings) = (given.to_vec(), bound.to_vec());
+    let mut counts = vec![7; 4 * (table.len() / 8)];
+    let seven = words::run_counted(
+        table,
+        &mut store,
+        &mut bindings,
+        mark,
+        start,
+        subject,
+        units,
+        &mut counts,
+        None,
+    );
+    assert_eq!(seven[..5], end);
+    assert_eq!((&store[..], &bindings[..]), left);
+    let cut_off = matches!(end[0], 6 | 7 | 8 | 12);
+    let mut visits = u64::from(seven[5]) + u64::from(seven[6]);
+    for (four, entry) in counts.chunks(4).zip(table.chunks(8)) {
+        let [began, won, lost, flying] = [four[0] - 7, four[1] - 7, four[2] - 7, four[3] - 7];
+        visits += began;
+        assert_eq!(began, won + lost + flying);
+        assert!(cut_off || flying == 0);
+        assert!(entry[0] / 16 < 18 || began == 0);
+    }
+    assert_eq!(visits, u64::from(end[4]));
+}
+
 /// Makes the run twice and holds the answer to its laws. Gives the answer back.
 fn tried(table: &[u32], given: &[u32], bound: &[u32], numbers: [u32; 4]) -> usize {
     let [mark, start, subject, units] = numbers;
@@ -118,6 +154,7 @@ fn tried(table: &[u32], given: &[u32], bound: &[u32], numbers: [u32; 4]) -> usiz
     );
     assert_eq!((end, &store, &bindings), (same, &again, &bound_again));
     assert!(matches!(answer, 0..=2 | 4..=8 | 12..=17) && used <= units);
+    counted(table, given, bound, numbers, end, (&store, &bindings));
     // The place of 12 is a variable that the table names.
     let named = |v| {
         table

@@ -1,10 +1,13 @@
 //! 4,096 levels of each recursive form, on a thread of exactly the stated stack.
 use marshtrundle::{
-    free_variables, run_indexed, run_many, with_stack, words, Answer, Entry, Stepper, WorkList,
-    STACK,
+    free_variables, run_counted, run_indexed, run_indexed_counted, run_many, with_stack, words,
+    Answer, Entry, Profile, Stepper, WorkList, STACK,
 };
 
 mod common;
+
+/// 1.3 MiB, which is enough for a run with counts: 80 words for each of 4,096 levels, a word a level, and some 8 KiB.
+const COUNTED: usize = (13 << 20) / 10;
 
 #[test]
 fn the_stated_stack_is_two_mebibytes() {
@@ -75,6 +78,55 @@ fn with_an_index_every_form_takes_no_more_stack() {
     }
 }
 
+/// A run with counts of every form, what fits and one level more, on a thread of so many bytes. With an index it is what fits, without the
+/// three forms whose store has two equal nodes.
+fn every_form_counted(stack: usize, indexed: bool) {
+    let more = (0..).map_while(|k| common::too_deep(k).filter(|_| !indexed));
+    for mut deep in (0..).map_while(common::fitting).chain(more) {
+        let twins = deep.name.starts_with("a comparison") || deep.name.ends_with("first of two");
+        if indexed && twins {
+            continue;
+        }
+        let thread = std::thread::Builder::new().stack_size(stack);
+        let ended = thread.spawn(move || {
+            let mut profile = Profile::of(&deep.table);
+            let run = if indexed {
+                run_indexed_counted
+            } else {
+                run_counted
+            };
+            let end = run(
+                &deep.table,
+                &mut deep.store,
+                &mut deep.bindings,
+                None,
+                &mut profile,
+                Entry::FIRST,
+                deep.subject,
+                4_000_000,
+            );
+            assert_eq!(end.answer, deep.answer, "{}", deep.name);
+            assert_eq!(u64::from(end.units), profile.units(), "{}", deep.name);
+            if let Some(units) = deep.units {
+                assert_eq!(end.units, units, "{}", deep.name);
+            }
+        });
+        ended.unwrap().join().unwrap();
+    }
+}
+
+#[test]
+fn with_counts_every_form_takes_no_more_stack() {
+    every_form_counted(STACK, false);
+    every_form_counted(STACK, true);
+}
+
+#[test]
+fn with_counts_every_form_takes_the_same_1_3_mebibytes() {
+    every_form_counted(COUNTED, false);
+    every_form_counted(COUNTED, true);
+}
+
 #[test]
 fn the_other_functions_take_64_kibibytes_at_most() {
     for deep in (0..).map_while(common::too_deep) {
@@ -90,7 +142,7 @@ fn the_other_functions_take_64_kibibytes_at_most() {
 #[test]
 fn in_steps_every_form_takes_64_kibibytes_at_most() {
     for deep in (0..)
-        .map_while(|k| common::fitting(k))
+        .map_while(common::fitting)
         .chain((0..).map_while(common::too_deep))
     {
         let thread = std::thread::Builder::new().stack_size(64 << 10);

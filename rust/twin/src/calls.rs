@@ -8,7 +8,8 @@
 //! word.
 //!
 //! The slices: 0 table, 1 store, 2 bindings, 3 signature, 4 subjects, 5 results,
-//! 6 work list, 7 index, 9 steps, 10 text and 11 buffer (a byte in each word).
+//! 6 work list, 7 index, 8 counts (of 64 bits), 9 steps, 10 text and 11 buffer (a
+//! byte in each word).
 //!
 //! The tags and their answers, where WORDS are ` INDEX=VALUE` for each word that
 //! is not zero, or one sum where there are more than 512 words:
@@ -26,13 +27,18 @@
 //! and five numbers for each step, ` :`, the bindings' WORDS, ` :`, the store's
 //! WORDS, ` :`, the work list's WORDS.
 //!
-//! Where an index is lent to one of these two, ` :` and its WORDS follow.
+//! Where an index is lent to `l` or `m`, ` :` and its WORDS follow.
+//!
+//! `k`, a counted run: `LABEL ANSWER PLACE SUBJECT MARK UNITS PATTERNS PAIRS`, the
+//! bindings' WORDS, ` :`, the store's WORDS, where an index is lent ` :` and its
+//! WORDS, ` :`, the counts' WORDS.
 //!
 //! `r`, the translator: `LABEL ANSWER LINE FIELD ENTRIES`, the table's WORDS. MARK
 //! is the number of entries in use; START, SUBJECT and UNITS are 0. `w`, the
 //! writer: `LABEL ANSWER PLACE LENGTH`, the buffer's WORDS. START is the entry.
 
 use crate::checks::{UNFINISHED, WIDTH};
+use crate::counts::run_counted;
 use crate::engine::{run_lent, Lent};
 use crate::many::run_many;
 use crate::rules::{translate, write_rule};
@@ -62,6 +68,8 @@ pub const WORK: u32 = 6;
 pub const STEPS: u32 = 9;
 /// The number of the index.
 pub const INDEX: u32 = 7;
+/// The number of the counts.
+pub const COUNTED: u32 = 8;
 /// The number of the text.
 pub const TEXT: u32 = 10;
 /// The number of the buffer.
@@ -76,6 +84,8 @@ pub enum Call {
     Many,
     /// A stepped run.
     Step,
+    /// A counted run.
+    Count,
     /// The translator of rules.
     Translate,
     /// The writer of a rule.
@@ -83,10 +93,11 @@ pub enum Call {
 }
 
 /// The calls and their tags.
-const TAGS: [(Call, &str); 5] = [
+const TAGS: [(Call, &str); 6] = [
     (Call::Run, "l"),
     (Call::Many, "m"),
     (Call::Step, "p"),
+    (Call::Count, "k"),
     (Call::Translate, "r"),
     (Call::Write, "w"),
 ];
@@ -251,6 +262,7 @@ impl CallCase {
             Call::Run => self.answer_run(),
             Call::Many => self.answer_many(),
             Call::Step => self.answer_steps(),
+            Call::Count => self.answer_count(),
             Call::Translate => self.answer_translate(),
             Call::Write => self.answer_write(),
         }
@@ -313,6 +325,41 @@ impl CallCase {
             line.push_str(" :");
             show_slice(&mut line, words);
         }
+        line
+    }
+
+    /// Answers a counted run.
+    fn answer_count(self) -> String {
+        let signature = self.words(SIGNATURE);
+        let mut index = self.words(INDEX);
+        let mut counts = self.lent.get(&COUNTED).cloned().unwrap_or_default();
+        let mut run = self.run;
+        let lent = Lent {
+            signature: signature.as_deref(),
+            index: index.as_deref_mut(),
+        };
+        let end = run_counted(
+            &run.table,
+            &mut run.store,
+            &mut run.bindings,
+            run.mark,
+            run.start,
+            run.subject,
+            run.units,
+            lent,
+            &mut counts,
+        );
+        let mut line = format!(
+            "{} {} {} {}",
+            run.label, end.outcome, end.patterns, end.pairs
+        );
+        show_slice(&mut line, &run.bindings);
+        for words in [Some(run.store), index].iter().flatten() {
+            line.push_str(" :");
+            show_slice(&mut line, words);
+        }
+        line.push_str(" :");
+        show_slice(&mut line, &counts);
         line
     }
 

@@ -69,6 +69,8 @@ pub const BAD_SORT: u32 = 16;
 pub const BAD_WORD: u32 = 17;
 /// 02, wish 12: "a given node with an earlier one's words gives 21".
 pub const REPEATED_NODE: u32 = 21;
+/// 02, wish 13: "a count word above 18,446,744,069,414,584,320 gives 24".
+pub const FULL_COUNT: u32 = 24;
 /// 02, wish 8: "an unfinished run answers 25".
 pub const UNFINISHED: u32 = 25;
 /// 02, wish 8: "a step on a zero one gives 27".

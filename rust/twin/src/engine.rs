@@ -21,9 +21,9 @@ pub const NO_MISS: u32 = 4_096;
 /// 01: "A run returns five numbers: answer, place, subject, mark, units used."
 #[derive(Clone, Copy, Debug, PartialEq, Eq)]
 pub struct Outcome {
-    /// 0 to 8 without 3 by 01's table, and 10 to 17 and 21 by 02.
+    /// 0 to 8 without 3 by 01's table, and 10 to 17, 21 and 24 by 02.
     pub answer: u32,
-    /// The lowest bad entry for answers 10 and 13 to 17, the lowest bad node for
+    /// The lowest bad entry for answers 10, 13 to 17 and 24, the lowest bad node for
     /// 4, 11 and 21, the variable for 12, the entry of the last match that failed for
     /// 1, else 0.
     pub place: u32,
@@ -590,6 +590,7 @@ pub fn run_lent<W: Watcher>(
         subjects: &[subject],
         signature: lent.signature,
         index: lent.index.as_ref().map(|index| index.len()),
+        counts: None,
         results: None,
         work: None,
     });
@@ -602,12 +603,32 @@ pub fn run_lent<W: Watcher>(
             units: 0,
         };
     }
-    let shared = lent.index.is_some();
+    let index = lent.index;
+    run_indexed(
+        table, store, bindings, mark, start, subject, units, index, watcher,
+    )
+}
+
+/// Runs an input that nothing refuses, in the indexed store where an index is
+/// lent.
+#[allow(clippy::too_many_arguments)]
+pub(crate) fn run_indexed<W: Watcher>(
+    table: &[u32],
+    store: &mut [u32],
+    bindings: &mut [u32],
+    mark: u32,
+    start: u32,
+    subject: u32,
+    units: u32,
+    index: Option<&mut [u32]>,
+    watcher: &mut W,
+) -> Outcome {
+    let shared = index.is_some();
     let outcome = run_accepted(
         table, store, bindings, mark, start, subject, units, shared, watcher,
     );
     // 02, wish 12: "The index is all zero on return from a run."
-    if let Some(index) = lent.index {
+    if let Some(index) = index {
         index.fill(0);
     }
     outcome

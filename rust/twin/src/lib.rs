@@ -7,8 +7,9 @@
 //! The files in reading order: `checks` (the table check, the store check, the
 //! signature), `refusals` (their order), `free` (free variables), `engine` (the
 //! run), `many` (many subjects), `collect` (the collection), `steps` (the
-//! stepped run), `rules` (rules as text), `job` (the job program), then `text` and `calls` (cases as
-//! lines), `random`, `generate` and `statistics`.
+//! stepped run), `counts` (the counted run), `rules` (rules as text), `job` (the
+//! job program), then `text` and `calls` (cases as lines), `random`, `generate`
+//! and `statistics`.
 //!
 //! A run may go 4,096 visits deep, and each visit is a call. So runs belong on
 //! a thread with a big stack: see [`with_big_stack`].
@@ -19,6 +20,7 @@
 pub mod calls;
 pub mod checks;
 pub mod collect;
+pub mod counts;
 pub mod engine;
 pub mod free;
 pub mod generate;
@@ -33,6 +35,7 @@ pub mod text;
 
 pub use checks::{check_store, check_table};
 pub use collect::{collect, Collected};
+pub use counts::{run_counted, Counted};
 pub use engine::{run, run_lent, Lent, Outcome};
 pub use free::free_variables;
 pub use job::job;

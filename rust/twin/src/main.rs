@@ -6,7 +6,7 @@
 //! `twin statistics KIND SEED COUNT` counts what the cases cover.
 //!
 //! The kinds: `run`, `free`, `jobs`, and for the calls that 02 adds `signed`,
-//! `many`, `stepped`, `rules` and `indexed`.
+//! `many`, `stepped`, `rules`, `indexed` and `counted`.
 
 #![forbid(unsafe_code)]
 
@@ -21,7 +21,7 @@ const USAGE: &str = "usage: twin generate KIND SEED COUNT
        twin answer KIND
        twin job
        twin statistics KIND SEED COUNT
-where KIND is run, free, jobs, signed, many, stepped, rules or indexed";
+where KIND is run, free, jobs, signed, many, stepped, rules, indexed or counted";
 
 /// Writes COUNT cases of a kind.
 fn generate(kind: &str, seed: u64, count: u64) -> Result<(), String> {

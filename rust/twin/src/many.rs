@@ -34,6 +34,7 @@ pub fn run_many(
         subjects,
         signature: lent.signature,
         index: lent.index.as_ref().map(|index| index.len()),
+        counts: None,
         results: Some(results.len()),
         work: None,
     });

@@ -6,8 +6,16 @@
 use crate::checks::{
     bad_signature, bad_store_length, bad_table_length, kind_of, lowest_bad_entry, lowest_bad_node,
     lowest_disobeying_entry, lowest_disobeying_node, lowest_repeated_node, sort_of, Sort,
-    BAD_LENGTH, BAD_NODE, BAD_START, REPEATED_NODE, SIGNED_ENTRY, SIGNED_NODE, VARIABLES, WIDTH,
+    BAD_LENGTH, BAD_NODE, BAD_START, FULL_COUNT, REPEATED_NODE, SIGNED_ENTRY, SIGNED_NODE,
+    VARIABLES, WIDTH,
 };
+
+/// The count words of an entry. 02, wish 13: "Per table entry, in this order:
+/// visits as a strategy, successes, failures, and visits in flight at a cut-off".
+pub const COUNTS: usize = 4;
+
+/// The greatest count word that a run may be lent.
+pub const MOST_COUNT: u64 = 18_446_744_069_414_584_320;
 
 /// What is looked at before anything is written.
 pub struct Input<'a> {
@@ -27,6 +35,8 @@ pub struct Input<'a> {
     pub signature: Option<&'a [u32]>,
     /// The length of the index, where one is lent.
     pub index: Option<usize>,
+    /// The counts, where they are lent.
+    pub counts: Option<&'a [u64]>,
     /// The length of the result list, for the call with many subjects.
     pub results: Option<usize>,
     /// The length of the work list, for the start of a stepped run.
@@ -48,6 +58,26 @@ fn bad_sizes(input: &Input) -> bool {
         || input.signature.map_or(false, bad_signature)
         || input.work.map_or(false, bad_work)
         || input.index.map_or(false, |words| bad_index(input, words))
+        || input.counts.map_or(false, |words| bad_counts(input, words))
+}
+
+/// Whether a count list has the wrong length.
+///
+/// 02, wish 13: "a count list that doesn't have four 64-bit words per entry gives
+/// 2". A pattern entry has its four words too.
+fn bad_counts(input: &Input, words: &[u64]) -> bool {
+    words.len() != COUNTS * (input.table.len() / WIDTH)
+}
+
+/// The lowest entry with a count word to which a run might not be able to add.
+///
+/// 02, wish 13: "a count word above 18,446,744,069,414,584,320 gives 24 with the
+/// lowest such entry".
+fn lowest_full_count(counts: &[u64]) -> Option<u32> {
+    counts
+        .chunks(COUNTS)
+        .position(|four| four.iter().any(|&word| word > MOST_COUNT))
+        .map(|entry| entry as u32)
 }
 
 /// Whether the work list of a stepped run is too short.
@@ -89,7 +119,8 @@ fn bad_start(input: &Input) -> bool {
 ///
 /// 01: "Order: 2, 3, 4, 5, then the run." 02: 13 to 17 "where 3 stood" (wish 4);
 /// "10 with the lowest entry, then 11 with the lowest node, both after 4 and
-/// before 5" (wish 2); 21 "after 4 and 11 and before 5" (wish 12).
+/// before 5" (wish 2); 21 "after 4 and 11 and before 5" (wish 12);
+/// 24 "after 5" (wish 13).
 pub fn refusal(input: &Input) -> Option<(u32, u32)> {
     if bad_sizes(input) {
         return Some((BAD_LENGTH, 0));
@@ -116,5 +147,6 @@ pub fn refusal(input: &Input) -> Option<(u32, u32)> {
     if bad_start(input) {
         return Some((BAD_START, 0));
     }
-    None
+    let full = input.counts.and_then(lowest_full_count);
+    full.map(|entry| (FULL_COUNT, entry))
 }

@@ -1,12 +1,14 @@
 //! What the generated cases cover, counted.
 
-use crate::calls::{Call, CallCase, INDEX, RESULTS, SIGNATURE, SUBJECTS};
+use crate::calls::{Call, CallCase, COUNTED, INDEX, RESULTS, SIGNATURE, SUBJECTS};
 use crate::checks::{kind, ran, BAD_TEXT, DONE, FAILED, NO_ROOM, UNBOUND, UNFINISHED};
+use crate::counts::run_counted;
 use crate::engine::{run_lent, run_watched, Lent, Watcher};
 use crate::free::free_variables;
 use crate::generate::{free_case, job_text, run_case};
 use crate::job::job;
 use crate::many::run_many;
+use crate::refusals::COUNTS;
 use std::collections::BTreeMap;
 use std::fmt::Write;
 
@@ -383,6 +385,7 @@ pub fn of_calls(make: fn(u64, u64) -> CallCase, seed: u64, count: u64) -> String
     let mut subjects: BTreeMap<&str, u64> = BTreeMap::new();
     let mut each = Answers::new();
     let mut shares = Shares::default();
+    let mut tallies = Tallies::default();
     let mut writer = Answers::new();
     let mut added: BTreeMap<&str, u64> = BTreeMap::new();
     let mut steps = Steps::default();
@@ -390,6 +393,7 @@ pub fn of_calls(make: fn(u64, u64) -> CallCase, seed: u64, count: u64) -> String
         let case = make(seed, index);
         count_subjects(&case, &mut subjects, &mut each);
         count_shares(&case, &mut shares);
+        count_tallies(&case, &mut tallies);
         let (call, mark) = (case.call, case.run.mark);
         empty += u64::from(case.lent.values().any(|words| words.is_empty()));
         let line = case.answer();
@@ -404,7 +408,7 @@ pub fn of_calls(make: fn(u64, u64) -> CallCase, seed: u64, count: u64) -> String
             let entries = numbers[3] as u32 - mark;
             *added.entry(span(entries)).or_default() += 1;
         }
-        if numbers[0] == 0 && call == Call::Run {
+        if numbers[0] == 0 && matches!(call, Call::Run | Call::Count) {
             made += u64::from(numbers[3] > u64::from(mark));
         }
     }
@@ -438,6 +442,9 @@ pub fn of_calls(make: fn(u64, u64) -> CallCase, seed: u64, count: u64) -> String
     }
     if shares.runs > 0 {
         say_shares(text, &shares);
+    }
+    if tallies.runs > 0 {
+        say_tallies(text, &tallies);
     }
     if !writer.is_empty() {
         say(text, format_args!("translations by the entries added"));
@@ -500,6 +507,87 @@ fn count_steps(call: Call, line: &str, steps: &mut Steps) {
     // The run was set aside after its last visit, before 6 was found.
     let before = &fives[fives.len() - 3];
     steps.edge += u64::from(last[0] == 6 && before[4] == last[4]);
+}
+
+/// What counted runs that were not refused have added up to.
+#[derive(Default)]
+struct Tallies {
+    runs: u64,
+    /// Visits as a strategy, successes, failures and visits in flight.
+    entries: [u64; COUNTS],
+    patterns: u64,
+    pairs: u64,
+    /// Runs with two or more visits of one entry in flight.
+    several: u64,
+    /// Runs with nothing but counts lent, with a signature, with an index, with
+    /// both.
+    lent: [u64; 4],
+    /// Runs whose counts were not all zero before.
+    added: u64,
+}
+
+/// Counts what a counted run adds.
+fn count_tallies(case: &CallCase, tallies: &mut Tallies) {
+    if case.call != Call::Count {
+        return;
+    }
+    let signature = case.words(SIGNATURE);
+    let mut index = case.words(INDEX);
+    let kind = usize::from(signature.is_some()) + 2 * usize::from(index.is_some());
+    let before = &case.lent[&COUNTED];
+    let mut after = before.clone();
+    let mut run = case.run.clone();
+    let lent = Lent {
+        signature: signature.as_deref(),
+        index: index.as_deref_mut(),
+    };
+    let end = run_counted(
+        &run.table,
+        &mut run.store,
+        &mut run.bindings,
+        run.mark,
+        run.start,
+        run.subject,
+        run.units,
+        lent,
+        &mut after,
+    );
+    if !ran(end.outcome.answer) {
+        return;
+    }
+    tallies.runs += 1;
+    tallies.lent[kind] += 1;
+    tallies.added += u64::from(before.iter().any(|&word| word > 0));
+    tallies.patterns += u64::from(end.patterns);
+    tallies.pairs += u64::from(end.pairs);
+    let mut several = false;
+    for (old, new) in before.chunks(COUNTS).zip(after.chunks(COUNTS)) {
+        for (sum, (old, new)) in tallies.entries.iter_mut().zip(old.iter().zip(new)) {
+            *sum += new - old;
+        }
+        several |= new[3] - old[3] > 1;
+    }
+    tallies.several += u64::from(several);
+}
+
+/// Writes what counted runs have added up to.
+fn say_tallies(text: &mut String, tallies: &Tallies) {
+    let [plain, signed, indexed, both] = tallies.lent;
+    say(
+        text,
+        format_args!(
+            "counted runs {}: plain {}, with a signature {}, with an index {}, with both {}; counts not zero before {}",
+            tallies.runs, plain, signed, indexed, both, tallies.added
+        ),
+    );
+    let [visits, successes, failures, flying] = tallies.entries;
+    say(
+        text,
+        format_args!(
+            "  visits as a strategy {}, successes {}, failures {}, in flight {}; patterns {}, pairs {}; runs with several visits of one entry in flight {}",
+            visits, successes, failures, flying, tallies.patterns, tallies.pairs, tallies.several
+        ),
+    );
 }
 
 /// What a watcher counts over runs with an index.

@@ -52,6 +52,7 @@ pub fn start_run(
         subjects: &[subject],
         signature,
         index: None,
+        counts: None,
         results: None,
         work: Some(work.len()),
     });
@@ -106,6 +107,7 @@ pub fn step_run(
         subjects: &[subject],
         signature: None,
         index: None,
+        counts: None,
         results: None,
         work: Some(work.len()),
     });

@@ -6,8 +6,9 @@
 //! it leaves is collected by the proved function and by the plain one, and the
 //! four numbers and every word of store, bindings and work list are compared. COUNT
 //! runs with a signature, a tenth of COUNT runs in steps, COUNT calls with many subjects,
-//! some with a signature, refused ones too, COUNT calls with an index and the questions
-//! go through the proved function and the plain one. So do COUNT texts of rules and rules to write: the numbers, every
+//! some with a signature, refused ones too, COUNT calls with an index, COUNT counted runs
+//! and the questions go through the proved function and the plain one; a counted run is compared
+//! with the proved run of the same input too. So do COUNT texts of rules and rules to write: the numbers, every
 //! word of the table and every byte of the buffer are compared. It ends with 1 where two of them differ, and with 2 where the words
 //! leave nothing to compare.
 
@@ -16,9 +17,12 @@
 use bench::engines::ENGINES;
 use bench::foreign;
 use std::process::ExitCode;
-use twin::calls::{Call, CallCase, BUFFER, INDEX, RESULTS, SIGNATURE, STEPS, SUBJECTS, TEXT, WORK};
+use twin::calls::{
+    Call, CallCase, BUFFER, COUNTED, INDEX, RESULTS, SIGNATURE, STEPS, SUBJECTS, TEXT, WORK,
+};
 use twin::generate::{
-    free_case, indexed_case, many_case, rules_case, run_case, signed_case, stepped_case,
+    counted_case, free_case, indexed_case, many_case, rules_case, run_case, signed_case,
+    stepped_case,
 };
 use twin::text::{FreeCase, RunCase};
 
@@ -336,6 +340,121 @@ fn indexed_agrees(case: &CallCase) -> bool {
         && lent[words..] == plain.1
 }
 
+/// Store and index as one slice, bindings and counts.
+#[derive(Clone, PartialEq)]
+struct Counting {
+    lent: Vec<u32>,
+    bindings: Vec<u32>,
+    counts: Vec<u64>,
+}
+
+/// Whether the proved function and the plain one agree on a counted run: the seven
+/// numbers and every word of store, bindings, counts and index. Where the input is
+/// not refused, or is refused by something else than its counts, the proved run
+/// without counts agrees with it too.
+fn counted_agrees(case: &CallCase) -> bool {
+    let run = &case.run;
+    let signature = case.words(SIGNATURE);
+    let index = case.words(INDEX);
+    let words = run.store.len();
+    let mut proved = Counting {
+        lent: [&run.store[..], index.as_deref().unwrap_or(&[])].concat(),
+        bindings: run.bindings.clone(),
+        counts: case.lent[&COUNTED].clone(),
+    };
+    let mut plain = proved.clone();
+    let numbers = proved_counts(case, &mut proved);
+    let (store, rest) = plain.lent.split_at_mut(words);
+    let end = twin::run_counted(
+        &run.table,
+        store,
+        &mut plain.bindings,
+        run.mark,
+        run.start,
+        run.subject,
+        run.units,
+        twin::Lent {
+            signature: signature.as_deref(),
+            index: index.is_some().then_some(rest),
+        },
+        &mut plain.counts,
+    );
+    let [answer, place, subject, mark, units] = five(end.outcome);
+    numbers == [answer, place, subject, mark, units, end.patterns, end.pairs]
+        && proved == plain
+        && uncounted_agrees(case, numbers, &proved)
+}
+
+/// The proved counted run.
+fn proved_counts(case: &CallCase, memory: &mut Counting) -> [u32; 7] {
+    let run = &case.run;
+    let signature = case.words(SIGNATURE);
+    let (bindings, counts) = (&mut memory.bindings, &mut memory.counts);
+    match case.words(INDEX) {
+        Some(_) => foreign::run_indexed_counted(
+            &run.table,
+            &mut memory.lent,
+            run.store.len() as u32,
+            bindings,
+            run.mark,
+            run.start,
+            run.subject,
+            run.units,
+            counts,
+            signature.as_deref(),
+        ),
+        None => foreign::run_counted(
+            &run.table,
+            &mut memory.lent,
+            bindings,
+            run.mark,
+            run.start,
+            run.subject,
+            run.units,
+            counts,
+            signature.as_deref(),
+        ),
+    }
+}
+
+/// Whether the proved run of the same input, without counts, gives the same five
+/// numbers and leaves the same words. Where the counts alone refuse the input there
+/// is nothing to compare.
+fn uncounted_agrees(case: &CallCase, numbers: [u32; 7], left: &Counting) -> bool {
+    let run = &case.run;
+    let four_each = case.lent[&COUNTED].len() == 4 * (run.table.len() / 8);
+    if numbers[0] == FULL_COUNT || !four_each {
+        return true;
+    }
+    let index = case.words(INDEX);
+    let mut lent = [&run.store[..], index.as_deref().unwrap_or(&[])].concat();
+    let mut bindings = run.bindings.clone();
+    let (mark, start, subject, units) = (run.mark, run.start, run.subject, run.units);
+    let words = run.store.len() as u32;
+    let (table, own) = (&run.table, &mut bindings);
+    let given = match (&index, case.words(SIGNATURE)) {
+        (Some(_), signature) => foreign::run_indexed(
+            table,
+            &mut lent,
+            words,
+            own,
+            mark,
+            start,
+            subject,
+            units,
+            signature.as_deref(),
+        ),
+        (None, Some(signature)) => foreign::run_signed(
+            table, &mut lent, own, mark, start, subject, units, &signature,
+        ),
+        (None, None) => foreign::run(table, &mut lent, own, mark, start, subject, units),
+    };
+    numbers[..5] == given && left.lent == lent && left.bindings == bindings
+}
+
+/// The answer where a count is too high.
+const FULL_COUNT: u32 = 24;
+
 /// Whether the proved function and the plain one agree on a text of rules: the
 /// four numbers and every word of the table.
 fn translation_agrees(case: &CallCase) -> bool {
@@ -406,6 +525,10 @@ fn compare(first: u64, last: u64, count: u64) -> u64 {
                 println!("call {} with an index of seed {} differs", index, seed);
                 differ += 1;
             }
+            if !counted_agrees(&counted_case(seed, index)) {
+                println!("counted run {} of seed {} differs", index, seed);
+                differ += 1;
+            }
             if !rules_agree(&rules_case(seed, index)) {
                 println!("rules {} of seed {} differ", index, seed);
                 differ += 1;
@@ -431,11 +554,12 @@ fn main() -> ExitCode {
     let differ = twin::with_big_stack(move || compare(first, last, count));
     let each = (last - first + 1) * count;
     println!(
-        "{} runs, {} signed runs, {} calls with many subjects, {} runs in steps, {} calls with an index, {} collections, {} texts of rules or rules to write and {} questions compared, {} differ",
+        "{} runs, {} signed runs, {} calls with many subjects, {} runs in steps, {} calls with an index, {} counted runs, {} collections, {} texts of rules or rules to write and {} questions compared, {} differ",
         each,
         each,
         each,
         (last - first + 1) * count.div_ceil(10),
+        each,
         each,
         2 * each,
         each,

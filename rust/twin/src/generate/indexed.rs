@@ -59,7 +59,7 @@ pub fn indexed_case(seed: u64, index: u64) -> CallCase {
 
 /// Merges equal terms of a sound case: each keeps its lowest node, and the nodes
 /// are numbered without gaps. The store's length stays as it was.
-fn merge(run: &mut RunCase) {
+pub(super) fn merge(run: &mut RunCase) {
     let mut numbers: Vec<u32> = Vec::new();
     let mut rows: Vec<Vec<u32>> = Vec::new();
     let mut known: BTreeMap<Vec<u32>, u32> = BTreeMap::new();
@@ -112,7 +112,7 @@ fn probe(run: &RunCase, units: u32) -> (Outcome, u32) {
 }
 
 /// Sets the room near to what the run needs in this store.
-fn limit_room(random: &mut Random, run: &mut RunCase) {
+pub(super) fn limit_room(random: &mut Random, run: &mut RunCase) {
     let (_, peak) = probe(run, run.units.min(MOST_UNITS));
     let nodes = (run.store.len() / WIDTH) as u32;
     let room = match random.below(10) {
@@ -126,7 +126,7 @@ fn limit_room(random: &mut Random, run: &mut RunCase) {
 }
 
 /// Repeats a node, as a new one or in place of another.
-fn repeat(random: &mut Random, run: &mut RunCase) {
+pub(super) fn repeat(random: &mut Random, run: &mut RunCase) {
     let nodes = run.store.len() / WIDTH;
     if run.mark == 0 || run.mark as usize > nodes {
         return;
@@ -144,7 +144,7 @@ fn repeat(random: &mut Random, run: &mut RunCase) {
 }
 
 /// Memory for an index: long enough, or a little short; it may hold anything.
-fn index_memory(random: &mut Random, run: &RunCase) -> Vec<u32> {
+pub(super) fn index_memory(random: &mut Random, run: &RunCase) -> Vec<u32> {
     let twice = 2 * (run.store.len() / WIDTH);
     let length = match random.below(24) {
         0 => twice.saturating_sub(1),

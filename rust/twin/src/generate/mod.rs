@@ -6,8 +6,9 @@
 //! `jobs` do the same for the other two questions, `signed` lends a
 //! signature, `subjects` makes calls with many subjects, `stepped` makes stepped
 //! runs, `rules` makes rules as text and rules to write, `indexed` lends an
-//! index.
+//! index, `counted` lends counts.
 
+mod counted;
 mod damage;
 mod frees;
 mod indexed;
@@ -30,10 +31,12 @@ pub fn call_cases(kind: &str) -> Option<fn(u64, u64) -> CallCase> {
         "stepped" => Some(stepped_case),
         "rules" => Some(rules_case),
         "indexed" => Some(indexed_case),
+        "counted" => Some(counted_case),
         _ => None,
     }
 }
 
+pub use counted::counted_case;
 pub use frees::free_case;
 pub use indexed::indexed_case;
 pub use jobs::job_text;
