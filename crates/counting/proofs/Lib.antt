@@ -6,3 +6,4 @@ pub mod Accepted
 pub mod Refusing
 pub mod Sharing
 pub mod Promises
+pub mod Answers

@@ -171,11 +171,11 @@ run-refused (plain g) i n = sym (rw (ne-eqb (refusalOf (plain g) i .answer) 0 n)
 run-refused (indexed g x) i n = ap (λ (r : IndexedReturned). r .run) (indexed-refused g i x (indexedRefused g i x) refl n)
 
 -- a number is 0, or not
-zero-or-not : (n : ℕ) → (n ≡ 0) ⊎ (n ≢ 0)
+pub zero-or-not : (n : ℕ) → (n ≡ 0) ⊎ (n ≢ 0)
 zero-or-not zero = inl refl
 zero-or-not (suc n) = inr (λ e. omega arith)
 
-answer-of : {c d : Checked} → c ≡ d → c .answer ≡ d .answer
+pub answer-of : {c d : Checked} → c ≡ d → c .answer ≡ d .answer
 answer-of e = ap (λ (c : Checked). c .answer) e
 
 module _ (c : Call) (i : Input) (given : List ℕ) (fits : FourEach i given) (small : (j : ℕ) → getD given j 0 ≤ highest) where
@@ -280,7 +280,7 @@ first-full given n p = (
 
 module _ (c : Call) (i : Input) (given : List ℕ) (r : Counted) (s b cs : List ℕ) (m : Meets c i given r s b cs) where
   -- the numbers of a refusal
-  refused-numbers : (d : Checked) → verdictOf c i given ≡ d → d .answer ≢ 0 → (r .ended .answer ≡ d .answer) × (r .ended .place ≡ d .place)
+  pub refused-numbers : (d : Checked) → verdictOf c i given ≡ d → d .answer ≢ 0 → (r .ended .answer ≡ d .answer) × (r .ended .place ≡ d .place)
   refused-numbers d e n =
       let z = met-refused c i given r s b cs m (λ z. n (sym (answer-of e) ∙ z)) in (
         ap (λ (z : CountedReturned). z .run .answer) z ∙ answer-of e,
@@ -295,7 +295,7 @@ module _ (c : Call) (i : Input) (given : List ℕ) (r : Counted) (s b cs : List 
   run-first f n = refused-numbers (refusalOf c i) (refused-before (refusalOf c i) (i .table) given f n) n
 
   -- what the check of the counts finds
-  full-found : FourEach i given → refusalOf c i .answer ≡ 0 → (o : Option ℕ) → rejected (hasRoom given) 0 (rows (i .table)) ≡ o
+  pub full-found : FourEach i given → refusalOf c i .answer ≡ 0 → (o : Option ℕ) → rejected (hasRoom given) 0 (rows (i .table)) ≡ o
       → verdictOf c i given ≡ found 24 o
   unfolding countsChecked
   full-found f z o e = refused-counts (refusalOf c i) (i .table) given f z ∙ ap (found 24) e

@@ -1,8 +1,9 @@
 -- What the contracts of the counted calls promise, in the reader's words. Each statement holds of everything that meets the contract, and
--- is proved in proofs/Promises.antt under its name in small letters. Where it says `Call`, it holds without an index and with one.
+-- is proved under its name in small letters: in proofs/Promises.antt, or `Refuses-two` in proofs/Answers.antt. Where it says `Call`, it
+-- holds without an index and with one.
 use mathlib.Core.Path.{_≡_}
 use mathlib.Core.Bool.{Bool, true, false}
-use mathlib.Core.Logic.{_≢_, _↔_}
+use mathlib.Core.Logic.{_≢_, _↔_, _⊎_}
 use mathlib.Core.Option.{Option}
 use mathlib.Core.List.{List}
 use Prim.Native.Nat.{ℕ, zero, suc, _+_, _*_, _<_, _≤_}
@@ -109,6 +110,12 @@ abbrev pub Refuses-first : Type 0
 Refuses-first =
     (c : Call) (i : Input) (given : List ℕ) (r : Counted) (s b cs : List ℕ) → FourEach i given → refusalOf c i .answer ≢ 0
     → Meets c i given r s b cs → (r .ended .answer ≡ refusalOf c i .answer) × (r .ended .place ≡ refusalOf c i .place)
+
+-- 2, both ways: the list has another length, or the run without counts is refused with 2. So no run that is not refused answers 2.
+abbrev pub Refuses-two : Type 0
+Refuses-two =
+    (c : Call) (i : Input) (given : List ℕ) (r : Counted) (s b cs : List ℕ) → Meets c i given r s b cs
+    → (r .ended .answer ≡ 2) ↔ ((FourEach i given → ⊥) ⊎ (refusalOf c i .answer ≡ 2))
 
 -- p is the lowest of n entries that has a count too high
 pub record LowestFull (given : List ℕ) (n p : ℕ) : Type 0 where
