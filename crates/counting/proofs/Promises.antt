@@ -165,7 +165,7 @@ run-of (indexed g x) i z =
     ap (returned i) (place-left true i ∙ all-shared .1 ours ℕ places nowhere i)
     ∙ ap (λ (r : IndexedReturned). r .run) (indexed-ran g i x (indexedRefused g i x) refl z)
 
-run-refused : (c : Call) (i : Input) → refusalOf c i .answer ≢ 0 → refusing i (refusalOf c i) ≡ withoutCounts c i
+pub run-refused : (c : Call) (i : Input) → refusalOf c i .answer ≢ 0 → refusing i (refusalOf c i) ≡ withoutCounts c i
 unfolding runWithBy
 run-refused (plain g) i n = sym (rw (ne-eqb (refusalOf (plain g) i .answer) 0 n) refl)
 run-refused (indexed g x) i n = ap (λ (r : IndexedReturned). r .run) (indexed-refused g i x (indexedRefused g i x) refl n)

@@ -1,10 +1,10 @@
 -- What the contracts of the counted calls promise, in the reader's words. Each statement holds of everything that meets the contract, and
--- is proved under its name in small letters: in proofs/Promises.antt, or `Refuses-two` in proofs/Answers.antt. Where it says `Call`, it
--- holds without an index and with one.
+-- is proved under its name in small letters: in proofs/Promises.antt, or `Refuses-two` and `Listed` in proofs/Answers.antt. Where it says
+-- `Call`, it holds without an index and with one.
 use mathlib.Core.Path.{_≡_}
 use mathlib.Core.Bool.{Bool, true, false}
 use mathlib.Core.Logic.{_≢_, _↔_, _⊎_}
-use mathlib.Core.Option.{Option}
+use mathlib.Core.Option.{Option, none, some}
 use mathlib.Core.List.{List}
 use Prim.Native.Nat.{ℕ, zero, suc, _+_, _*_, _<_, _≤_}
 use lib.ListN.{length, getD, replicate}
@@ -27,6 +27,8 @@ use Rattle.meaning.specs.Answer.{Returned, number}
 use Rattle.calls.specs.Refused.{refusedWith}
 use Rattle.calls.specs.Run.{atReturn, runWith}
 use Rattle.calls.specs.Indexed.{indexedRefused, indexedAtReturn, indexedOf}
+use Rattle.calls.specs.Promises.{InList}
+use Rattle.calls.specs.Signed.{SignedInList}
 use Rattle.counting.specs.declared.Counted.{Counted}
 use Rattle.counting.specs.Counted.{highest, refusedCounting, countedAtReturn, countedOf, indexedCountedAtReturn, indexedCountedOf}
 
@@ -132,6 +134,23 @@ Refuses-full =
     (c : Call) (i : Input) (given : List ℕ) (r : Counted) (s b cs : List ℕ) (p : ℕ) → Meets c i given r s b cs
     → ((r .ended .answer ≡ 24) × (r .ended .place ≡ p))
     ↔ (FourEach i given × (refusalOf c i .answer ≡ 0) × LowestFull given (rows (i .table)) p)
+
+-- the answers of the run without counts and without an index, with the signature where one is lent
+abbrev pub RunInList : Option (List ℕ) → ℕ → Type 0
+RunInList none n = InList n
+RunInList (some g) n = SignedInList n
+
+-- all answers: those, 21 where an index is lent, and 24
+pub data CountedInList : Call → ℕ → Type 0 where
+  without-index : {g : Option (List ℕ)} {n : ℕ} → RunInList g n → CountedInList (plain g) n
+  with-index : {g : Option (List ℕ)} {x : List ℕ} {n : ℕ} → RunInList g n → CountedInList (indexed g x) n
+  of-twin : {g : Option (List ℕ)} {x : List ℕ} → CountedInList (indexed g x) 21
+  of-full-count : {c : Call} → CountedInList c 24
+
+-- Every answer is one of the list.
+abbrev pub Listed : Type 0
+Listed =
+    (c : Call) (i : Input) (given : List ℕ) (r : Counted) (s b cs : List ℕ) → Meets c i given r s b cs → CountedInList c (r .ended .answer)
 
 -- what a refusal gives back
 pub record Untouched (i : Input) (given : List ℕ) (r : Counted) (s b cs : List ℕ) : Type 0 where
