@@ -7,3 +7,4 @@ pub mod Refusing
 pub mod Sharing
 pub mod Promises
 pub mod Answers
+pub mod Tracing

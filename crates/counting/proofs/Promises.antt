@@ -1,6 +1,6 @@
 -- What the contracts of the counted calls promise, proved under the names of specs/Promises.antt. Assumes nothing.
 use mathlib.Core.Path.{_≡_, refl, ap, sym, _∙_, subst}
-use mathlib.Core.Bool.{Bool, true, false, _&&_, true≢false}
+use mathlib.Core.Bool.{Bool, true, false, true≢false}
 use mathlib.Core.Logic.{_≢_, _↔_, _⊎_, inl, inr, ⊎-elim}
 use mathlib.Core.Option.{Option, none, some}
 use mathlib.Core.List.{List, [], _∷_}
@@ -17,23 +17,16 @@ use Rattle.checks.specs.Good.{kindOf}
 use Rattle.checks.specs.declared.kinds.Sort.the-variants.{Strategy, Pattern}
 use Rattle.checks.specs.Checked.{checked, found}
 use Rattle.checks.specs.declared.Checked.{Checked}
-use Rattle.meaning.specs.Derivation.{What, entry, pattern, pair, Event, began, ended as told, history, places, nowhere, Trace, noted}
-use Rattle.meaning.specs.Derivation.{stays, fails}
+use Rattle.meaning.specs.Derivation.{What, entry, pattern, pair, Event, began, ended as told, history, places, nowhere}
 use Rattle.meaning.specs.Tallies.{one-if, isEntry, anyPattern, isPair, counted, begins, wins, loses, Entered, entriesIn}
-use Rattle.meaning.specs.Tallies.{succeeded, hasFailed, count}
-use Rattle.meaning.specs.System.{trace}
-use Rattle.meaning.specs.Beginning.{trace as traceBegun}
-use Rattle.meaning.specs.Demands.{Says, whole, limits, startVisit}
-use Rattle.meaning.specs.Table.{table}
 use Rattle.meaning.specs.Limits.{ended, lost, cut, units, nesting, room, unbound}
 use Rattle.meaning.specs.Mapped.{renoted, Notes-less}
-use Rattle.meaning.specs.Store.{Input, Accepted, Ran, value}
+use Rattle.meaning.specs.Store.{Input, Accepted, Ran}
 use Rattle.meaning.specs.Shared.{ranSharing, twin}
 use Rattle.meaning.specs.Answer.{number, returned, returnedBy}
 use Rattle.meaning.proofs.Mapped.{renotes-sharing}
 use Rattle.meaning.proofs.Falling.{unitsLeft}
-use Rattle.meaning.proofs.Tallies.{fates-make-visits, history-counts, events-add-up, count-all}
-use Rattle.meaning.proofs.Demands.{demand-2}
+use Rattle.meaning.proofs.Tallies.{events-add-up}
 use Rattle.machine.specs.Stack.{Noted}
 use Rattle.machine.proofs.Noting.{all, Visited, Within, Notes-so, run-notes}
 use Rattle.meaning.proofs.Shared.{not-shared, all-shared}
@@ -51,9 +44,8 @@ use Rattle.counting.specs.Counted.{logOf, added, tallied}
 use Rattle.counting.specs.Counts.{Room}
 use Rattle.counting.specs.Promises.{Call, plain, indexed, Meets, refusalOf, withoutCounts, shares, verdictOf, FourEach}
 use Rattle.counting.specs.Promises.{Agreeing, Agreeing-index, As-run, As-indexed, Refuses-length, Refuses-first, LowestFull}
-use Rattle.counting.specs.Promises.{Refuses-full, Adds-nothing, Does, is-done, has-failed, is-cut, CountOf}
-use Rattle.counting.specs.Promises.{Each-a-count, visitsIn, Units-add-up, Fates-add-up, Never-overflows, Ended-none-in-flight}
-use Rattle.counting.specs.Promises.{Patterns-stay, Leaves-index, Keeps-length}
+use Rattle.counting.specs.Promises.{Refuses-full, Adds-nothing, Leaves-index, Keeps-length, visitsIn, Units-add-up}
+use Rattle.counting.specs.Promises.{Fates-add-up, Never-overflows, Ended-none-in-flight, Patterns-stay}
 use Rattle.counting.proofs.Refusing.{refused-length, refused-before, refused-counts, indexed-counted-refused}
 use Rattle.counting.proofs.Refusing.{indexed-counted-run, counted-accepted, counts-room}
 use Rattle.counting.proofs.Ending.{length-tallied, getD-tallied}
@@ -519,19 +511,19 @@ module _ (c : Call) (i : Input) (given : List ℕ) (r : Counted) (s b cs : List 
   counts-are : cs ≡ tallied log 0 given
   counts-are = ap (λ (z : CountedReturned). z .counts) came
 
-  patterns-are : r .seen .patterns ≡ counted (begins anyPattern) log
+  pub patterns-are : r .seen .patterns ≡ counted (begins anyPattern) log
   patterns-are = ap (λ (z : CountedReturned). z .patterns) came
 
-  pairs-are : r .seen .pairs ≡ counted (begins isPair) log
+  pub pairs-are : r .seen .pairs ≡ counted (begins isPair) log
   pairs-are = ap (λ (z : CountedReturned). z .pairs) came
 
-  units-are : r .ended .units ≡ counted (begins all) log
+  pub units-are : r .ended .units ≡ counted (begins all) log
   units-are = ap (λ (z : CountedReturned). z .run .units) came ∙ units-used i e ∙ omega (arith, log-units i e noted-so)
 
-  word-is : (x d : ℕ) → d < 4 → 4 * x + 3 < length given → getD cs (4 * x + d) 0 ≡ getD given (4 * x + d) 0 + added log x d
+  pub word-is : (x d : ℕ) → d < 4 → 4 * x + 3 < length given → getD cs (4 * x + d) 0 ≡ getD given (4 * x + d) 0 + added log x d
   word-is x d l h = ap (λ cs. getD cs (4 * x + d) 0) counts-are ∙ word-tallied log given x d l h
 
-  first-is : (x : ℕ) → 4 * x + 3 < length given → getD cs (4 * x) 0 ≡ getD given (4 * x) 0 + counted (begins (isEntry x)) log
+  pub first-is : (x : ℕ) → 4 * x + 3 < length given → getD cs (4 * x) 0 ≡ getD given (4 * x) 0 + counted (begins (isEntry x)) log
   first-is x h = ap (λ cs. getD cs (4 * x) 0) counts-are ∙ first-word log given x h
 
   units-up : visitsIn (rows (i .table)) cs + r .seen .patterns + r .seen .pairs ≡ visitsIn (rows (i .table)) given + r .ended .units
@@ -621,63 +613,3 @@ pub patterns-stay : Patterns-stay
 patterns-stay c i given r s b cs m x q h j l = refused-or-run c i given r s b cs m
     (λ n. ap (λ cs. getD cs (4 * x + j) 0) (as-given c i given r s b cs m n))
     (λ z. pattern-stays c i given r s b cs m z x q h j l)
-
--- ---- each a count over the derivation or its counted beginning
-
-module _ (i : Input) where
-  -- what the run did, and what was noted of it
-  did : (e : Ran Noted) → Says history (nowhere, []) (table (i .table)) (limits i) (startVisit i) (value e)
-      → (t : Trace) × Does i (returned i (renoted (λ n. n .0) e) .answer) t × (logOf e ≡ noted history t (nowhere, []) .1)
-  unfolding value logOf returnedBy renoted
-  did (ended k b s u) (d, f, m, n) = (whole (startVisit i) stays (trace d), is-done d f, ap (λ (n : Noted). n .1) n)
-  did (lost l u) (d, f, n) = (whole (startVisit i) fails (trace d), has-failed d f, ap (λ (n : Noted). n .1) n)
-  did (cut c l u) (d, f, m, n) = (traceBegun d, is-cut c d f m, ap (λ (n : Noted). n .1) n)
-
-  ran-did : Accepted i
-      → (t : Trace) × Does i (returned i (renoted (λ n. n .0) (ranIf false i)) .answer) t
-      × (logOf (ranIf false i) ≡ noted history t (nowhere, []) .1)
-  ran-did a =
-      did (ranIf false i)
-      (demand-2 ours Noted history (nowhere, []) i a (value (ranIf false i)) .0
-      (ap value (sym (not-shared .1 ours Noted history (nowhere, []) i))))
-
--- what was noted of the trace counts as the trace does
-module _ (log : List Event) (t : Trace) (l : log ≡ noted history t (nowhere, []) .1) (p : What → Bool) where
-  log-began : counted (begins p) log ≡ count (λ w f. p w) t
-  unfolding counted
-  log-began = ap (counted (begins p)) l ∙ history-counts p t (nowhere, []) .0 ∙ omega arith
-
-  log-won : counted (wins p) log ≡ count (λ w f. p w && succeeded f) t
-  unfolding counted
-  log-won = ap (counted (wins p)) l ∙ history-counts p t (nowhere, []) .1 ∙ omega arith
-
-  log-lost : counted (loses p) log ≡ count (λ w f. p w && hasFailed f) t
-  unfolding counted
-  log-lost = ap (counted (loses p)) l ∙ history-counts p t (nowhere, []) .2 ∙ omega arith
-
-module _ (g : Option (List ℕ)) (i : Input) (given : List ℕ) (r : Counted) (s b cs : List ℕ) (m : Meets (plain g) i given r s b cs)
-    (z : verdictOf (plain g) i given .answer ≡ 0) where
-  count-of : (t : Trace) → logOf (ranIf false i) ≡ noted history t (nowhere, []) .1 → CountOf given r cs t
-  unfolding added
-  count-of t l = record {
-    visited = λ x h. omega (arith, first-is (plain g) i given r s b cs m z x h, log-began _ t l (isEntry x));
-    succeeded = λ x h. omega (arith, word-is (plain g) i given r s b cs m z x 1 (omega arith) h, log-won _ t l (isEntry x));
-    failed = λ x h. omega (arith, word-is (plain g) i given r s b cs m z x 2 (omega arith) h, log-lost _ t l (isEntry x));
-    flying = λ x h. omega (
-      arith,
-      word-is (plain g) i given r s b cs m z x 3 (omega arith) h,
-      log-began _ t l (isEntry x),
-      log-won _ t l (isEntry x),
-      log-lost _ t l (isEntry x),
-      fates-make-visits x t,
-    );
-    patterns = patterns-are (plain g) i given r s b cs m z ∙ log-began _ t l anyPattern;
-    pairs = pairs-are (plain g) i given r s b cs m z ∙ log-began _ t l isPair;
-    units = units-are (plain g) i given r s b cs m z ∙ log-began _ t l all ∙ count-all t;
-  }
-
-pub each-a-count : Each-a-count
-each-a-count g i given r s b cs z m =
-    let (t, d, l) = ran-did i (run-accepted (plain g) i given z) in
-    let e = ap (λ (r : CountedReturned). r .run .answer) (met-run (plain g) i given r s b cs m z) in
-    (t, subst (λ (n : ℕ). Does i n t) (sym e) d, count-of g i given r s b cs m z t l)

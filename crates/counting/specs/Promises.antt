@@ -1,6 +1,6 @@
 -- What the contracts of the counted calls promise, in the reader's words. Each statement holds of everything that meets the contract, and
--- is proved under its name in small letters: in proofs/Promises.antt, or `Refuses-two` and `Listed` in proofs/Answers.antt. Where it says
--- `Call`, it holds without an index and with one.
+-- is proved under its name in small letters: in proofs/Promises.antt, but `Refuses-two` and `Listed` in proofs/Answers.antt, and
+-- `Each-a-count` and `Each-a-count-indexed` in proofs/Tracing.antt. Where it says `Call`, it holds without an index and with one.
 use mathlib.Core.Path.{_≡_}
 use mathlib.Core.Bool.{Bool, true, false}
 use mathlib.Core.Logic.{_≢_, _↔_, _⊎_}
@@ -18,11 +18,12 @@ use Rattle.meaning.specs.Plan.{keep, ret, fail, ask}
 use Rattle.meaning.specs.Table.{table}
 use Rattle.meaning.specs.Derivation.{done, failed, stays, fails, Trace, visits, left}
 use Rattle.meaning.specs.System.{Env, _⊢_⇒_, trace}
-use Rattle.meaning.specs.Beginning.{Begun, Fits, Met, stop, level, trace as traceBegun}
+use Rattle.meaning.specs.Beginning.{Given, Begun, Fits, Met, stop, level, trace as traceBegun}
 use Rattle.meaning.specs.Limits.{Limit}
 use Rattle.meaning.specs.Demands.{whole, limits, startVisit}
 use Rattle.meaning.specs.Tallies.{entryVisits, successes, failures, inFlight, patternVisits, pairVisits}
 use Rattle.meaning.specs.Store.{Input}
+use Rattle.meaning.specs.Shared.{sized}
 use Rattle.meaning.specs.Answer.{Returned, number}
 use Rattle.calls.specs.Refused.{refusedWith}
 use Rattle.calls.specs.Run.{atReturn, runWith}
@@ -183,14 +184,14 @@ abbrev pub Keeps-length : Type 0
 Keeps-length =
     (c : Call) (i : Input) (given : List ℕ) (r : Counted) (s b cs : List ℕ) → Meets c i given r s b cs → length cs ≡ length given
 
--- what the run that answers n did: a derivation that fits, or a counted beginning that fits and meets its limit
-pub data Does (i : Input) : ℕ → Trace → Type 0 where
+-- what the run of i that answers n did, given g: a derivation that fits, or a counted beginning that fits and meets its limit
+pub data Does (g : Given) (i : Input) : ℕ → Trace → Type 0 where
   is-done : {t : Term} {b : Env} {u : ℕ} (d : table (i .table) ⊢ startVisit i ⇒ done t b)
-      → Fits (limits i) (whole (startVisit i) stays (trace d)) u → Does i 0 (whole (startVisit i) stays (trace d))
+      → Fits g (whole (startVisit i) stays (trace d)) u → Does g i 0 (whole (startVisit i) stays (trace d))
   has-failed : {u : ℕ} (d : table (i .table) ⊢ startVisit i ⇒ failed)
-      → Fits (limits i) (whole (startVisit i) fails (trace d)) u → Does i 1 (whole (startVisit i) fails (trace d))
+      → Fits g (whole (startVisit i) fails (trace d)) u → Does g i 1 (whole (startVisit i) fails (trace d))
   is-cut : (c : Limit) {u : ℕ} (d : Begun (table (i .table)) (ask keep (startVisit i) ret fail) (stop c))
-      → Fits (limits i) (traceBegun d) u → Met (limits i) c (level d) (left (traceBegun d)) u → Does i (number c) (traceBegun d)
+      → Fits g (traceBegun d) u → Met g c (level d) (left (traceBegun d)) u → Does g i (number c) (traceBegun d)
 
 -- each number is a count over the trace t, added to the one given
 pub record CountOf (given : List ℕ) (r : Counted) (cs : List ℕ) (t : Trace) : Type 0 where
@@ -202,11 +203,20 @@ pub record CountOf (given : List ℕ) (r : Counted) (cs : List ℕ) (t : Trace) 
   pub pairs : r .seen .pairs ≡ pairVisits t
   pub units : r .ended .units ≡ visits t
 
--- Each number is a count over the derivation or its counted beginning: what is not refused did t, and this is counted of it.
+-- Each number is a count over the derivation or its counted beginning: without an index, what is not refused did t, and this is counted
+-- of it.
 abbrev pub Each-a-count : Type 0
 Each-a-count =
     (g : Option (List ℕ)) (i : Input) (given : List ℕ) (r : Counted) (s b cs : List ℕ) → verdictOf (plain g) i given .answer ≡ 0
-    → Counts-run g i given r s b cs → (t : Trace) × Does i (r .ended .answer) t × CountOf given r cs t
+    → Counts-run g i given r s b cs → (t : Trace) × Does (limits i) i (r .ended .answer) t × CountOf given r cs t
+
+-- With an index too, but for answer 7: what is not refused did t, given room for some number of nodes. A node that stands is not made
+-- again, so that the store's own nodes may be too few for t.
+abbrev pub Each-a-count-indexed : Type 0
+Each-a-count-indexed =
+    (g : Option (List ℕ)) (i : Input) (x given : List ℕ) (r : Counted) (s b cs x′ : List ℕ)
+    → verdictOf (indexed g x) i given .answer ≡ 0 → r .ended .answer ≢ 7 → Counts-indexed g i x given r s b cs x′
+    → (size : ℕ) × (t : Trace) × Does (sized size i) i (r .ended .answer) t × CountOf given r cs t
 
 -- the visits of the first n entries
 unfoldable pub visitsIn : ℕ → List ℕ → ℕ
