@@ -33,7 +33,7 @@ use Rattle.calls.specs.Promises.{SizesFit, EntriesGood, NodesGood, Start
 use Rattle.calls.specs.Signed.{SignedRefusal, as-without, of-disobeying-entry, of-disobeying-node}
 
 module _ (W : ℕ) where
-  answer-of : {c d : Checked} → c ≡ d → c .answer ≡ d .answer
+  pub answer-of : {c d : Checked} → c ≡ d → c .answer ≡ d .answer
   answer-of e = ap (λ (c : Checked). c .answer) e
 
   place-of : {c d : Checked} → c ≡ d → c .place ≡ d .place
@@ -51,7 +51,7 @@ module _ (W : ℕ) where
   PlacedAnswer c = c .answer ≢ 4 → c .answer ≢ 10 → c .answer ≢ 11 → c .answer ≤ 12 → c .place ≡ 0
 
   -- a refusal is not 0, a test is not both passed and refusing, and it refuses in one way
-  record Test (P : Type 0) (B : ℕ → ℕ → Type 0) : Type 0 where
+  pub record Test (P : Type 0) (B : ℕ → ℕ → Type 0) : Type 0 where
     pub some : (n p : ℕ) → B n p → 0 < n
     pub not-both : (n p : ℕ) → B n p → P → ⊥
     pub one : (n p m q : ℕ) → B n p → B m q → checked n p ≡ checked m q
@@ -65,27 +65,27 @@ module _ (W : ℕ) where
     same-refusal n p m q y e = subst (λ (c : Checked). B (c .answer) (c .place)) e y
 
     -- the last test
-    last-passes : {c : Checked} → Tested P B c → (c ≡ checked 0 0) ↔ P
+    pub last-passes : {c : Checked} → Tested P B c → (c ≡ checked 0 0) ↔ P
     last-passes (passed x) = (λ e. x, λ y. refl)
     last-passes (refusing n p y) = (λ e. absurd (omega (arith, T .some n p y, answer-of e)), λ x. absurd (T .not-both n p y x))
 
-    last-refuses : {c : Checked} (n p : ℕ) → 0 < n → Tested P B c → (c ≡ checked n p) ↔ B n p
+    pub last-refuses : {c : Checked} (n p : ℕ) → 0 < n → Tested P B c → (c ≡ checked n p) ↔ B n p
     last-refuses n p l (passed x) = (λ e. absurd (omega (arith, answer-of e)), λ y. absurd (T .not-both n p y x))
     last-refuses n p l (refusing m q y) = (same-refusal m q n p y, T .one m q n p y)
 
     -- the test's own answer, where what follows does not give it too
-    decides : {c : Checked} (d : Checked) (n p : ℕ) → Tested P B c → (P → d .answer ≢ n) → (orElse c d ≡ checked n p) ↔ B n p
+    pub decides : {c : Checked} (d : Checked) (n p : ℕ) → Tested P B c → (P → d .answer ≢ n) → (orElse c d ≡ checked n p) ↔ B n p
     decides d n p (passed x) k = (λ e. absurd (k x (answer-of e)), λ y. absurd (T .not-both n p y x))
     decides d n p (refusing m q y) k =
         (λ e. same-refusal m q n p y (sym (stays m q d y) ∙ e), λ z. stays m q d y ∙ T .one m q n p y z)
 
     -- an answer that the test does not give is that of what follows
-    goes-on : {c : Checked} (d : Checked) (n p : ℕ) → (B n p → ⊥) → Tested P B c → (orElse c d ≡ checked n p) ↔ (P × (d ≡ checked n p))
+    pub goes-on : {c : Checked} (d : Checked) (n p : ℕ) → (B n p → ⊥) → Tested P B c → (orElse c d ≡ checked n p) ↔ (P × (d ≡ checked n p))
     goes-on d n p k (passed x) = (λ e. (x, e), λ e. e .1)
     goes-on d n p k (refusing m q y) =
         (λ e. absurd (k (same-refusal m q n p y (sym (stays m q d y) ∙ e))), λ e. absurd (T .not-both m q y (e .0)))
 
-    gives-not : {c : Checked} (d : Checked) (n : ℕ) → ((p : ℕ) → B n p → ⊥) → Tested P B c → (P → d .answer ≢ n) → orElse c d .answer ≢ n
+    pub gives-not : {c : Checked} (d : Checked) (n : ℕ) → ((p : ℕ) → B n p → ⊥) → Tested P B c → (P → d .answer ≢ n) → orElse c d .answer ≢ n
     gives-not d n k (passed x) h e = h x e
     gives-not d n k (refusing m q y) h e = k q (subst (λ (m : ℕ). B m q) (sym (answer-of (stays m q d y)) ∙ e) y)
 
@@ -95,14 +95,14 @@ module _ (W : ℕ) where
     placed-on d (refusing m q y) f g = subst PlacedAnswer (sym (stays m q d y)) (f m q y)
 
   -- a test on a Bool that stands for a fact, and its refusal
-  abbrev Without : ℕ → Type 0 → ℕ → ℕ → Type 0
+  abbrev pub Without : ℕ → Type 0 → ℕ → ℕ → Type 0
   Without a P n p = (n ≡ a) × (p ≡ 0) × (P → ⊥)
 
-  fact-tested : (b : Bool) (a : ℕ) (P : Type 0) → (b ≡ true) ↔ P → Tested P (Without a P) (if b then checked 0 0 else checked a 0)
+  pub fact-tested : (b : Bool) (a : ℕ) (P : Type 0) → (b ≡ true) ↔ P → Tested P (Without a P) (if b then checked 0 0 else checked a 0)
   fact-tested true a P f = passed (f .0 refl)
   fact-tested false a P f = refusing a 0 (refl, refl, λ x. false≢true (f .1 x))
 
-  fact-test : (a : ℕ) (P : Type 0) → 0 < a → Test P (Without a P)
+  pub fact-test : (a : ℕ) (P : Type 0) → 0 < a → Test P (Without a P)
   fact-test a P l = record {
     some = λ n p y. omega (arith, y .0);
     not-both = λ n p y x. y .2 x;
@@ -120,25 +120,25 @@ module _ (W : ℕ) where
       (below-or-from p q)
 
   -- a pair whose second part is the same fact in other words, where the first holds
-  under : {A P B C : Type 0} → A ↔ (P × B) → (P → B ↔ C) → A ↔ (P × C)
+  pub under : {A P B C : Type 0} → A ↔ (P × B) → (P → B ↔ C) → A ↔ (P × C)
   under f g = (λ x. (f .0 x .0, g (f .0 x .0) .0 (f .0 x .1)), λ y. f .1 (y .0, g (y .0) .1 (y .1)))
 
   -- the same under a fact that stays
-  within : {P B C : Type 0} → (P → B ↔ C) → (P × B) ↔ (P × C)
+  pub within : {P B C : Type 0} → (P → B ↔ C) → (P × B) ↔ (P × C)
   within g = (λ x. (x .0, g (x .0) .0 (x .1)), λ y. (y .0, g (y .0) .1 (y .1)))
 
   -- a search for the lowest bad number, with the answer a
-  abbrev LowestBad : ℕ → (ℕ → Bool) → ℕ → ℕ → ℕ → Type 0
+  abbrev pub LowestBad : ℕ → (ℕ → Bool) → ℕ → ℕ → ℕ → Type 0
   LowestBad a good m n p = (n ≡ a) × Lowest good m p
 
-  lowest-test : (a : ℕ) (good : ℕ → Bool) (m : ℕ) → 0 < a → Test (AllGood good m) (LowestBad a good m)
+  pub lowest-test : (a : ℕ) (good : ℕ → Bool) (m : ℕ) → 0 < a → Test (AllGood good m) (LowestBad a good m)
   lowest-test a good m l = record {
     some = λ n p y. omega (arith, y .0);
     not-both = λ n p y. lowest-not-all good m p (y .1);
     one = λ n p k q y z j. record { answer = (y .0 ∙ sym (z .0)) j; place = lowest-one good m p q (y .1) (z .1) j };
   }
 
-  lowest-tested : (a : ℕ) (good : ℕ → Bool) (m : ℕ) → Tested (AllGood good m) (LowestBad a good m) (found a (rejected good 0 m))
+  pub lowest-tested : (a : ℕ) (good : ℕ → Bool) (m : ℕ) → Tested (AllGood good m) (LowestBad a good m) (found a (rejected good 0 m))
   lowest-tested a good m = go (rejected good 0 m) refl
     where
       go : (o : Option ℕ) → rejected good 0 m ≡ o → Tested (AllGood good m) (LowestBad a good m) (found a o)
@@ -150,7 +150,7 @@ module _ (W : ℕ) where
   nothing-refused = record { some = λ n p y. absurd y; not-both = λ n p y x. y; one = λ n p m q y. absurd y }
 
   -- one test after another, in whichever way they are put together
-  in-turn : (c d e : Checked) → orElse (orElse c d) e ≡ orElse c (orElse d e)
+  pub in-turn : (c d e : Checked) → orElse (orElse c d) e ≡ orElse c (orElse d e)
   in-turn c d e = go (eqb (c .answer) 0) refl
     where
       go : (z : Bool) → eqb (c .answer) 0 ≡ z → orElse (orElse c d) e ≡ orElse c (orElse d e)
@@ -274,7 +274,7 @@ module _ (W : ℕ) where
           ),
     )
 
-    start-plain : (startFits (i .table) (i .bindings) (i .mark) (i .start) (i .subject) ≡ true) ↔ StartFits i
+    pub start-plain : (startFits (i .table) (i .bindings) (i .mark) (i .start) (i .subject) ≡ true) ↔ StartFits i
     unfolding startFits
     start-plain = (
       λ h.
@@ -544,7 +544,7 @@ module _ (W : ℕ) where
       go true q e = (eqb-true _ _ q, e)
       go false q e = absurd (eqb-false _ _ q e)
 
-  zero-passes : {P : Type 0} {B : ℕ → ℕ → Type 0} (T : Test P B) {c : Checked} → Tested P B c → c .answer ≡ 0 → P
+  pub zero-passes : {P : Type 0} {B : ℕ → ℕ → Type 0} (T : Test P B) {c : Checked} → Tested P B c → c .answer ≡ 0 → P
   zero-passes T (passed x) e = x
   zero-passes T (refusing n p y) e = absurd (omega (arith, T .some n p y, e))
 

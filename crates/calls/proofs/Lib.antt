@@ -8,3 +8,4 @@ pub mod Subjects
 pub mod Small
 pub mod Uses
 pub mod IndexedTurns
+pub mod Sharing

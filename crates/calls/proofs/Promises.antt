@@ -91,10 +91,10 @@ module _ (W : ℕ) where
     turned-away e = rw e
 
   -- a run's own answers
-  abbrev OfRun : ℕ → Type 0
+  abbrev pub OfRun : ℕ → Type 0
   OfRun n = (n ≤ 1) ⊎ (((6 ≤ n) × (n ≤ 8)) ⊎ (n ≡ 12))
 
-  of-run : (i : Input) (r : Ran ℕ) → OfRun (returnedBy W i r .answer)
+  pub of-run : (i : Input) (r : Ran ℕ) → OfRun (returnedBy W i r .answer)
   unfolding returnedBy number
   of-run i (ended k b s u) = inl (omega arith)
   of-run i (lost w u) = inl (omega arith)

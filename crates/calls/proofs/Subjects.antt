@@ -137,28 +137,28 @@ module _ (W : ℕ) where
 
   -- ---- which refusal
 
-  fits-back : (g : Option (List ℕ)) → LentFits W g → promises.SignatureFits g
+  pub fits-back : (g : Option (List ℕ)) → LentFits W g → promises.SignatureFits g
   fits-back none f = tt
   fits-back (some g) f = f
 
-  fits-lent : (g : Option (List ℕ)) → promises.SignatureFits g → LentFits W g
+  pub fits-lent : (g : Option (List ℕ)) → promises.SignatureFits g → LentFits W g
   fits-lent none f = tt
   fits-lent (some g) f = f
 
-  obeys-back : (g : Option (List ℕ)) (i : Input) → EntriesObey W g i → NodesObey W g i → promises.Obeys g i
+  pub obeys-back : (g : Option (List ℕ)) (i : Input) → EntriesObey W g i → NodesObey W g i → promises.Obeys g i
   obeys-back none i e n = tt
   obeys-back (some g) i e n = (e, n)
 
-  obeys-entries : (g : Option (List ℕ)) (i : Input) → promises.Obeys g i → EntriesObey W g i
+  pub obeys-entries : (g : Option (List ℕ)) (i : Input) → promises.Obeys g i → EntriesObey W g i
   obeys-entries none i o = tt
   obeys-entries (some g) i o = o .0
 
-  obeys-nodes : (g : Option (List ℕ)) (i : Input) → promises.Obeys g i → NodesObey W g i
+  pub obeys-nodes : (g : Option (List ℕ)) (i : Input) → promises.Obeys g i → NodesObey W g i
   obeys-nodes none i o = tt
   obeys-nodes (some g) i o = o .1
 
   module _ (g : Option (List ℕ)) (c : Module) where
-    starts-plain : (startsFit (c .table) (c .bindings) (c .mark) (c .start) (c .subjects) ≡ true) ↔ StartsFit c
+    pub starts-plain : (startsFit (c .table) (c .bindings) (c .mark) (c .start) (c .subjects) ≡ true) ↔ StartsFit c
     unfolding startsFit
     starts-plain = (
       λ h.

@@ -7,4 +7,5 @@ pub mod Indexed
 pub mod Promises
 pub mod Signed
 pub mod Subjects
+pub mod Sharing
 pub mod Uses
