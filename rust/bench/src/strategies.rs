@@ -40,6 +40,11 @@ pub fn seq(of: Vec<Tree>) -> Tree {
     nested(kind::SEQ, of)
 }
 
+/// CHOICEs of one or more strategies, nested to the right.
+pub fn choice(of: Vec<Tree>) -> Tree {
+    nested(kind::CHOICE, of)
+}
+
 /// LEFTs of one or more strategies, nested to the right.
 pub fn left(of: Vec<Tree>) -> Tree {
     nested(kind::LEFT, of)
@@ -66,6 +71,11 @@ pub fn path(position: u32, of: Tree) -> Tree {
     Entry(kind::PATH, position.into(), vec![of])
 }
 
+/// CONG of a constructor, with a strategy for each child.
+pub fn cong(constructor: u32, of: Vec<Tree>) -> Tree {
+    Entry(kind::CONG, constructor.into(), of)
+}
+
 /// ALL of a strategy.
 pub fn all(of: Tree) -> Tree {
     Entry(kind::ALL, 0, vec![of])
@@ -79,6 +89,22 @@ pub fn one(of: Tree) -> Tree {
 /// MATCH of a pattern.
 pub fn matching(pattern: Tree) -> Tree {
     Entry(kind::MATCH, 0, vec![pattern])
+}
+
+/// BUILD of a pattern.
+pub fn build(pattern: Tree) -> Tree {
+    Entry(kind::BUILD, 0, vec![pattern])
+}
+
+/// WHERE of a strategy.
+pub fn within(of: Tree) -> Tree {
+    Entry(kind::WHERE, 0, vec![of])
+}
+
+/// SCOPE of some variables.
+pub fn scope(variables: &[u32], of: Tree) -> Tree {
+    let mask = variables.iter().fold(0, |mask, number| mask | 1 << number);
+    Entry(kind::SCOPE, mask, vec![of])
 }
 
 /// A variable.
@@ -95,8 +121,8 @@ pub fn con(constructor: u32, of: Vec<Tree>) -> Tree {
 pub fn rule(from: Tree, to: Tree) -> Tree {
     let mut mask = 0;
     variables(&from, &mut mask);
-    let build = Entry(kind::BUILD, 0, vec![to]);
-    Entry(kind::SCOPE, mask, vec![seq(vec![matching(from), build])])
+    let body = seq(vec![matching(from), build(to)]);
+    Entry(kind::SCOPE, mask, vec![body])
 }
 
 fn variables(pattern: &Tree, mask: &mut u64) {
@@ -111,11 +137,15 @@ fn variables(pattern: &Tree, mask: &mut u64) {
 }
 
 /// A strategy run many times over, each time on the term as it was given. The
-/// strategy is a REC, and from the second time on it is called by its name.
+/// strategy is a REC, and from the second time on it is called by its name. With
+/// one time an ID comes after it, so that the REC is the same entry for all times.
 pub fn repeated(times: usize, name: &'static str, body: Tree) -> Tree {
     let mut runs = vec![test(rec(name, body))];
     for _ in 1..times {
         runs.push(test(call(name)));
+    }
+    if times == 1 {
+        runs.push(id());
     }
     seq(runs)
 }

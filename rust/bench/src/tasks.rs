@@ -7,8 +7,8 @@
 #![forbid(unsafe_code)]
 
 use crate::strategies::{
-    all, call, con, id, left, matching, not, one, path, rec, repeated, rule, seq, table, test, var,
-    Tree,
+    all, build, call, choice, con, cong, id, left, matching, not, one, path, rec, repeated, rule,
+    scope, seq, table, test, var, within, Tree,
 };
 use crate::terms::{Dice, Terms};
 
@@ -58,7 +58,14 @@ impl Task {
     }
 }
 
-/// The seven tasks in the order of the report.
+/// The eight tasks in the order of the report.
+pub fn eight() -> Vec<Task> {
+    let mut tasks = seven();
+    tasks.push(full_size_pruner());
+    tasks
+}
+
+/// The first seven, each of less than ten million visits.
 pub fn seven() -> Vec<Task> {
     vec![
         traversal(),
@@ -336,6 +343,184 @@ fn simplifier() -> Task {
     ]);
     let about = "simplifies truth values by eighteen rules, innermost first, until none applies";
     Task::new("innermost simplifier", about, 2, body, terms, parts[0])
+}
+
+/// A module: its definitions, and calls of what is needed from outside.
+pub const MODULE: u32 = 60;
+/// Two trees of definitions in one.
+pub const NODE: u32 = 61;
+/// A definition: its name and its body.
+pub const DEFINITION: u32 = 62;
+/// A definition that is known to be needed.
+const LIVE: u32 = 63;
+/// What stands for a dropped definition until its NODE goes too.
+const GONE: u32 = 64;
+/// Two bodies in one.
+pub const BOTH: u32 = 65;
+/// A body that calls a name.
+pub const CALLS: u32 = 66;
+/// A body that calls nothing.
+pub const RETURN: u32 = 67;
+/// Bodies to look at, and a tree of definitions.
+const PAIR: u32 = 68;
+
+/// The name of a definition, by its number.
+const OWN: u32 = 1_000;
+/// The name of something that is not of the module.
+const FOREIGN: u32 = 3_000;
+/// How many definitions there are.
+const DEFINITIONS: u32 = 1_200;
+/// How many of them make a layer. What is needed calls itself and later layers, so
+/// calls are followed sixteen deep at most, and the nesting stays below 4,096.
+const LAYER: u32 = 75;
+/// The leaves of a body.
+const LEAVES: u32 = 13;
+
+/// A name that a definition calls: its own, one of the three layers after its own,
+/// or a foreign one. Every fifth definition is called by its like alone and calls any.
+fn called(dice: &mut Dice, caller: u32) -> u32 {
+    let later = (caller / LAYER + 1) * LAYER;
+    match dice.below(12) {
+        0 => FOREIGN + dice.below(50),
+        1 => OWN + caller,
+        _ if caller % 5 == 4 => OWN + dice.below(DEFINITIONS),
+        _ if later == DEFINITIONS => FOREIGN + dice.below(50),
+        _ => {
+            let span = (3 * LAYER).min(DEFINITIONS - later);
+            OWN + later + 5 * dice.below(span / 5) + dice.below(4)
+        }
+    }
+}
+
+/// A body of some leaves, each a call of a name that is given, or a return.
+fn calling(
+    terms: &mut Terms,
+    dice: &mut Dice,
+    leaves: u32,
+    name: &dyn Fn(&mut Dice) -> u32,
+) -> u32 {
+    if leaves > 1 {
+        let one = calling(terms, dice, leaves - leaves / 2, name);
+        let other = calling(terms, dice, leaves / 2, name);
+        return terms.node(BOTH, &[one, other]);
+    }
+    if dice.below(12) == 0 {
+        return terms.node(RETURN, &[]);
+    }
+    let name = name(dice);
+    let name = terms.node(name, &[]);
+    terms.node(CALLS, &[name])
+}
+
+/// A balanced tree of the definitions of a span of numbers.
+fn definitions(terms: &mut Terms, dice: &mut Dice, first: u32, count: u32) -> u32 {
+    if count > 1 {
+        let half = count - count / 2;
+        let one = definitions(terms, dice, first, half);
+        let other = definitions(terms, dice, first + half, count / 2);
+        return terms.node(NODE, &[one, other]);
+    }
+    let name = terms.node(OWN + first, &[]);
+    let body = calling(terms, dice, LEAVES, &|dice| called(dice, first));
+    terms.node(DEFINITION, &[name, body])
+}
+
+/// A walk through a balanced tree to the first definition where a strategy succeeds.
+fn at_first(name: &'static str, there: Tree) -> Tree {
+    rec(
+        name,
+        choice(vec![
+            there,
+            cong(NODE, vec![call(name), id()]),
+            cong(NODE, vec![id(), call(name)]),
+        ]),
+    )
+}
+
+/// On a module: what nothing reaches goes. Each name that is called by something
+/// needed is looked up, once for each call; what it names becomes LIVE, and its body
+/// is looked at in turn.
+fn reachable() -> Tree {
+    let (name, body, work, rest, before, after) = (0, 1, 2, 3, 4, 5);
+    let definition = || con(DEFINITION, vec![var(name), var(body)]);
+    let live = || con(LIVE, vec![var(name), var(body)]);
+    let pair = |bodies: Tree, definitions: u32| con(PAIR, vec![bodies, var(definitions)]);
+    // The name has a definition that is not yet live, and here is its body. Most
+    // have none, and then every leaf of the tree is tried.
+    let find = at_first("find", matching(definition()));
+    let mark = at_first("mark", seq(vec![matching(definition()), build(live())]));
+    // From a PAIR to its definitions, with those that its bodies reach LIVE.
+    let reach = rec(
+        "reach",
+        left(vec![
+            scope(
+                &[work, rest, before, after],
+                seq(vec![
+                    matching(pair(con(BOTH, vec![var(work), var(rest)]), before)),
+                    build(pair(var(work), before)),
+                    call("reach"),
+                    matching(var(after)),
+                    build(pair(var(rest), after)),
+                    call("reach"),
+                ]),
+            ),
+            scope(
+                &[name, body, before],
+                seq(vec![
+                    matching(pair(con(CALLS, vec![var(name)]), before)),
+                    within(seq(vec![build(var(before)), find])),
+                    build(pair(var(body), before)),
+                    path(2, mark),
+                    call("reach"),
+                ]),
+            ),
+            // A return, or a call of what is live or foreign.
+            rule(pair(var(work), before), var(before)),
+        ]),
+    );
+    let gone = || con(GONE, vec![]);
+    let drop = rec(
+        "drop",
+        left(vec![
+            rule(live(), definition()),
+            rule(definition(), gone()),
+            seq(vec![
+                all(call("drop")),
+                left(vec![
+                    rule(con(NODE, vec![gone(), var(rest)]), var(rest)),
+                    rule(con(NODE, vec![var(rest), gone()]), var(rest)),
+                    id(),
+                ]),
+            ]),
+        ]),
+    );
+    scope(
+        &[work, before, after],
+        seq(vec![
+            matching(con(MODULE, vec![var(before), var(work)])),
+            build(pair(var(work), before)),
+            reach,
+            drop,
+            matching(var(after)),
+            build(con(MODULE, vec![var(after), var(work)])),
+        ]),
+    )
+}
+
+/// The pruner of full size.
+pub fn full_size_pruner() -> Task {
+    let mut terms = Terms::new();
+    let mut dice = Dice::new(25);
+    let all = definitions(&mut terms, &mut dice, 0, DEFINITIONS);
+    let needed = calling(&mut terms, &mut dice, LEAVES, &|dice| {
+        OWN + 5 * dice.below(LAYER / 5) + dice.below(4)
+    });
+    let subject = terms.node(MODULE, &[all, needed]);
+    let about =
+        "follows calls through a balanced tree of 1,200 definitions, looks each name up by \
+                 a `find` that fails at most leaves, and drops the 330 definitions that nothing \
+                 reaches";
+    Task::new("full-size pruner", about, 1, reachable(), terms, subject)
 }
 
 // ---- how the time grows
