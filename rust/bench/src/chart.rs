@@ -1,4 +1,4 @@
-//! The picture: seven tasks, three bars each, as an SVG.
+//! The picture: eight tasks, three bars each, as an SVG.
 
 #![forbid(unsafe_code)]
 

@@ -1,4 +1,4 @@
-//! The benchmark of the interpreter: three engines, seven tasks, one run.
+//! The benchmark of the interpreter: three engines, eight tasks, one run.
 //!
 //! The files in reading order: `strategies` and `terms` (how a task's words are
 //! made), `tasks`, `foreign` (the archive's functions and a clock), `optimised`

@@ -1,10 +1,10 @@
-//! The seven tasks in Maude, where it is installed.
+//! The eight tasks in Maude, where it is installed.
 //!
 //! For each task a module is written and given to the program `maude`. The
-//! start term goes into it as a string, one character for each node in
-//! post-order, and the first command builds the term by equations. Each further
-//! command does the task so many times and prints its processor time, the term
-//! and the result. Both are compared with ours as a whole.
+//! start term goes into it as a string, one sign for each node in post-order, and
+//! the first command builds the term by equations. Each further command does the
+//! task so many times and prints its processor time, the term and the result. Both
+//! are compared with ours as a whole.
 //!
 //! A constructor 5 is `q5` in the start term and `c5` in a result. There are no
 //! equations for a `q`. The equations for `work` copy a term from the one to the
@@ -26,7 +26,7 @@ use std::time::{Duration, Instant};
 /// How often each task is timed; the best counts.
 pub const ROUNDS: usize = 3;
 /// How long one run of Maude may take.
-const PATIENCE: Duration = Duration::from_secs(20);
+const PATIENCE: Duration = Duration::from_secs(60);
 
 /// What Maude says of a task.
 pub struct Timed {
@@ -64,7 +64,7 @@ struct Program {
     /// How many times more often than by us the work is done in one command.
     /// Maude prints whole milliseconds, and what it leaves out should not count.
     more: usize,
-    /// Whether the result is the start term itself.
+    /// Whether the result is the start term itself, or made of parts of it.
     keeps: bool,
     /// Heads that are not in the start term.
     heads: &'static [Head],
@@ -180,6 +180,40 @@ fn program(name: &str) -> Option<Program> {
   eq c45(X1, X2, X2) = X2 .
 ",
         },
+        "full-size pruner" => Program {
+            about: "a function looks a name up in the tree and answers its body or none; another \
+                    goes through the whole tree and makes the definition live",
+            more: 1,
+            keeps: true,
+            heads: &[(63, 2), (64, 0)],
+            copies: |_| false,
+            lines: "
+  ops seek mark reach : Term Term -> Term .
+  ops elsewhere follow : Term Term Term -> Term .
+  op drop : Term -> Term .
+  op join : Term Term -> Term .
+  eq work(q60(X1, X2)) = q60(drop(reach(X2, X1)), X2) .
+  eq reach(q65(X1, X2), X3) = reach(X2, reach(X1, X3)) .
+  eq reach(q66(X1), X2) = follow(seek(X1, X2), X1, X2) .
+  eq reach(q67, X1) = X1 .
+  eq follow(none, X1, X2) = X2 .
+  eq follow(X3, X1, X2) = reach(X3, mark(X1, X2)) [owise] .
+  eq seek(X1, q61(X2, X3)) = elsewhere(seek(X1, X2), X1, X3) .
+  eq seek(X1, q62(X1, X2)) = X2 .
+  eq seek(X1, X2) = none [owise] .
+  eq elsewhere(none, X1, X2) = seek(X1, X2) .
+  eq elsewhere(X3, X1, X2) = X3 [owise] .
+  eq mark(X1, q61(X2, X3)) = q61(mark(X1, X2), mark(X1, X3)) .
+  eq mark(X1, q62(X1, X2)) = q63(X1, X2) .
+  eq mark(X1, X2) = X2 [owise] .
+  eq drop(q61(X1, X2)) = join(drop(X1), drop(X2)) .
+  eq drop(q62(X1, X2)) = q64 .
+  eq drop(q63(X1, X2)) = q62(X1, X2) .
+  eq join(q64, X1) = X1 .
+  eq join(X1, q64) = X1 .
+  eq join(X1, X2) = q61(X1, X2) [owise] .
+",
+        },
         _ => return None,
     };
     Some(found)
@@ -225,14 +259,32 @@ fn over<F: Fn(usize) -> String>(letter: char, head: Head, operand: F) -> String 
     format!("{}({})", name, operands.join(", "))
 }
 
-/// The characters that stand for heads.
+/// The characters of signs.
 fn characters() -> impl Iterator<Item = char> {
     ('!'..='~').filter(|sign| !"\"\\".contains(*sign))
 }
 
+/// So many signs, each for a head: all of one character where there are as many, or
+/// else all of two. None where those are too few.
+fn signs(count: usize) -> Option<Vec<String>> {
+    let mut signs: Vec<String> = characters().map(String::from).collect();
+    if signs.len() < count {
+        let with = |first: &str, next: char| format!("{}{}", first, next);
+        let pairs = signs
+            .iter()
+            .flat_map(|first| characters().map(move |next| with(first, next)));
+        signs = pairs.collect();
+    }
+    if signs.len() < count {
+        return None;
+    }
+    signs.truncate(count);
+    Some(signs)
+}
+
 // ---- the module
 
-/// What is the same in each module.
+/// What is the same in each module but for the characters of a sign.
 const COMMON: &str = "
   op none : -> Term .
   op empty : -> Stack .
@@ -245,7 +297,7 @@ const COMMON: &str = "
   op state : Term Term -> State [frozen] .
   op work : Term -> Term .
   op loop : Nat Term Term -> Term .
-  eq read(N, S, K) = if N == length(S) then K else read(N + 1, S, step(substr(S, N, 1), K)) fi .
+  eq read(N, S, K) = if N == length(S) then K else read(N + LENGTH, S, step(substr(S, N, LENGTH), K)) fi .
   eq built(push(X1, empty)) = state(X1, none) .
   eq loop(0, X1, X2) = X2 .
   eq loop(s(N), X1, X2) = loop(N, X1, work(X1)) .
@@ -265,14 +317,14 @@ fn module(
     let mut heads = order.clone();
     heads.sort_unstable();
     heads.dedup();
-    let signs: Vec<(Head, char)> = heads.iter().copied().zip(characters()).collect();
-    if signs.len() < heads.len() {
-        return Err("its term has more heads than there are characters for".to_string());
-    }
+    let signs = match signs(heads.len()) {
+        Some(signs) => signs,
+        None => return Err("its term has more heads than there are signs for".to_string()),
+    };
     let mut text = String::from("mod TASK is\n  protecting STRING .\n  sorts Term Stack State .\n");
     text.push_str("  vars X1 X2 X3 X4 X5 X6 : Term .\n");
     text.push_str("  var K : Stack .\n  var S : String .\n  var N : Nat .\n");
-    text.push_str(COMMON);
+    text.push_str(&COMMON.replace("LENGTH", &signs[0].len().to_string()));
     for head in heads.iter().chain(program.heads) {
         let sorts = "Term ".repeat(head.1);
         for letter in ['q', 'c'] {
@@ -280,7 +332,7 @@ fn module(
         }
     }
     let variable = |place| format!("X{}", place);
-    for &(head, sign) in &signs {
+    for (&head, sign) in heads.iter().zip(&signs) {
         // The last child is on top of the stack.
         let stack = (1..=head.1).fold("K".to_string(), |rest, place| {
             format!("push(X{}, {})", place, rest)
@@ -303,7 +355,7 @@ fn module(
     text.push_str("  eq text = \"");
     for head in &order {
         let place = heads.binary_search(head).expect("each head is among them");
-        text.push(signs[place].1);
+        text.push_str(&signs[place]);
     }
     text.push_str("\" .\nendm\nrewrite [1] begin .\n");
     text.push_str(&"continue 1 .\n".repeat(rounds));
@@ -495,8 +547,8 @@ pub fn beside(tasks: &[Task]) -> Option<Maude> {
 
 #[cfg(test)]
 mod tests {
-    use super::{characters, judged, module, print, program, spent, Program};
-    use crate::tasks::seven;
+    use super::{characters, judged, module, print, program, signs, spent, Program};
+    use crate::tasks::eight;
     use crate::terms::Terms;
 
     /// A program that copies.
@@ -506,7 +558,7 @@ mod tests {
 
     #[test]
     fn each_task_has_a_program() {
-        for task in seven() {
+        for task in eight() {
             assert!(program(&task.name).is_some(), "{}", task.name);
         }
     }
@@ -559,15 +611,38 @@ mod tests {
         assert!(text.ends_with(end));
     }
 
-    #[test]
-    fn too_many_heads_are_refused() {
+    /// The module of a term with so many heads.
+    fn with_heads(count: u32) -> Result<String, String> {
         let mut terms = Terms::new();
         let mut term = terms.node(0, &[]);
-        for constructor in 1..93 {
+        for constructor in 1..count {
             term = terms.node(constructor, &[term]);
         }
-        let store = terms.store(93);
-        assert!(module(&store, term, &copying(), 1, 1).is_err());
+        let store = terms.store(count as usize);
+        module(&store, term, &copying(), 1, 1)
+    }
+
+    #[test]
+    fn a_sign_has_as_many_characters_as_are_needed() {
+        let text = with_heads(92).expect("there are as many characters");
+        assert!(text.contains("read(N + 1, S, step(substr(S, N, 1), K))"));
+        assert!(text.contains("  eq step(\"~\", push(X1, K)) = push(q91(X1), K) .\n"));
+        let text = with_heads(93).expect("there are as many pairs of characters");
+        assert!(text.contains("read(N + 2, S, step(substr(S, N, 2), K))"));
+        assert!(text.contains("  eq step(\"!!\", K) = push(q0, K) .\n"));
+        assert!(text.contains("  eq step(\"#!\", push(X1, K)) = push(q92(X1), K) .\n"));
+        assert!(text.contains("  eq text = \"!!!#!$"));
+    }
+
+    #[test]
+    fn too_many_heads_are_refused() {
+        let most = 92 * 92;
+        let mut all = signs(most).expect("there are as many pairs of characters");
+        all.sort();
+        all.dedup();
+        assert_eq!(all.len(), most);
+        assert!(signs(most + 1).is_none());
+        assert!(with_heads(most as u32 + 1).is_err());
     }
 
     /// An output of two rounds with this result.

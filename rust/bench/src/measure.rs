@@ -6,7 +6,7 @@ use crate::engines::{agreed, Run, ENGINES};
 use crate::foreign::processor_time;
 use crate::maude::{self, Maude};
 use crate::optimised;
-use crate::tasks::{by_entries, by_nodes, by_units, seven, Task};
+use crate::tasks::{by_entries, by_nodes, by_units, eight, Task};
 use crate::terms::Terms;
 use crate::whole_module::{self, Whole};
 
@@ -53,7 +53,7 @@ pub struct Cost {
 
 /// All that is measured.
 pub struct All {
-    /// The seven tasks.
+    /// The eight tasks.
     pub tasks: Vec<Measured>,
     /// The same tasks in Maude, where it is installed.
     pub maude: Option<Maude>,
@@ -184,7 +184,7 @@ pub fn all(rounds: usize) -> All {
     let several = |tasks: &[Task], rounds| -> Vec<Measured> {
         tasks.iter().map(|task| measure(task, rounds)).collect()
     };
-    let tasks = seven();
+    let tasks = eight();
     All {
         tasks: several(&tasks, rounds),
         maude: maude::beside(&tasks),

@@ -204,9 +204,9 @@ fn beside(page: &mut String, maude: &Maude, tasks: &[Measured]) {
         "Each task is a module of Maude and has a process of its own. It has our start term, handed \
          over as a string and built by equations before the time starts. Maude prints the term and \
          its result, and both are compared with ours as a whole. Its time is the processor time that \
-         it prints, the best of {}. It prints whole milliseconds, so one command does the task more \
+         it prints, the best of {}. It prints whole milliseconds, so one command does a short task more \
          often than our run, and time and rewrites are divided. So its figure is a mean of several, \
-         where ours is the best single run.",
+         where ours is the best single run. The full-size pruner is no short task.",
         maude::ROUNDS
     );
     line!(page);
@@ -306,7 +306,7 @@ pub fn page(all: &All, machine: &Machine) -> String {
          compared. They were equal on every task below."
     );
     line!(page);
-    line!(page, "## Seven tasks");
+    line!(page, "## Eight tasks");
     line!(page);
     line!(page, "![Million visits a second](benchmark.svg)");
     line!(page);
@@ -357,13 +357,11 @@ pub fn page(all: &All, machine: &Machine) -> String {
     line!(page, "What each task does:");
     line!(page);
     for task in &all.tasks {
-        line!(
-            page,
-            "- {}: {}, {} times in a run.",
-            task.name,
-            task.about,
-            task.times
-        );
+        let times = match task.times {
+            1 => "once".to_string(),
+            several => format!("{} times", several),
+        };
+        line!(page, "- {}: {}, {} in a run.", task.name, task.about, times);
     }
     line!(page);
     line!(
@@ -543,8 +541,10 @@ mod tests {
 
     #[test]
     fn without_maude() {
+        let mut other = measured("other");
+        other.times = 2;
         let all = All {
-            tasks: vec![measured("one")],
+            tasks: vec![measured("one"), other],
             maude: None,
             costs: Vec::new(),
             whole: Whole {
@@ -567,6 +567,8 @@ mod tests {
             pinned: false,
         };
         let text = page(&all, &machine);
+        assert!(text.contains("- one: , once in a run."));
+        assert!(text.contains("- other: , 2 times in a run."));
         assert!(text.contains("- Maude is not installed here. It was not run."));
         assert!(!text.contains("## Maude"));
     }
