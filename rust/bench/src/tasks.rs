@@ -60,13 +60,6 @@ impl Task {
 
 /// The eight tasks in the order of the report.
 pub fn eight() -> Vec<Task> {
-    let mut tasks = seven();
-    tasks.push(full_size_pruner());
-    tasks
-}
-
-/// The first seven, each of less than ten million visits.
-pub fn seven() -> Vec<Task> {
     vec![
         traversal(),
         bottom_up(),
@@ -75,6 +68,7 @@ pub fn seven() -> Vec<Task> {
         pruner(),
         fibonacci(15, 48),
         simplifier(),
+        full_size_pruner(),
     ]
 }
 

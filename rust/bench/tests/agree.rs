@@ -120,7 +120,7 @@ fn fibonacci_of_fifteen_is_610() {
 #[test]
 fn tasks_are_as_large_as_they_say() {
     with_big_stack(|| {
-        let sizes: Vec<(u32, u32)> = tasks::seven()
+        let sizes: Vec<(u32, u32)> = tasks::eight()
             .iter()
             .map(|task| (task.mark, once(task).0[3]))
             .collect();

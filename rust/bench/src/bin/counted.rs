@@ -1,4 +1,4 @@
-//! `counted`: the seven tasks with counts, in parts of the speed of `run`, beside a
+//! `counted`: the eight tasks with counts, in parts of the speed of `run`, beside a
 //! run in one step. It prints a row for each task, the best of some rounds, the
 //! calls in turn; each call leaves the store that `run` leaves, and the counts make
 //! the units. Then a walk over so many nodes with an index and counts, where each
@@ -8,7 +8,7 @@
 
 use bench::foreign::{self, processor_time, WORK_WORDS};
 use bench::strategies::{all, call, rec, table};
-use bench::tasks::{seven, Task};
+use bench::tasks::{eight, Task};
 use bench::terms::Terms;
 
 const ROUNDS: usize = 5;
@@ -65,7 +65,7 @@ fn measure() {
     println!("|---|---|---|---|");
     let mut work = vec![0; WORK_WORDS];
     let mut logs = [0.0; WAYS.len()];
-    let tasks = seven();
+    let tasks = eight();
     for task in &tasks {
         let mut store = task.store.clone();
         let mut best = [f64::INFINITY; WAYS.len()];

@@ -1,4 +1,4 @@
-//! `indexed [ROUNDS]`: the seven tasks with an index beside the plain run, each on
+//! `indexed [ROUNDS]`: the eight tasks with an index beside the plain run, each on
 //! its store with equal terms merged; and a store whose keys all fall together.
 //! Both have the same term and units; marks and times are printed.
 
@@ -125,7 +125,7 @@ fn main() {
         word.parse().expect("the word is a number of rounds")
     });
     twin::with_big_stack(move || {
-        for task in tasks::seven() {
+        for task in tasks::eight() {
             let given = merged(&task.store, task.mark, task.subject);
             compare(&task.name, &task.table, &given, 0, task.units, rounds);
             compare(

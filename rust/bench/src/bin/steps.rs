@@ -1,4 +1,4 @@
-//! `steps`: the seven tasks as runs in steps, in parts of the speed of `run`. It
+//! `steps`: the eight tasks as runs in steps, in parts of the speed of `run`. It
 //! prints a row for each task: in one step, and in steps of 1,000,000, 1,000 and 1
 //! visits, the best of some rounds, the calls in turn.
 //!
@@ -15,7 +15,7 @@
 #![forbid(unsafe_code)]
 
 use bench::foreign::{self, processor_time, WORK_WORDS};
-use bench::tasks::{seven, Task};
+use bench::tasks::{eight, Task};
 use std::collections::BTreeMap;
 use twin::generate::run_case;
 use twin::random::Random;
@@ -45,7 +45,7 @@ fn measure() {
     println!("|---|---|---|---|---|---|");
     let mut work = vec![0; WORK_WORDS];
     let mut logs = [0.0; SIZES.len()];
-    let tasks = seven();
+    let tasks = eight();
     for task in &tasks {
         let mut store = task.store.clone();
         let mut best = [f64::INFINITY; SIZES.len() + 1];
