@@ -134,7 +134,7 @@ fn operands_fault(table: &[u32], e: u32, k: u32, n: u32) -> u32
 }
 
 // What is wrong with entry e, the first in the order of 13 to 17; 0 where nothing is.
-pub fn entry_fault(table: &[u32], e: u32) -> u32
+fn entry_fault(table: &[u32], e: u32) -> u32
     ensures { λ r. ⌜ r ≡ fault (now (table .entry)) e ⌝ }
 {
     let w = word(table, e, 0);

@@ -29,7 +29,7 @@ fn children_below(store: &[u32], k: u32, n: u32) -> bool
 }
 
 // Node k is good.
-pub fn node_fits(store: &[u32], k: u32) -> bool
+fn node_fits(store: &[u32], k: u32) -> bool
     ensures { λ r. ⌜ r ≡ goodNode (now (store .entry)) k ⌝ }
 {
     if 65535 < word(store, k, 0) {

@@ -43,7 +43,13 @@ fn mark_children(store: &[u32], work: &mut [u32], k: u32)
 }
 
 // The kept nodes are marked, and no other.
-pub fn mark_reached(store: &[u32], bindings: &[u32], work: &mut [u32], mark: u32, subject: u32)
+pub(crate) fn mark_reached(
+    store: &[u32],
+    bindings: &[u32],
+    work: &mut [u32],
+    mark: u32,
+    subject: u32,
+)
     requires { ⌜ Collectable (lent (now store) (now bindings) (now work) mark subject) ⌝ }
     ensures { λ _. ⌜ Flags (length (now (work .entry))) (kept (now (store .entry)) (now (bindings .entry)) mark subject) (now (work .exit)) ⌝ }
 {

@@ -28,7 +28,7 @@ fn renumbered_row(store: &[u32], work: &[u32], k: u32) -> [u32; 8]
 }
 
 // The marked nodes below the mark are moved. The answer is their number, the new mark.
-pub fn move_kept(store: &mut [u32], work: &mut [u32], mark: u32) -> u32
+pub(crate) fn move_kept(store: &mut [u32], work: &mut [u32], mark: u32) -> u32
     requires { ⌜ Movable (now store) (now work) mark ⌝ }
     ensures { λ r. ⌜ Moved (now (store .entry)) (now (work .entry)) mark r (now (store .exit)) (now (work .exit)) ⌝ }
 {
@@ -47,7 +47,7 @@ pub fn move_kept(store: &mut [u32], work: &mut [u32], mark: u32) -> u32
 }
 
 // Each bound variable gets its node's number in the work list.
-pub fn move_bindings(bindings: &mut [u32], work: &[u32])
+pub(crate) fn move_bindings(bindings: &mut [u32], work: &[u32])
     requires { ⌜ ((v k : ℕ) → getD (now bindings) v 0 ≡ suc k → (k < length (now work)) × (getD (now work) k 0 < 131072)) ⌝ }
     ensures { λ _. ⌜ now (bindings .exit) ≡ map (rebound (λ k. getD (now (work .entry)) k 0)) (now (bindings .entry)) ⌝ }
 {

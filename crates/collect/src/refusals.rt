@@ -26,7 +26,13 @@ fn sizes_fit(store: &[u32], bindings: &[u32], work: &[u32], mark: u32, subject: 
 }
 
 // The refusal, or 0 with place 0.
-pub fn refusal(store: &[u32], bindings: &[u32], work: &[u32], mark: u32, subject: u32) -> Checked
+pub(crate) fn refusal(
+    store: &[u32],
+    bindings: &[u32],
+    work: &[u32],
+    mark: u32,
+    subject: u32,
+) -> Checked
     ensures { λ r. ⌜ r ≡ refusedBy ours (lent (now (store .entry)) (now (bindings .entry)) (now (work .entry)) mark subject) ⌝ }
 {
     if !sizes_fit(store, bindings, work, mark, subject) {

@@ -111,7 +111,7 @@ fn spread(table: &[u32], masks: &mut [u64], turned: bool)
 }
 
 // Spreads the masks for the eight first times, one way and the other in turn. How often that was.
-pub fn spread_again(table: &[u32], masks: &mut [u64], times: u32) -> u32
+pub(crate) fn spread_again(table: &[u32], masks: &mut [u64], times: u32) -> u32
     requires { ⌜ GoodTableBy ours (now table) × (rows (now table) ≤ length (now masks)) × BitsMeant ours (now table) (now masks) ⌝ }
     ensures { λ _. ⌜ Spread ours (now (table .entry)) (now (masks .entry)) (now (masks .exit)) ⌝ }
 {

@@ -59,7 +59,7 @@ fn rule(table: &[u32], masks: &[u64], e: u32) -> u64
 }
 
 // Adds to entry e's mask what its rule gives. Whether the mask grew.
-pub fn grow(table: &[u32], masks: &mut [u64], e: u32) -> bool
+pub(crate) fn grow(table: &[u32], masks: &mut [u64], e: u32) -> bool
     requires { ⌜ Entry (now table) e × (e < length (now masks)) ⌝ }
     ensures { λ r. ⌜ (r ≡ grows ours (now (table .entry)) (now (masks .entry)) e) × (now (masks .exit) ≡ grown ours (now (table .entry)) (now (masks .entry)) e) ⌝ }
 {
@@ -103,7 +103,7 @@ pub fn settle(table: &[u32], masks: &mut [u64])
 }
 
 // The mask of the free variables of the strategy e.
-pub fn mask_of(table: &[u32], e: u32) -> u64
+pub(crate) fn mask_of(table: &[u32], e: u32) -> u64
     requires { ⌜ GoodTableBy ours (now table) × StrategyOf (now table) e ⌝ }
     ensures { λ r. ⌜ MaskOfBy ours (now (table .entry)) e r ⌝ }
 {

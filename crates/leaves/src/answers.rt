@@ -79,7 +79,7 @@ pub fn no_units() -> u64
     UNITS * HALF
 }
 
-pub fn no_room(left: u32) -> u64
+pub(crate) fn no_room(left: u32) -> u64
     ensures { λ r. ⌜ r ≡ roomWord left ⌝ }
 {
     ROOM * HALF + left as u64
@@ -92,7 +92,7 @@ pub fn no_nesting(left: u32) -> u64
 }
 
 // The variable v is to be built and has no binding.
-pub fn no_binding(v: u32, left: u32) -> u64
+pub(crate) fn no_binding(v: u32, left: u32) -> u64
     requires { ⌜ v < 64 ⌝ }
     ensures { λ r. ⌜ r ≡ unboundWord v left ⌝ }
 {
@@ -100,7 +100,7 @@ pub fn no_binding(v: u32, left: u32) -> u64
 }
 
 // What stops a visit for which no nesting is left: the units, which are tested first, where none of them are left either.
-pub fn stopped(left: u32) -> u64
+pub(crate) fn stopped(left: u32) -> u64
     ensures { λ r. ⌜ r ≡ stoppedWord left ⌝ }
 {
     if left == 0 {

@@ -13,7 +13,7 @@ use words::word;
 ghost use Rattle.leaves.specs.Visits.{Compares};
 
 // Whether nodes a and b are the same term. The answer's node means nothing; its units count.
-pub fn same(store: &[u32], a: u32, b: u32, units: u32, deep: u32) -> u64
+pub(crate) fn same(store: &[u32], a: u32, b: u32, units: u32, deep: u32) -> u64
     ensures { λ r. ⌜ Compares (now (store .entry)) a b units deep r ⌝ }
 {
     let mut x = a;

@@ -32,7 +32,7 @@ pub fn kind(table: &[u32; 32768], e: u32) -> u32
     entry(table, e, 0) / 16
 }
 
-pub fn operands(table: &[u32; 32768], e: u32) -> u32
+pub(crate) fn operands(table: &[u32; 32768], e: u32) -> u32
     requires { ⌜ e < 4096 ⌝ }
     ensures { λ r. ⌜ r ≡ operandCount (now (table .entry)) e ⌝ }
 {

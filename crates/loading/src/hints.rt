@@ -76,7 +76,7 @@ fn body_called(table: &[u32], q: u32) -> Hint
 }
 
 // What is known of entry e: of CHOICE and LEFT what their first operand begins with, of ALL and SOME where their operand leads.
-pub fn hint_for(table: &[u32], e: u32) -> Hint
+pub(crate) fn hint_for(table: &[u32], e: u32) -> Hint
     ensures { λ r. ⌜ ((r .1 ≡ 0 → ⊥) → Hints (now (table .entry)) e (r .0) (r .1)) ⌝ }
 {
     let k = kind_of(table, e);

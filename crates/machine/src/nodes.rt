@@ -20,7 +20,7 @@ ghost use Rattle.machine.specs.Stack.{rowAt};
 ghost use Rattle.machine.specs.Machine.{childOr0, Node};
 
 // The eight words of row r; zeros outside the words.
-pub fn row_at(words: &[u32], r: u32) -> [u32; 8]
+pub(crate) fn row_at(words: &[u32], r: u32) -> [u32; 8]
     requires { ⌜ length (now words) % 8 ≡ 0 ⌝ }
     ensures { λ a. ⌜ a ≡ rowAt (now (words .entry)) r ⌝ }
 {
@@ -31,7 +31,7 @@ pub fn row_at(words: &[u32], r: u32) -> [u32; 8]
 }
 
 // The eight words of row r, which lies inside the words.
-pub fn row_inside(words: &[u32], r: u32) -> [u32; 8]
+pub(crate) fn row_inside(words: &[u32], r: u32) -> [u32; 8]
     requires { ⌜ 8 * r + 8 ≤ length (now words) ⌝ }
     ensures { λ a. ⌜ a ≡ rowAt (now (words .entry)) r ⌝ }
 {
@@ -88,14 +88,14 @@ fn standing(store: &[u32], mark: u32, row: [u32; 8]) -> Found
 }
 
 // The node of the constructor c without children, where it stands. What is asked for is told by numbers: a row would be in memory.
-pub fn standing_leaf(store: &[u32], mark: u32, c: u32) -> Found
+pub(crate) fn standing_leaf(store: &[u32], mark: u32, c: u32) -> Found
     ensures { λ f. ⌜ placeOf f ≡ nodeWith (now (store .entry)) (nodeRow c []) mark ⌝ }
 {
     standing(store, mark, padded([c, 0, 0, 0, 0, 0, 0, 0]))
 }
 
 // The node of row r of the list of frames, where it stands.
-pub fn standing_row(store: &[u32], work: &[u32], r: u32, mark: u32) -> Found
+pub(crate) fn standing_row(store: &[u32], work: &[u32], r: u32, mark: u32) -> Found
     requires { ⌜ 8 * r + 8 ≤ length (now work) ⌝ }
     ensures { λ f. ⌜ placeOf f ≡ nodeWith (now (store .entry)) (nodeRow (wordAt (now (work .entry)) r 0) (kids (rowAt (now (work .entry)) r))) mark ⌝ }
 {
@@ -103,7 +103,7 @@ pub fn standing_row(store: &[u32], work: &[u32], r: u32, mark: u32) -> Found
 }
 
 // The node of a row at the mark; no room where the mark equals the store's nodes.
-pub fn put_node(store: &mut [u32], m: Machine, i: u32, row: [u32; 8]) -> Machine
+pub(crate) fn put_node(store: &mut [u32], m: Machine, i: u32, row: [u32; 8]) -> Machine
     requires { ⌜ (length (now store) % 8 ≡ 0) × (length (now store) ≤ 1048576) ⌝ }
     ensures { λ r. ⌜ Node false (now (store .entry)) i m row r (now (store .exit)) ⌝ }
 {

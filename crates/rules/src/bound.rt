@@ -54,7 +54,7 @@ pub fn marks(line: &[u8], from: usize, to: usize, base: u32) -> u64
 }
 
 // Whether a variable of the window is used before it is bound.
-pub fn unbound(line: &[u8], right: usize, conditions: usize, base: u32) -> bool
+pub(crate) fn unbound(line: &[u8], right: usize, conditions: usize, base: u32) -> bool
     requires { ⌜ RuleLine (now line) right conditions ⌝ }
     ensures { λ r. ⌜ LateIn (ruleOf (now (line .entry))) base r ⌝ }
 {

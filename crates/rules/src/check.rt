@@ -18,7 +18,7 @@ pub struct Translated {
     pub field: usize,
 }
 
-pub fn told(used: u32, answer: u32, line: u32, field: usize) -> Translated
+pub(crate) fn told(used: u32, answer: u32, line: u32, field: usize) -> Translated
     ensures { λ r. ⌜ r ≡ toldOf used answer line field ⌝ }
 {
     Translated {
@@ -40,7 +40,7 @@ fn refusal(used: u32, n: u32, got: Line) -> Translated
 }
 
 // The text over a table whose first `used` entries are in use.
-pub fn check_text(table: &[u32], masks: &[u64], used: u32, text: &[u8]) -> Translated
+pub(crate) fn check_text(table: &[u32], masks: &[u64], used: u32, text: &[u8]) -> Translated
     requires { ⌜ (length (now table) ≤ 32768) × (used ≤ rows (now table)) ⌝ }
     ensures { λ r. ⌜ r ≡ textChecked (callable (now (table .entry)) (now (masks .entry)) used) (rows (now (table .entry))) used 1 used (parts 10 (now (text .entry))) ⌝ }
 {

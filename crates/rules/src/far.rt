@@ -198,7 +198,7 @@ fn farther(low: usize, below: usize) -> usize
 
 // 19 where a variable out of range is used too early, else 20. The first pass stands by itself, so that the tree takes stack only
 // where a line has such a variable.
-pub fn far_answer(line: &[u8], right: usize, conditions: usize) -> u32
+pub(crate) fn far_answer(line: &[u8], right: usize, conditions: usize) -> u32
     requires { ⌜ RuleLine (now line) right conditions ⌝ }
     ensures { λ r. ⌜ FarIn (ruleOf (now (line .entry))) r ⌝ }
 {

@@ -16,7 +16,7 @@ pub struct Term {
 }
 
 // The term whose first field begins at `from`.
-pub fn term_at(line: &[u8], from: usize) -> Term
+pub(crate) fn term_at(line: &[u8], from: usize) -> Term
     ensures { λ r. ⌜ r ≡ scanned (fieldsFrom (now (line .entry)) from) 1 from 0 0 ⌝ }
 {
     let mut wanted: usize = 1;

@@ -26,7 +26,7 @@ pub struct Way {
     pub link: usize,
 }
 
-pub fn way_to(keys: &[u32], links: &[u32], v: u32) -> Way
+pub(crate) fn way_to(keys: &[u32], links: &[u32], v: u32) -> Way
     ensures { λ r. ⌜ FoundIn (now (keys .entry)) v (r .found) ⌝ }
 {
     let mut link = 1 + (v % 4096) as usize;
@@ -137,7 +137,7 @@ fn keep_below(keys: &mut [u32], links: &mut [u32], below: usize)
 }
 
 // The tree with v. Where it is full, its greater half goes: it then holds no variable from the returned number on.
-pub fn add(keys: &mut [u32], links: &mut [u32], below: usize, v: u32) -> usize
+pub(crate) fn add(keys: &mut [u32], links: &mut [u32], below: usize, v: u32) -> usize
     ensures { λ r. ⌜ (r ≤ below) × KeepsOr (now (keys .entry)) v (now (keys .exit)) ⌝ }
 {
     let w = way_to(keys, links, v);

@@ -40,7 +40,7 @@ fn any_outside(line: &[u8]) -> bool
 
 // 19 where a variable is used before it is bound, 20 where one is out of range, else 0. A line with a variable out of range is
 // refused in any case, and only such a line is gone through by `far_answer`.
-pub fn variables_answer(line: &[u8], right: usize, conditions: usize) -> u32
+pub(crate) fn variables_answer(line: &[u8], right: usize, conditions: usize) -> u32
     requires { ⌜ RuleLine (now line) right conditions ⌝ }
     ensures { λ r. ⌜ answersVariables (ruleOf (now (line .entry))) r ⌝ }
 {

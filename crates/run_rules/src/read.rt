@@ -14,7 +14,7 @@ pub struct Base {
 
 // Puts the entries of the first lines into a table of 4,096, up to the first line that is no `e` line. With a full table all that follows
 // counts as rules.
-pub fn read_entries(text: &[u8], table: &mut [u32]) -> Base
+pub(crate) fn read_entries(text: &[u8], table: &mut [u32]) -> Base
     requires { ⌜ length (now table) ≡ 32768 ⌝ }
     ensures { λ r. ⌜ r .rules ≤ length (now (text .entry)) ⌝ }
 {

@@ -117,7 +117,7 @@ fn show_told(told: Translated) -> bool {
 }
 
 // The line `answer`, and where the answer is 0 the entries in use and the rules that start in them.
-pub fn show_answer(table: &[u32], told: Translated) -> bool {
+pub(crate) fn show_answer(table: &[u32], told: Translated) -> bool {
     if !show_told(told) {
         return false;
     }

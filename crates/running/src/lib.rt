@@ -27,7 +27,7 @@ ghost use Rattle.running.specs.Ends.{cutNumber, cutPlace, Ran-accepted};
 pub const NOWHERE: u32 = 4096;
 
 // The answer of a cut-off: 6 units, 7 room, 8 nesting, 12 a variable to be built that has no binding.
-pub fn cut_answer(c: u64) -> u32
+fn cut_answer(c: u64) -> u32
     ensures { λ r. ⌜ r ≡ cutNumber c ⌝ }
 {
     let t = c / HALF;
@@ -44,7 +44,7 @@ pub fn cut_answer(c: u64) -> u32
 }
 
 // Its place: that variable, else 0.
-pub fn cut_place(c: u64) -> u32
+fn cut_place(c: u64) -> u32
     ensures { λ r. ⌜ r ≡ cutPlace c ⌝ }
 {
     let t = c / HALF;

@@ -10,7 +10,7 @@ pub struct Bounds {
     pub next: usize,
 }
 
-pub fn line_at(text: &[u8], at: usize) -> Bounds
+pub(crate) fn line_at(text: &[u8], at: usize) -> Bounds
     ensures { λ r. ⌜ r ≡ boundsAt (now (text .entry)) at ⌝ }
 {
     if at < text.len() {

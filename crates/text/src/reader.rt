@@ -12,14 +12,14 @@ pub struct Reader<'a> {
 }
 
 // A reader at a place of a text.
-pub fn new<'a>(text: &'a [u8], at: usize) -> Reader<'a>
+fn new<'a>(text: &'a [u8], at: usize) -> Reader<'a>
     ensures { λ r. ⌜ (r .text ≡ text .entry) × (r .at ≡ at) ⌝ }
 {
     Reader { text, at }
 }
 
 // The line that begins at the reader's place.
-pub fn line<'a>(r: Reader<'a>) -> Bounds
+fn line<'a>(r: Reader<'a>) -> Bounds
     ensures { λ t. ⌜ t ≡ boundsAt (now (r .entry .text)) (r .entry .at) ⌝ }
 {
     line_at(r.text, r.at)

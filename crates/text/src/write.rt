@@ -28,7 +28,7 @@ pub fn put_digits(buf: &mut [u8], at: usize, n: u32) -> usize
 }
 
 // A tab and a number.
-pub fn put_field(buf: &mut [u8], at: usize, n: u32) -> usize
+fn put_field(buf: &mut [u8], at: usize, n: u32) -> usize
     requires { ⌜ at + 1 + length (decimal n) ≤ length (now buf) ⌝ }
     ensures { λ r. ⌜ Put (now (buf .entry)) at (9 ∷ decimal n) (now (buf .exit)) r ⌝ }
 {

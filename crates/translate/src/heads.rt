@@ -15,7 +15,7 @@ use text::field::next_at;
 use words::put_row;
 
 // The entries of the term whose first field begins at `from`; the entry after them.
-pub fn put_term(table: &mut [u32], line: &[u8], from: usize, first: u32) -> u32
+fn put_term(table: &mut [u32], line: &[u8], from: usize, first: u32) -> u32
     requires { ⌜ (first + length (bareOf (fieldsFrom (now line) from) 1) ≤ rows (now table)) × (length (now table) ≤ 32768) ⌝ }
     ensures { λ r. ⌜ Placed (now (table .entry)) first (bareOf (fieldsFrom (now (line .entry)) from) 1) (now (table .exit)) r ⌝ }
 {
@@ -59,7 +59,7 @@ pub fn put_term(table: &mut [u32], line: &[u8], from: usize, first: u32) -> u32
 }
 
 // The SCOPE of a rule's variables; the entry after it, which is its operand.
-pub fn put_scope(table: &mut [u32], e: u32, mask: u64) -> u32
+pub(crate) fn put_scope(table: &mut [u32], e: u32, mask: u64) -> u32
     requires { ⌜ (e + 1 ≤ rows (now table)) × (length (now table) ≤ 32768) ⌝ }
     ensures { λ r. ⌜ Placed (now (table .entry)) e (scopePut e mask) (now (table .exit)) r ⌝ }
 {
@@ -144,7 +144,13 @@ fn put_conditions(
 }
 
 // The entries of a rule's line that stand inside its scope; the entry after them.
-pub fn put_body(table: &mut [u32], line: &[u8], right: usize, conditions: usize, first: u32) -> u32
+pub(crate) fn put_body(
+    table: &mut [u32],
+    line: &[u8],
+    right: usize,
+    conditions: usize,
+    first: u32,
+) -> u32
     requires { ⌜ Fits bareBody (now line) right conditions first (rows (now table)) × (length (now table) ≤ 32768) ⌝ }
     ensures { λ r. ⌜ PlacedIn (ruleOf (now (line .entry))) bareBody (now (table .entry)) first (now (table .exit)) r ⌝ }
 {

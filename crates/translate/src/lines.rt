@@ -27,7 +27,7 @@ pub fn put_line(table: &mut [u32], ends: &mut [u32], line: &[u8], first: u32) ->
 }
 
 // The entries of all lines, after those in use.
-pub fn put_lines(table: &mut [u32], ends: &mut [u32], used: u32, text: &[u8])
+pub(crate) fn put_lines(table: &mut [u32], ends: &mut [u32], used: u32, text: &[u8])
     requires { ⌜ Accepted (now table) used (now text) × (length (now table) ≤ 32768) × (4096 ≤ length (now ends)) ⌝ }
     ensures { λ _. ⌜ now (table .exit) ≡ withRules (meant (now (text .entry))) (now (table .entry)) used ⌝ }
 {

@@ -59,7 +59,7 @@ fn row_linked(table: &[u32], ends: &[u32], e: u32) -> Linked
 }
 
 // The operands of the entries from `first` to `stop`.
-pub fn link(table: &mut [u32], first: u32, stop: u32, ends: &mut [u32])
+pub(crate) fn link(table: &mut [u32], first: u32, stop: u32, ends: &mut [u32])
     requires { ⌜ (first ≤ stop) × (8 * stop ≤ length (now table)) × (stop ≤ length (now ends)) ⌝ }
     ensures { λ _. ⌜ LinkedFrom (now (table .entry)) (now (ends .entry)) first stop (now (table .exit)) (now (ends .exit)) ⌝ }
 {

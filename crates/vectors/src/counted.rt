@@ -178,7 +178,7 @@ fn call_parts(
 }
 
 // The same with a list of its own: more than the counts of 4,096 entries.
-pub fn call_counted(
+pub(crate) fn call_counted(
     tag: u8,
     text: &[u8],
     start: usize,
@@ -192,7 +192,7 @@ pub fn call_counted(
 }
 
 // Whether the tag is that of a run with counts.
-pub fn is_counted(tag: u8) -> bool {
+pub(crate) fn is_counted(tag: u8) -> bool {
     if tag == b'v' {
         return true;
     }

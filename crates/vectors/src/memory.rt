@@ -32,7 +32,7 @@ pub struct Given {
 }
 
 // The numbers that the text begins with.
-pub fn heads(text: &[u8]) -> Given {
+pub(crate) fn heads(text: &[u8]) -> Given {
     let mut words = [0u32; 12];
     let mut at: usize = 0;
     let mut i: usize = 0;
@@ -103,7 +103,7 @@ fn fill_six(store: &mut [u32], n: u32)
 }
 
 // Sets every word from `from` on.
-pub fn spoil(words: &mut [u32], from: usize, word: u32) {
+pub(crate) fn spoil(words: &mut [u32], from: usize, word: u32) {
     let mut i = from;
     while i < words.len() {
         words[i] = word;
@@ -224,7 +224,7 @@ fn set_byte(bytes: &mut [u8], i: usize, w: u32) {
 }
 
 // The lowest byte of each word.
-pub fn put_bytes(bytes: &mut [u8], words: &[u32]) {
+pub(crate) fn put_bytes(bytes: &mut [u8], words: &[u32]) {
     let mut i: usize = 0;
     while i < words.len() {
         set_byte(bytes, i, words[i]);
@@ -240,7 +240,7 @@ fn set_word(words: &mut [u32], i: usize, b: u8) {
 }
 
 // A word for each byte.
-pub fn put_words(words: &mut [u32], bytes: &[u8]) {
+pub(crate) fn put_words(words: &mut [u32], bytes: &[u8]) {
     let mut i: usize = 0;
     while i < bytes.len() {
         set_word(words, i, bytes[i]);
@@ -249,7 +249,7 @@ pub fn put_words(words: &mut [u32], bytes: &[u8]) {
 }
 
 // Makes the words of a case, and gives the place after its numbers.
-pub fn make(
+pub(crate) fn make(
     text: &[u8],
     given: Given,
     table: &mut [u32],

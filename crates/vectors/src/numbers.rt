@@ -21,7 +21,7 @@ fn digit(b: u8) -> u64
 }
 
 // The number at `start`, modulo 2^32; 0 where there is no digit.
-pub fn number(text: &[u8], start: usize) -> Digits {
+pub(crate) fn number(text: &[u8], start: usize) -> Digits {
     let mut value: u64 = 0;
     let mut i = start;
     while i < text.len() {
@@ -42,7 +42,7 @@ pub fn number(text: &[u8], start: usize) -> Digits {
 }
 
 // Reads a number of the text for each word, and gives the place after the last.
-pub fn read_words(text: &[u8], start: usize, words: &mut [u32]) -> usize {
+pub(crate) fn read_words(text: &[u8], start: usize, words: &mut [u32]) -> usize {
     let mut at = start;
     let mut i: usize = 0;
     while i < words.len() {

@@ -357,7 +357,7 @@ fn answer_text(text: &[u8]) -> bool {
 }
 
 // Executes a case: whether it is one.
-pub fn answer_case(
+pub(crate) fn answer_case(
     tag: u8,
     text: &[u8],
     table: &mut [u32],

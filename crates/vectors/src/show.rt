@@ -10,7 +10,7 @@ use rules::check::Translated;
 use write_rules::rule::Written;
 
 // Prints the label, which is the text from `start` on.
-pub fn show_label(text: &[u8], start: usize) {
+pub(crate) fn show_label(text: &[u8], start: usize) {
     if start <= text.len() {
         io::write_all(STDOUT_FILENO, &text[start..]);
     }
@@ -76,7 +76,7 @@ fn show_memory(store: &[u32], bindings: &[u32]) {
 }
 
 // Prints what the translator of rules returns, and the table that it leaves.
-pub fn show_translated(r: Translated, table: &[u32]) {
+pub(crate) fn show_translated(r: Translated, table: &[u32]) {
     show_number(r.answer as u64);
     show_number(r.line as u64);
     show_number(r.field as u64);
@@ -85,7 +85,7 @@ pub fn show_translated(r: Translated, table: &[u32]) {
 }
 
 // Prints what the writer of a rule returns, and the bytes of the buffer that it leaves, one in each word.
-pub fn show_written(r: Written, bytes: &[u32]) {
+pub(crate) fn show_written(r: Written, bytes: &[u32]) {
     show_number(r.answer as u64);
     show_number(r.place as u64);
     show_number(r.length as u64);
@@ -93,20 +93,20 @@ pub fn show_written(r: Written, bytes: &[u32]) {
 }
 
 // Prints what a check answers.
-pub fn show_checked(r: Checked) {
+pub(crate) fn show_checked(r: Checked) {
     show_number(r.answer as u64);
     show_number(r.place as u64);
 }
 
 // Prints what the question of free variables answers.
-pub fn show_free(r: FreeVariables) {
+pub(crate) fn show_free(r: FreeVariables) {
     show_number(r.answer as u64);
     show_number(r.place as u64);
     show_number(r.mask);
 }
 
 // Prints what a collection returns, and the memory that it leaves, the work list last.
-pub fn show_collected(r: Collected, store: &[u32], bindings: &[u32], work: &[u32]) {
+pub(crate) fn show_collected(r: Collected, store: &[u32], bindings: &[u32], work: &[u32]) {
     show_number(r.answer as u64);
     show_number(r.place as u64);
     show_number(r.subject as u64);
@@ -122,7 +122,7 @@ fn show_plain(w: u32) {
 }
 
 // Prints what a call over many subjects returns, every word of the result list, and the memory that it leaves.
-pub fn show_many(r: Checked, results: &[u32], store: &[u32], bindings: &[u32]) {
+pub(crate) fn show_many(r: Checked, results: &[u32], store: &[u32], bindings: &[u32]) {
     show_checked(r);
     let mut i: usize = 0;
     while i < results.len() {
@@ -133,7 +133,7 @@ pub fn show_many(r: Checked, results: &[u32], store: &[u32], bindings: &[u32]) {
 }
 
 // Prints the five numbers that a run returns.
-pub fn show_outcome(r: Outcome) {
+pub(crate) fn show_outcome(r: Outcome) {
     show_number(r.answer as u64);
     show_number(r.place as u64);
     show_number(r.subject as u64);
@@ -142,7 +142,7 @@ pub fn show_outcome(r: Outcome) {
 }
 
 // Prints what a run returns, and the memory that it leaves.
-pub fn show_run(r: Outcome, store: &[u32], bindings: &[u32]) {
+pub(crate) fn show_run(r: Outcome, store: &[u32], bindings: &[u32]) {
     show_outcome(r);
     show_memory(store, bindings);
 }
@@ -194,7 +194,13 @@ fn show_counts(counts: &[u64]) {
 }
 
 // Prints what a run with counts returns, and the memory that it leaves, the counts last.
-pub fn show_counted(r: Outcome, seen: Seen, store: &[u32], bindings: &[u32], counts: &[u64]) {
+pub(crate) fn show_counted(
+    r: Outcome,
+    seen: Seen,
+    store: &[u32],
+    bindings: &[u32],
+    counts: &[u64],
+) {
     show_outcome(r);
     show_number(seen.patterns as u64);
     show_number(seen.pairs as u64);
@@ -204,13 +210,13 @@ pub fn show_counted(r: Outcome, seen: Seen, store: &[u32], bindings: &[u32], cou
 }
 
 // Prints ` /` and what a step returns.
-pub fn show_step(r: Outcome) {
+pub(crate) fn show_step(r: Outcome) {
     io::write_all(STDOUT_FILENO, b" /");
     show_outcome(r);
 }
 
 // Prints the memory that a run in steps leaves, the work list last.
-pub fn show_aside(store: &[u32], bindings: &[u32], work: &[u32]) {
+pub(crate) fn show_aside(store: &[u32], bindings: &[u32], work: &[u32]) {
     show_memory(store, bindings);
     io::write_all(STDOUT_FILENO, b" :");
     show_slice(work);

@@ -165,7 +165,7 @@ fn call_parts(
 }
 
 // The same with lists of its own: more than the frames of 4,096 visits need, and room for 126 steps.
-pub fn call_steps(
+pub(crate) fn call_steps(
     text: &[u8],
     start: usize,
     given: Given,

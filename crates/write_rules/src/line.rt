@@ -47,7 +47,7 @@ fn write_conditions(table: &[u32], used: u32, first: u32, line: &mut [u8], from:
 }
 
 // The fields of a rule, each with a tab after it; how many bytes they are. Of entries that are no rule's nothing is known.
-pub fn write_line(table: &[u32], used: u32, first: u32, line: &mut [u8]) -> usize
+pub(crate) fn write_line(table: &[u32], used: u32, first: u32, line: &mut [u8]) -> usize
     requires { ⌜ (used ≤ 4096) × (first < used) × (53272 ≤ length (now line)) ⌝ }
     ensures { λ r. ⌜ (r ≤ length (now (line .exit))) × HasLine (now (table .entry)) used first (now (line .exit)) r ⌝ }
 {

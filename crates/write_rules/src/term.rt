@@ -17,7 +17,7 @@ pub struct Passed {
 }
 
 // A number and a tab.
-pub fn write_number(line: &mut [u8], at: usize, n: u32) -> usize
+pub(crate) fn write_number(line: &mut [u8], at: usize, n: u32) -> usize
     requires { ⌜ at + 11 ≤ length (now line) ⌝ }
     ensures { λ r. ⌜ Wrote (now (line .entry)) at (decimal n ++ (9 ∷ [])) (now (line .exit)) r ⌝ }
 {
@@ -41,7 +41,13 @@ fn write_entry(table: &[u32], e: u32, line: &mut [u8], at: usize) -> usize
 }
 
 // The fields of the term whose entries begin at `first`, written from a place on, while entries are in use and there is room.
-pub fn write_term(table: &[u32], used: u32, first: u32, line: &mut [u8], from: usize) -> Passed
+pub(crate) fn write_term(
+    table: &[u32],
+    used: u32,
+    first: u32,
+    line: &mut [u8],
+    from: usize,
+) -> Passed
     requires { ⌜ (used ≤ 4096) × (first ≤ 65536) × (from ≤ length (now line)) ⌝ }
     ensures { λ r. ⌜ Leaves first (first + used) (now (line .exit)) r × WritesTerm (now (table .entry)) used first (now (line .entry)) from (now (line .exit)) r ⌝ }
 {
