@@ -180,42 +180,31 @@ module _ (es : List What) (kept : List ℕ) where
 
 -- ---- the visits of patterns and of pairs
 
-module _ (s : Seen) (m : ℕ) {a b : ℕ} where
-  pub seen-pair : m ≡ 3 → a ≡ (s .patterns + 0) % 2 ^ 32 → b ≡ (s .pairs + 1) % 2 ^ 32 → record { patterns = a; pairs = b } ≡ seenAt s m
-  seen-pair e x y = rw (x, y, e) refl
+module _ (s : Seen) (m : ℕ) where
+  pub seen-entry : m ≡ 0 → s ≡ seenAt s m
+  seen-entry e = rw e refl
 
-  pub seen-entry : m ≡ 0 → a ≡ (s .patterns + 0) % 2 ^ 32 → b ≡ (s .pairs + 0) % 2 ^ 32 → record { patterns = a; pairs = b } ≡ seenAt s m
-  seen-entry e x y = rw (x, y, e) refl
+  pub seen-pair : {v : ℕ} → m ≡ 3 → v ≡ (s .pairs + 1) % 2 ^ 32 → record { patterns = s .patterns; pairs = v } ≡ seenAt s m
+  seen-pair e x = rw (x, e) refl
 
-  pub seen-pattern : (m ≡ 3 → ⊥) → (m ≡ 0 → ⊥) → a ≡ (s .patterns + 1) % 2 ^ 32 → b ≡ (s .pairs + 0) % 2 ^ 32
-      → record { patterns = a; pairs = b } ≡ seenAt s m
-  seen-pattern n3 n0 x y = rw (x, y, ne-eqb m 3 n3, ne-eqb m 0 n0) refl
+  pub seen-pattern : {v : ℕ} → (m ≡ 0 → ⊥) → (m ≡ 3 → ⊥) → v ≡ (s .patterns + 1) % 2 ^ 32
+      → record { patterns = v; pairs = s .pairs } ≡ seenAt s m
+  seen-pattern n0 n3 x = rw (x, ne-eqb m 0 n0, ne-eqb m 3 n3) refl
 
 module _ (k : List ℕ) (m : Machine) (s : Seen) (log : List Event) (asked : m .mode < 4)
     (patterns : s .patterns ≡ counted (begins anyPattern) log) (pairs : s .pairs ≡ counted (begins isPair) log) where
   -- one more is seen of what is visited
-  seen-one : (one-if (anyPattern (visited k m)) ≡ (if eqb (m .mode) 0 then 0 else if eqb (m .mode) 3 then 0 else 1))
-      × (one-if (isPair (visited k m)) ≡ (if eqb (m .mode) 3 then 1 else 0))
-  unfolding anyPattern isPair what visitOf
-  seen-one = go (m .mode) asked
-    where
-      go : (n : ℕ) → n < 4
-          → (one-if (anyPattern (what (visitOf n (m .x) (m .y) (present k m)))) ≡ (if eqb n 0 then 0 else if eqb n 3 then 0 else 1))
-          × (one-if (isPair (what (visitOf n (m .x) (m .y) (present k m)))) ≡ (if eqb n 3 then 1 else 0))
-      go zero l = (refl, refl)
-      go (suc zero) l = (refl, refl)
-      go (suc (suc zero)) l = (refl, refl)
-      go (suc (suc (suc zero))) l = (refl, refl)
-      go (suc (suc (suc (suc n)))) l = absurd (omega arith)
-
   pub seen-begun : ((p : What → Bool) → counted (begins p) log < 4294967295)
       → (seenAt s (m .mode) .patterns ≡ counted (begins anyPattern) (began (visited k m) ∷ log))
       × (seenAt s (m .mode) .pairs ≡ counted (begins isPair) (began (visited k m) ∷ log))
-  unfolding counted begins
-  seen-begun few =
-      let z = seen-one in
-      let a = few anyPattern in
-      let b = few isPair in
-      let c = one-few (anyPattern (visited k m)) in
-      let d = one-few (isPair (visited k m)) in
-      (rw (sym (z .0)) (omega (arith, patterns)), rw (sym (z .1)) (omega (arith, pairs)))
+  unfolding counted begins anyPattern isPair what visitOf
+  seen-begun few = go (m .mode) asked
+    where
+      go : (n : ℕ) → n < 4
+          → (seenAt s n .patterns ≡ counted (begins anyPattern) (began (what (visitOf n (m .x) (m .y) (present k m))) ∷ log))
+          × (seenAt s n .pairs ≡ counted (begins isPair) (began (what (visitOf n (m .x) (m .y) (present k m))) ∷ log))
+      go zero l = (omega (arith, patterns), omega (arith, pairs))
+      go (suc zero) l = (omega (arith, patterns, few anyPattern), omega (arith, pairs))
+      go (suc (suc zero)) l = (omega (arith, patterns, few anyPattern), omega (arith, pairs))
+      go (suc (suc (suc zero))) l = (omega (arith, patterns), omega (arith, pairs, few isPair))
+      go (suc (suc (suc (suc n)))) l = absurd (omega arith)

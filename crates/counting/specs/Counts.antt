@@ -9,6 +9,7 @@ use Rattle.words.specs.Tests.{if_then_else_}
 use Rattle.meaning.specs.Derivation.{What, entry, pattern, pair, Event, began, ended}
 use Rattle.meaning.specs.Tallies.{one-if, isEntry, counted, begins, wins, loses}
 use Rattle.machine.specs.declared.Machine.{Machine}
+use Rattle.counting.specs.Counted.{highest}
 
 -- 1 more in count c of entry e, where there is such a word
 unfoldable pub bumped : List ℕ → (e c : ℕ) → List ℕ
@@ -64,4 +65,4 @@ pub record Counts (given cs : List ℕ) (log : List Event) (es : List What) : Ty
 -- a count list of a table of at most 4,096 entries, with room for as many visits as a run can make
 pub record Room (given : List ℕ) : Type 0 where
   pub few : length given ≤ 16384
-  pub small : (j : ℕ) → getD given j 0 ≤ 18446744069414584320
+  pub small : (j : ℕ) → getD given j 0 ≤ highest

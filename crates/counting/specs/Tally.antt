@@ -22,8 +22,8 @@ use Rattle.counting.specs.Counts.{Kept, Balanced, Counts}
 -- a visit of this mode more: of a pattern, or of a pair
 abbrev pub seenAt : Seen → ℕ → Seen
 seenAt s m = record {
-  patterns = (s .patterns + (if eqb m 0 then 0 else if eqb m 3 then 0 else 1)) % 4294967296;
-  pairs = (s .pairs + (if eqb m 3 then 1 else 0)) % 4294967296;
+  patterns = if eqb m 0 then s .patterns else if eqb m 3 then s .patterns else (s .patterns + 1) % 4294967296;
+  pairs = if eqb m 3 then (s .pairs + 1) % 4294967296 else s .pairs;
 }
 
 -- the machine stopped at m; es: the visits in flight then, the last to begin first; log: what happened to visits, the latest first

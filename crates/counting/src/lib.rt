@@ -11,6 +11,7 @@ use machine::Machine;
 use machine::SUCCEEDED;
 use machine::go;
 use refusals::refusal;
+use stepping::NOWHERE;
 use stepping::WORK;
 use stepping::conclude;
 use stepping::own::load_bindings;
@@ -95,21 +96,18 @@ pub struct Seen {
 fn see(s: Seen, mode: u32) -> Seen
     ensures { λ r. ⌜ r ≡ seenAt s mode ⌝ }
 {
+    if mode == APPLY {
+        return s;
+    }
     if mode == COMPARED {
         return Seen {
-            patterns: std::num::wrapping_add_u32(s.patterns, 0),
+            patterns: s.patterns,
             pairs: std::num::wrapping_add_u32(s.pairs, 1),
-        };
-    }
-    if mode == APPLY {
-        return Seen {
-            patterns: std::num::wrapping_add_u32(s.patterns, 0),
-            pairs: std::num::wrapping_add_u32(s.pairs, 0),
         };
     }
     Seen {
         patterns: std::num::wrapping_add_u32(s.patterns, 1),
-        pairs: std::num::wrapping_add_u32(s.pairs, 0),
+        pairs: s.pairs,
     }
 }
 
@@ -253,9 +251,6 @@ fn refused(c: Checked, subject: u32, mark: u32) -> Counted
         },
     }
 }
-
-// The place of a failed run in which no match gave up: no table has such an entry.
-const NOWHERE: u32 = 4096;
 
 // An accepted run with counts. Its frames stand in a list of its own, and the entry of the visit at each level in another.
 fn run_on(

@@ -33,7 +33,7 @@ pub mod own;
 pub const WORK: usize = 327680;
 
 // The place of a failed run in which no match gave up: no table has such an entry.
-const NOWHERE: u32 = 4096;
+pub const NOWHERE: u32 = 4096;
 
 // The start. The signature is looked at only where `signed` says that one is lent.
 fn start_lent(
