@@ -1,5 +1,6 @@
 // Where the units go, from the archive: a run that counts the visits of every entry. Four words of 64 bits for each entry of the table:
 // visits, successes, failures, and visits in flight at a cut-off. A run adds to them.
+use counting::Counted;
 use counting::run_counted;
 use counting::run_counted_signed;
 use counting::run_indexed_counted;
@@ -10,6 +11,23 @@ ghost use lib.ListN.{take, drop};
 ghost use Rattle.calls.specs.Run.{input};
 ghost use Rattle.counting.specs.Counted.{countedAtReturn, countedOf, indexedCountedAtReturn, indexedCountedOf};
 ghost use Rattle.marshtrundle.specs.Exported.{seven};
+
+// What a run returns, as an array.
+fn numbers_of(r: Counted) -> [u32; 7]
+    ensures { λ a. ⌜ seven a ≡ r ⌝ }
+{
+    let ended = r.ended;
+    let seen = r.seen;
+    [
+        ended.answer,
+        ended.place,
+        ended.subject,
+        ended.mark,
+        ended.units,
+        seen.patterns,
+        seen.pairs,
+    ]
+}
 
 // The run: answer, place, subject, mark and units used, then the visits of patterns and of pairs.
 #[no_mangle]
@@ -28,17 +46,7 @@ pub extern "C" fn marshtrundle_run_counted(
         ≡ countedOf none (input (now (table .entry)) (now (store .entry)) (now (bindings .entry)) mark start subject units) (now (counts .entry)) ⌝ }
 {
     let r = run_counted(table, store, bindings, mark, start, subject, units, counts);
-    let ended = r.ended;
-    let seen = r.seen;
-    *numbers = [
-        ended.answer,
-        ended.place,
-        ended.subject,
-        ended.mark,
-        ended.units,
-        seen.patterns,
-        seen.pairs,
-    ];
+    *numbers = numbers_of(r);
 }
 
 // The same with a signature.
@@ -69,17 +77,7 @@ pub extern "C" fn marshtrundle_run_counted_signed(
         counts,
         signature,
     );
-    let ended = r.ended;
-    let seen = r.seen;
-    *numbers = [
-        ended.answer,
-        ended.place,
-        ended.subject,
-        ended.mark,
-        ended.units,
-        seen.patterns,
-        seen.pairs,
-    ];
+    *numbers = numbers_of(r);
 }
 
 // The run with an index: the first `words` of `lent` are the store's, and the rest is the index.
@@ -111,17 +109,7 @@ pub extern "C" fn marshtrundle_run_indexed_counted(
         units,
         counts,
     );
-    let ended = r.ended;
-    let seen = r.seen;
-    *numbers = [
-        ended.answer,
-        ended.place,
-        ended.subject,
-        ended.mark,
-        ended.units,
-        seen.patterns,
-        seen.pairs,
-    ];
+    *numbers = numbers_of(r);
 }
 
 // The same with a signature.
@@ -155,15 +143,5 @@ pub extern "C" fn marshtrundle_run_indexed_counted_signed(
         counts,
         signature,
     );
-    let ended = r.ended;
-    let seen = r.seen;
-    *numbers = [
-        ended.answer,
-        ended.place,
-        ended.subject,
-        ended.mark,
-        ended.units,
-        seen.patterns,
-        seen.pairs,
-    ];
+    *numbers = numbers_of(r);
 }

@@ -1,0 +1,2 @@
+-- What the proofs of the exported functions share.
+pub mod Numbers
