@@ -12,9 +12,9 @@ use lib.Pow.{pow-add}
 use borrow.Author.Tests.{leb-true, ltb-true, eqb-true, eqb-false, le-leb, lt-ltb, eq-eqb, ne-eqb}
 use Rattle.words.specs.Tests.{if_then_else_, every}
 use Rattle.words.specs.Words.{wordAt, rows}
-use Rattle.words.proofs.Tests.{and-true, every-true}
+use Rattle.words.proofs.Tests.{and-true, every-true, by-side, every-by-side}
 use Rattle.checks.specs.Kinds.{lines, lineOf, kind, variablesBy, argumentWordsBy, lowest, highestBy, operandsFromBy, sortOf, takes, same}
-use Rattle.checks.specs.Good.{kindOf, operandCount, zerosFrom, number, argumentBy, operandBy, constructorOf, childCount, child, goodNode}
+use Rattle.checks.specs.Good.{kindOf, operandCount, zerosFrom, number, argumentBy, operandBy, constructorOf, childCount, child, heldFits, goodNode}
 use Rattle.checks.specs.Good.{countFits, argumentFitsBy, operandPlacedBy, operandSortedBy, operandsFaultBy, unusedZeroBy, faultBy, goodEntryBy}
 use Rattle.checks.specs.Checked.{tableLengthFits, storeLengthFits}
 use Rattle.checks.specs.Plain.{TableLength, StoreLength, Counted, ArguedBy, PlacedBy, SortedBy, UnusedBy, EntryBy, FaultyBy, of-count, of-argument, of-place, of-sort, of-unused, Node}
@@ -50,6 +50,29 @@ every-after p a i (suc k) =
 -- The zeros after a node's last child, counted from word 0 and from the first child.
 pub child-zeros : (s : List ℕ) (k n : ℕ) → zerosFrom s k (2 + n) ≡ every (λ i. eqb (child s k i) 0) n (6 - n)
 child-zeros s k n = let e : 8 - (2 + n) ≡ 6 - n = omega arith in rw e (every-after (λ i. eqb (wordAt s k i) 0) 2 n (6 - n))
+
+-- A good node is one whose words fit, each by itself.
+pub goodNode-words : (s : List ℕ) (k : ℕ)
+    → goodNode s k
+    ≡ leb (constructorOf s k) 65535 && (leb (childCount s k) 6 && every (λ i. heldFits k (childCount s k) i (child s k i)) 0 6)
+unfolding goodNode heldFits
+goodNode-words s k = ap (λ (b : Bool). leb (constructorOf s k) 65535 && b) (held (leb n 6) refl)
+  where
+    n : ℕ
+    n = childCount s k
+
+    below : ℕ → Bool
+    below i = ltb (child s k i) k
+
+    zeros : ℕ → Bool
+    zeros i = eqb (child s k i) 0
+
+    held : (t : Bool) → leb n 6 ≡ t → t && (every below 0 n && every zeros n (6 - n)) ≡ t && every (by-side below zeros n) 0 6
+    held false e = refl
+    held true e =
+        let l : n ≤ 6 = leb-true n 6 e in
+        let six : n + (6 - n) ≡ 6 = omega arith in
+        every-by-side below zeros n 0 n (6 - n) (omega arith) ∙ ap (every (by-side below zeros n) 0) six
 
 -- A test that stands for a fact fails where the fact does.
 pub not-fact : {A : Type 0} (b : Bool) → b ≡ true ↔ A → b ≡ false ↔ ¬ A

@@ -97,6 +97,10 @@ fault = faultBy ours
 abbrev pub goodEntry : List ℕ → ℕ → Bool
 goodEntry = goodEntryBy ours
 
+-- the word w fits as word 2 + i of node k, which has n children: a child below it, or a zero after the last
+unfoldable pub heldFits : (k n i w : ℕ) → Bool
+heldFits k n i w = if ltb i n then ltb w k else eqb w 0
+
 module _ (s : List ℕ) where
   -- word 0 is the constructor, word 1 the child count, words 2 to 7 the children
   abbrev pub constructorOf : ℕ → ℕ

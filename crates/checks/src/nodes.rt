@@ -1,52 +1,52 @@
 // The store check: each test that document 01 sets a good node, the lowest node below the mark that fails one, and the
 // answer. Each word below the mark is read once.
 ghost use mathlib.Core.Path.{_≡_};
-ghost use Prim.Native.Nat.{_≤_};
-ghost use lib.Dec.{ltb};
+ghost use Prim.Native.Nat.{_+_, _*_, _≤_};
+ghost use lib.ListN.{length};
 ghost use Rattle.words.specs.Tests.{every, rejected};
-ghost use Rattle.checks.specs.Good.{child, goodNode};
+ghost use Rattle.checks.specs.Good.{child, heldFits, goodNode};
 ghost use Rattle.checks.specs.Checked.{placeOf, storeLengthFits, storeChecked};
 use crate::Checked;
 use crate::Found;
 use crate::answered;
-use crate::rows::held;
-use crate::rows::unused_zero;
-use words::word;
 
-// The n children of node k are below it.
-fn children_below(store: &[u32], k: u32, n: u32) -> bool
-    requires { ⌜ n ≤ 6 ⌝ }
-    ensures { λ r. ⌜ r ≡ every (λ i. ltb (child (now (store .entry)) k i) k) 0 n ⌝ }
+// The word w fits as word 2 + i of node k, which has n children: a child below it, or a zero after the last.
+fn held_fits(k: u32, n: u32, i: u32, w: u32) -> bool
+    ensures { λ r. ⌜ r ≡ heldFits k n i w ⌝ }
 {
+    let limit = if i < n { k } else { 1 };
+    w < limit
+}
+
+// The words of node k from word 2 on fit its n children. All of them are tested, with no branch between, so that a processor
+// tests several at once.
+fn all_held_fit(store: &[u32], k: u32, n: u32) -> bool
+    requires { ⌜ 8 * k + 8 ≤ length (now store) ⌝ }
+    ensures { λ r. ⌜ r ≡ every (λ i. heldFits k n i (child (now (store .entry)) k i)) 0 6 ⌝ }
+{
+    let at = 8 * (k as usize);
+    let mut good = true;
     let mut i: u32 = 0;
-    while i < n {
-        if k <= held(store, k, i) {
-            return false;
-        }
+    while i < 6 {
+        good = good & held_fits(k, n, i, store[at + (2 + (i as usize))]);
         i += 1;
     }
-    true
+    good
 }
 
-// Node k is good.
+// Node k, which lies inside the store, is good.
 fn node_fits(store: &[u32], k: u32) -> bool
+    requires { ⌜ 8 * k + 8 ≤ length (now store) ⌝ }
     ensures { λ r. ⌜ r ≡ goodNode (now (store .entry)) k ⌝ }
 {
-    if 65535 < word(store, k, 0) {
-        return false;
-    }
-    let n = word(store, k, 1);
-    if 6 < n {
-        return false;
-    }
-    if !children_below(store, k, n) {
-        return false;
-    }
-    unused_zero(store, k, n)
+    let at = 8 * (k as usize);
+    let n = store[at + 1];
+    (store[at] <= 65535) & ((n <= 6) & all_held_fit(store, k, n))
 }
 
-// The lowest bad node below the mark.
+// The lowest bad node below the mark, which is at most the store's nodes.
 fn lowest_bad_node(store: &[u32], mark: u32) -> Found
+    requires { ⌜ 8 * mark ≤ length (now store) ⌝ }
     ensures { λ r. ⌜ placeOf r ≡ rejected (goodNode (now (store .entry))) 0 mark ⌝ }
 {
     let mut k: u32 = 0;

@@ -1,14 +1,14 @@
 -- What `every` and `rejected` say of each number, both ways, and how a fact on Bools is taken apart and put together.
 -- Assumes nothing.
 use mathlib.Core.Path.{_≡_, refl, ap, sym, _∙_, subst}
-use mathlib.Core.Bool.{Bool, true, false, _&&_, true≢false}
+use mathlib.Core.Bool.{Bool, true, false, _&&_, and-assoc, true≢false}
 use mathlib.Core.Logic.{_↔_, _⊎_, inl, inr, ⊎-elim}
 use mathlib.Core.Option.{Option, none, some}
 use Prim.Native.Nat.{ℕ, zero, suc, _+_, _-_, _≤_, _<_}
 use native.Mathlib.Nat.{eq-or-lt-of-le}
 use native.Mathlib.Omega.{arith}
 use lib.Dec.{ltb}
-use borrow.Author.Tests.{ltb-true, ltb-false}
+use borrow.Author.Tests.{ltb-true, ltb-false, lt-ltb, le-ltb}
 use Rattle.words.specs.Tests.{if_then_else_, every, rejected}
 
 -- A number is below another, or from it on.
@@ -24,6 +24,11 @@ pub and-true : (a b : Bool) → a && b ≡ true → (a ≡ true) × (b ≡ true)
 and-true true b e = (refl, e)
 and-true false b e = absurd (true≢false (sym e))
 
+-- A test and one that holds are the test.
+true-right : (a : Bool) → a && true ≡ a
+true-right true = refl
+true-right false = refl
+
 -- Two conjunctions change their middle parts.
 and-middle : (a b c d : Bool) → (a && b) && (c && d) ≡ (a && c) && (b && d)
 and-middle true b true d = refl
@@ -38,6 +43,29 @@ every-and p q i zero = refl
 every-and p q i (suc k) =
     ap (λ (b : Bool). (p i && q i) && b) (every-and p q (i + 1) k)
     ∙ and-middle (p i) (q i) (every p (i + 1) k) (every q (i + 1) k)
+
+-- One test for the numbers below n and another for those from n on.
+abbrev pub by-side : (p q : ℕ → Bool) → ℕ → ℕ → Bool
+by-side p q n i = if ltb i n then p i else q i
+
+module _ (p q : ℕ → Bool) (n : ℕ) where
+  -- From n on it is the second.
+  every-from : (i k : ℕ) → n ≤ i → every q i k ≡ every (by-side p q n) i k
+  unfolding every
+  every-from i zero h = refl
+  every-from i (suc k) h = rw (le-ltb i n h) (ap (λ (b : Bool). q i && b) (every-from (i + 1) k (omega arith)))
+
+  -- The first up to n and then the second are the one test all the way.
+  pub every-by-side : (i k m : ℕ) → i + k ≡ n → every p i k && every q n m ≡ every (by-side p q n) i (k + m)
+  unfolding every
+  every-by-side i zero m h =
+      let e : i ≡ n = omega arith in
+      let f : 0 + m ≡ m = omega arith in
+      rw (e, f) (every-from n m (omega arith))
+  every-by-side i (suc k) m h =
+      let l : i < n = omega arith in
+      let e : suc k + m ≡ suc (k + m) = omega arith in
+      rw (e, lt-ltb i n l, and-assoc) (ap (λ (b : Bool). p i && b) (every-by-side (i + 1) k m (omega arith)))
 
 -- The test holds at each of the k numbers from i on.
 abbrev pub Holds : (ℕ → Bool) → ℕ → ℕ → Type 0
@@ -155,6 +183,18 @@ module _ (p : ℕ → Bool) (i n : ℕ) where
     pub every-end : n ≤ i → true ≡ whole
     unfolding every
     every-end l = rw (none-left l) at left
+
+  -- The same where every test is made, and the loop keeps whether all of them held.
+  module _ (kept whole : Bool) (left : kept && every p i (n - i) ≡ whole) where
+    -- One more is made: the rest decides with it.
+    pub every-kept-turn : i < n → (kept && p i) && every p (i + 1) (n - (i + 1)) ≡ whole
+    unfolding every
+    every-kept-turn l = rw and-assoc (rw (one-more l) at left)
+
+    -- Nothing is left: what was kept is the whole.
+    pub every-kept-end : n ≤ i → kept ≡ whole
+    unfolding every
+    every-kept-end l = sym (true-right kept) ∙ rw (none-left l) at left
 
   module _ (whole : Option ℕ) (left : rejected p i (n - i) ≡ whole) where
     -- The test holds at i: the rest decides.

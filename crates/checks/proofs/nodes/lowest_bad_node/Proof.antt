@@ -3,7 +3,6 @@ use mathlib.Core.Path.{_≡_, sym, _∙_}
 use Prim.Native.Nat.{_-_, _≤_}
 use native.Mathlib.Nat.{sub-zero}
 use native.Mathlib.Omega.{arith}
-use borrow.Author.Needs.{needs}
 use borrow.Author.Tests.{not-true, not-false}
 use Rattle.words.specs.Tests.{rejected}
 use Rattle.words.proofs.Tests.{rejected-turn, rejected-stop, rejected-end}
@@ -19,6 +18,9 @@ abbrev μ-loop : tie.MeasureT-loop
 
 loop-holds : tie.Need-loop-holds Inv-loop μ-loop
 loop-holds c = (omega arith, rw sub-zero)
+
+node-fits-requires : tie.Need-node-fits-requires Inv-loop μ-loop
+node-fits-requires c κs = omega arith
 
 returns : tie.Need-returns Inv-loop μ-loop
 returns c =
@@ -49,4 +51,4 @@ pub lowest-bad-node-spec : {M : Type 1} → statement M
 lowest-bad-node-spec =
     tie.close
     (tie.spec
-    Inv-loop μ-loop loop-holds (λ c κs. search needs) returns add-k loop-less loop-again returns-2)
+    Inv-loop μ-loop loop-holds node-fits-requires returns add-k loop-less loop-again returns-2)
