@@ -238,9 +238,9 @@ of-two k r i e h l = ⊎-elim (λ q. inl (sym e ∙ sym q)) (λ q. inr (omega ar
 pub five-up : (r : ℕ) → (r ≡ 4 → ⊥) → 4 ≤ r → 5 ≤ r
 five-up r n h = omega arith
 
--- a kind that is in neither arm of the loop
-pub last-kind : (k r : ℕ) → r ≡ k → (r ≡ 4 → ⊥) → (r < 4) ⊎ (9 ≤ r) → Last k
-last-kind k r e n h = record { not-seq = λ q. n (e ∙ q); outside = ⊎-elim (λ l. inl (omega arith)) (λ l. inr (omega arith)) h }
+-- a kind that is in no arm of the loop
+pub last-kind : (k r : ℕ) → r ≡ k → (r ≡ 4 → ⊥) → (r ≡ 10 → ⊥) → (r ≡ 12 → ⊥) → (r < 4) ⊎ (9 ≤ r) → Last k
+last-kind k r e n c o h = record { not-seq = λ q. n (e ∙ q); outside = ⊎-elim (λ l. inl (omega arith)) (λ l. inr (omega arith)) h; not-cong = λ q. c (e ∙ q); not-one = λ q. o (e ∙ q) }
 
 -- what is not zero is above it
 pub pos : (n : ℕ) → (n ≡ 0 → ⊥) → 0 < n

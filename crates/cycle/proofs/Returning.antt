@@ -126,9 +126,9 @@ nine : (k r : ℕ) → r ≡ k → 8 < k → 9 ≤ r
 nine k r e h = omega arith
 
 -- a kind of no rule is FAIL, or no strategy
-pub no-rule : (k r : ℕ) → r ≡ k → Last k → (r < 2) ⊎ (4 ≤ r) → (r ≡ 0 → ⊥) → (r ≡ 9 → ⊥) → (r ≡ 10 → ⊥) → (r ≡ 11 → ⊥) → (r ≡ 12 → ⊥) → (r ≡ 13 → ⊥) → (r ≡ 14 → ⊥) → (r ≡ 15 → ⊥) → (r ≡ 16 → ⊥) → (r ≡ 17 → ⊥)
+pub no-rule : (k r : ℕ) → r ≡ k → Last k → (r < 2) ⊎ (4 ≤ r) → (r ≡ 0 → ⊥) → (r ≡ 9 → ⊥) → (r ≡ 11 → ⊥) → (r ≡ 13 → ⊥) → (r ≡ 14 → ⊥) → (r ≡ 15 → ⊥) → (r ≡ 16 → ⊥) → (r ≡ 17 → ⊥)
     → (r ≡ 1) ⊎ (17 < r)
-no-rule k r e l h z a b c d f g i j m = ⊎-elim (λ q. inl (low r q z)) (λ q. ⊎-elim (λ p. absurd (l .not-seq (four k r e q p))) (λ p. inr (up 17 r (up 16 r (up 15 r (up 14 r (up 13 r (up 12 r (up 11 r (up 10 r (up 9 r (nine k r e p) a) b) c) d) f) g) i) j) m)) (l .outside)) h
+no-rule k r e l h z a c f g i j m = ⊎-elim (λ q. inl (low r q z)) (λ q. ⊎-elim (λ p. absurd (l .not-seq (four k r e q p))) (λ p. inr (up 17 r (up 16 r (up 15 r (up 14 r (up 13 r (up 12 r (up 11 r (up 10 r (up 9 r (nine k r e p) a) (λ q. l .not-cong (sym e ∙ q))) c) (λ q. l .not-one (sym e ∙ q))) f) g) i) j) m)) (l .outside)) h
 
 -- the end of a walk, by its four ways
 module _ (k won n g : ℕ) (made st w : List ℕ) (u : ℕ) where

@@ -19,10 +19,13 @@ use Rattle.leaves.specs.Answers.{nodeIn, unitsIn}
 use Rattle.leaves.specs.Record.{recordLong, markOf, standing, held}
 use Rattle.leaves.specs.Visits.{countOf, agreeing, visit, plan, ruled, Entries, Steady, Gives, noded}
 
--- a kind with no operand in a last position: neither SEQ, CHOICE, LEFT, REC nor CALL
+-- a kind that the loop of visits leaves to `rule`: neither SEQ, CHOICE, LEFT, REC nor CALL, which have an operand in a last
+-- position, nor CONG nor ONE
 pub record Last (k : ℕ) : Type 0 where
   pub not-seq : k ≡ 4 → ⊥
   pub outside : (k < 5) ⊎ (8 < k)
+  pub not-cong : k ≡ 10 → ⊥
+  pub not-one : k ≡ 12 → ⊥
 
 -- entry q applied to node k fails after n visits, where units and nesting are enough for them, whatever the bindings and
 -- the mark; a match gives up at the pattern p last

@@ -172,7 +172,7 @@ abbrev pub scope-calls : ℕ → scope-lts.Claims
 scope-calls t = (scope-mask-reads.Asked, scope-mask-reads.Learnt, bound-in-reads.Asked, bound-in-reads.Learnt, hiding-below t, hiding.Post, entry-reads.Asked, entry-reads.Learnt, apply-below t, apply.Post, unbind-reads.Asked, unbind-reads.Learnt)
 
 abbrev pub rule-calls : ℕ → rule-lts.Claims
-rule-calls t = (kind-reads.Asked, kind-reads.Learnt, path-below t, path.Post, cong-below t, cong.Post, walk-below t, walk.Post, one-below t, one.Post, entry-reads.Asked, entry-reads.Learnt, match-node-reads.Asked, match-node-reads.Learnt, build-reads.Asked, build-reads.Learnt, scope-below t, scope.Post, keep-subject-below t, keep-subject.Post, guard-below t, guard.Post, failure-reads.Asked, failure-reads.Learnt)
+rule-calls t = (kind-reads.Asked, kind-reads.Learnt, path-below t, path.Post, walk-below t, walk.Post, entry-reads.Asked, entry-reads.Learnt, match-node-reads.Asked, match-node-reads.Learnt, build-reads.Asked, build-reads.Learnt, scope-below t, scope.Post, keep-subject-below t, keep-subject.Post, guard-below t, guard.Post, failure-reads.Asked, failure-reads.Learnt)
 
 abbrev pub path-calls : ℕ → path-lts.Claims
 path-calls t = (entry-reads.Asked, entry-reads.Learnt, failure-reads.Asked, failure-reads.Learnt, count-reads.Asked, count-reads.Learnt, word-reads.Asked, word-reads.Learnt, done-reads.Asked, done-reads.Learnt, apply-below t, apply.Post, answer-of-reads.Asked, answer-of-reads.Learnt, row-reads.Asked, row-reads.Learnt, node-reads.Asked, node-reads.Learnt)
@@ -193,7 +193,7 @@ abbrev pub keep-subject-calls : ℕ → keep-subject-lts.Claims
 keep-subject-calls t = (entry-reads.Asked, entry-reads.Learnt, apply-below t, apply.Post, answer-of-reads.Asked, answer-of-reads.Learnt, done-reads.Asked, done-reads.Learnt)
 
 abbrev pub apply-loop-calls : ℕ → apply-loop-lts.Claims
-apply-loop-calls t = (no-units-reads.Asked, no-units-reads.Learnt, no-nesting-reads.Asked, no-nesting-reads.Learnt, kind-reads.Asked, kind-reads.Learnt, entry-reads.Asked, entry-reads.Learnt, apply-below t, apply.Post, answer-of-reads.Asked, answer-of-reads.Learnt, visits-to-failure-reads.Asked, visits-to-failure-reads.Learnt, mask-of-reads.Asked, mask-of-reads.Learnt, apply-loop-below t, apply-loop.Post, restore-reads.Asked, restore-reads.Learnt, done-reads.Asked, done-reads.Learnt, rule-below t, rule.Post)
+apply-loop-calls t = (no-units-reads.Asked, no-units-reads.Learnt, no-nesting-reads.Asked, no-nesting-reads.Learnt, kind-reads.Asked, kind-reads.Learnt, entry-reads.Asked, entry-reads.Learnt, apply-below t, apply.Post, answer-of-reads.Asked, answer-of-reads.Learnt, cong-below t, cong.Post, one-below t, one.Post, visits-to-failure-reads.Asked, visits-to-failure-reads.Learnt, mask-of-reads.Asked, mask-of-reads.Learnt, apply-loop-below t, apply-loop.Post, restore-reads.Asked, restore-reads.Learnt, done-reads.Asked, done-reads.Learnt, rule-below t, rule.Post)
 
 abbrev pub apply-calls : ℕ → apply-lts.Claims
 apply-calls t = (kind-reads.Asked, kind-reads.Learnt, apply-loop-below t, apply-loop.Post, no-units-reads.Asked, no-units-reads.Learnt, no-nesting-reads.Asked, no-nesting-reads.Learnt, count-reads.Asked, count-reads.Learnt, walk-below t, walk.Post)
