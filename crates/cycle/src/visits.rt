@@ -518,6 +518,32 @@ fn one(
     failure(left)
 }
 
+// One visit of a SCOPE's operand. A SCOPE there is entered from here and not by the loop, so that SCOPEs nested in SCOPEs take
+// one frame a level.
+fn apply_in_scope(
+    table: &[u32; 32768],
+    store: &mut [u32],
+    st: &mut [u32; RECORD],
+    start: u32,
+    given: u64,
+    deep: u32,
+) -> u64
+    requires { ⌜ Ready (now table) (now store) (now st) start given ⌝ }
+    ensures { λ r. ⌜ Applied (now (table .entry)) (now (store .entry)) (now (st .entry)) start given deep r (now (st .exit)) (now (store .exit)) ⌝ }
+{
+    if kind(table, start) != SCOPE {
+        return apply_loop(table, store, st, start, given, deep);
+    }
+    let left = (given % HALF) as u32;
+    if left == 0 {
+        return no_units();
+    }
+    if deep == 0 {
+        return no_nesting(left);
+    }
+    scope(table, store, st, start, given - 1, deep - 1)
+}
+
 // SCOPE: nothing is saved where no masked variable is bound.
 fn scope(
     table: &[u32; 32768],
@@ -534,7 +560,7 @@ fn scope(
     if bound_in(st, mask) != 0 {
         return hiding(table, store, st, e, s, deep);
     }
-    let got = apply(table, store, st, entry(table, e, SCOPE_OPERAND), s, deep);
+    let got = apply_in_scope(table, store, st, entry(table, e, SCOPE_OPERAND), s, deep);
     unbind(st, mask);
     got
 }
@@ -555,7 +581,7 @@ fn hiding(
     let hidden = bound_in(st, mask);
     let kept = kept_words(st, hidden);
     unbind(st, mask);
-    let got = apply(table, store, st, entry(table, e, SCOPE_OPERAND), s, deep);
+    let got = apply_in_scope(table, store, st, entry(table, e, SCOPE_OPERAND), s, deep);
     unbind(st, mask);
     put_back(st, &kept, hidden);
     got

@@ -7,8 +7,8 @@ use mathlib.Core.Path.{_≡_, refl, sym, ap, _∙_}
 use borrow.Author.Needs.{needs}
 use native.Mathlib.Omega.{arith}
 use Rattle.cycle.proofs.visits.apply_loop.Reads as apply-loop
-use Rattle.cycle.proofs.visits.+apply+apply_loop+cong+guard+hiding+keep_subject+one+path+rule+scope+walk.Lts-apply_loop as apply-loop-lts
-use Rattle.cycle.proofs.visits.+apply+apply_loop+cong+guard+hiding+keep_subject+one+path+rule+scope+walk.Proof.Common.{apply-loop-at, apply-loop-calls}
+use Rattle.cycle.proofs.visits.+apply+apply_in_scope+apply_loop+cong+guard+hiding+keep_subject+one+path+rule+scope+walk.Lts-apply_loop as apply-loop-lts
+use Rattle.cycle.proofs.visits.+apply+apply_in_scope+apply_loop+cong+guard+hiding+keep_subject+one+path+rule+scope+walk.Proof.Common.{apply-loop-at, apply-loop-calls}
 
 abbrev pub apply-loop-Inv-loop : apply-loop-lts.InvT-loop
 apply-loop-Inv-loop table store₀ st₀ start given deep e₀ s₀ d₀ store st e s d = Turn table store₀ st₀ start given deep store st e s d

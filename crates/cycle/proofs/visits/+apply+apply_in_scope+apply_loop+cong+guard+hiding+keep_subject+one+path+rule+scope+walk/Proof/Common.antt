@@ -3,37 +3,40 @@ use borrow.Fn.Kinds.{In}
 use borrow.Fn.PlainCycle.{Measures, is, falls, and}
 use Rattle.cycle.proofs.visits.apply.Reads as apply
 use Rattle.cycle.proofs.visits.apply.Kinds as apply-kinds
-use Rattle.cycle.proofs.visits.+apply+apply_loop+cong+guard+hiding+keep_subject+one+path+rule+scope+walk.Lts-apply as apply-lts
+use Rattle.cycle.proofs.visits.+apply+apply_in_scope+apply_loop+cong+guard+hiding+keep_subject+one+path+rule+scope+walk.Lts-apply as apply-lts
+use Rattle.cycle.proofs.visits.apply_in_scope.Reads as apply-in-scope
+use Rattle.cycle.proofs.visits.apply_in_scope.Kinds as apply-in-scope-kinds
+use Rattle.cycle.proofs.visits.+apply+apply_in_scope+apply_loop+cong+guard+hiding+keep_subject+one+path+rule+scope+walk.Lts-apply_in_scope as apply-in-scope-lts
 use Rattle.cycle.proofs.visits.keep_subject.Reads as keep-subject
 use Rattle.cycle.proofs.visits.keep_subject.Kinds as keep-subject-kinds
-use Rattle.cycle.proofs.visits.+apply+apply_loop+cong+guard+hiding+keep_subject+one+path+rule+scope+walk.Lts-keep_subject as keep-subject-lts
+use Rattle.cycle.proofs.visits.+apply+apply_in_scope+apply_loop+cong+guard+hiding+keep_subject+one+path+rule+scope+walk.Lts-keep_subject as keep-subject-lts
 use Rattle.cycle.proofs.visits.cong.Reads as cong
 use Rattle.cycle.proofs.visits.cong.Kinds as cong-kinds
-use Rattle.cycle.proofs.visits.+apply+apply_loop+cong+guard+hiding+keep_subject+one+path+rule+scope+walk.Lts-cong as cong-lts
+use Rattle.cycle.proofs.visits.+apply+apply_in_scope+apply_loop+cong+guard+hiding+keep_subject+one+path+rule+scope+walk.Lts-cong as cong-lts
 use Rattle.cycle.proofs.visits.guard.Reads as guard
 use Rattle.cycle.proofs.visits.guard.Kinds as guard-kinds
-use Rattle.cycle.proofs.visits.+apply+apply_loop+cong+guard+hiding+keep_subject+one+path+rule+scope+walk.Lts-guard as guard-lts
+use Rattle.cycle.proofs.visits.+apply+apply_in_scope+apply_loop+cong+guard+hiding+keep_subject+one+path+rule+scope+walk.Lts-guard as guard-lts
 use Rattle.cycle.proofs.visits.hiding.Reads as hiding
 use Rattle.cycle.proofs.visits.hiding.Kinds as hiding-kinds
-use Rattle.cycle.proofs.visits.+apply+apply_loop+cong+guard+hiding+keep_subject+one+path+rule+scope+walk.Lts-hiding as hiding-lts
+use Rattle.cycle.proofs.visits.+apply+apply_in_scope+apply_loop+cong+guard+hiding+keep_subject+one+path+rule+scope+walk.Lts-hiding as hiding-lts
 use Rattle.cycle.proofs.visits.one.Reads as one
 use Rattle.cycle.proofs.visits.one.Kinds as one-kinds
-use Rattle.cycle.proofs.visits.+apply+apply_loop+cong+guard+hiding+keep_subject+one+path+rule+scope+walk.Lts-one as one-lts
+use Rattle.cycle.proofs.visits.+apply+apply_in_scope+apply_loop+cong+guard+hiding+keep_subject+one+path+rule+scope+walk.Lts-one as one-lts
 use Rattle.cycle.proofs.visits.path.Reads as path
 use Rattle.cycle.proofs.visits.path.Kinds as path-kinds
-use Rattle.cycle.proofs.visits.+apply+apply_loop+cong+guard+hiding+keep_subject+one+path+rule+scope+walk.Lts-path as path-lts
+use Rattle.cycle.proofs.visits.+apply+apply_in_scope+apply_loop+cong+guard+hiding+keep_subject+one+path+rule+scope+walk.Lts-path as path-lts
 use Rattle.cycle.proofs.visits.rule.Reads as rule
 use Rattle.cycle.proofs.visits.rule.Kinds as rule-kinds
-use Rattle.cycle.proofs.visits.+apply+apply_loop+cong+guard+hiding+keep_subject+one+path+rule+scope+walk.Lts-rule as rule-lts
+use Rattle.cycle.proofs.visits.+apply+apply_in_scope+apply_loop+cong+guard+hiding+keep_subject+one+path+rule+scope+walk.Lts-rule as rule-lts
 use Rattle.cycle.proofs.visits.scope.Reads as scope
 use Rattle.cycle.proofs.visits.scope.Kinds as scope-kinds
-use Rattle.cycle.proofs.visits.+apply+apply_loop+cong+guard+hiding+keep_subject+one+path+rule+scope+walk.Lts-scope as scope-lts
+use Rattle.cycle.proofs.visits.+apply+apply_in_scope+apply_loop+cong+guard+hiding+keep_subject+one+path+rule+scope+walk.Lts-scope as scope-lts
 use Rattle.cycle.proofs.visits.apply_loop.Reads as apply-loop
 use Rattle.cycle.proofs.visits.apply_loop.Kinds as apply-loop-kinds
-use Rattle.cycle.proofs.visits.+apply+apply_loop+cong+guard+hiding+keep_subject+one+path+rule+scope+walk.Lts-apply_loop as apply-loop-lts
+use Rattle.cycle.proofs.visits.+apply+apply_in_scope+apply_loop+cong+guard+hiding+keep_subject+one+path+rule+scope+walk.Lts-apply_loop as apply-loop-lts
 use Rattle.cycle.proofs.visits.walk.Reads as walk
 use Rattle.cycle.proofs.visits.walk.Kinds as walk-kinds
-use Rattle.cycle.proofs.visits.+apply+apply_loop+cong+guard+hiding+keep_subject+one+path+rule+scope+walk.Lts-walk as walk-lts
+use Rattle.cycle.proofs.visits.+apply+apply_in_scope+apply_loop+cong+guard+hiding+keep_subject+one+path+rule+scope+walk.Lts-walk as walk-lts
 use Rattle.leaves.proofs.answers.done.Reads as done-reads
 use Rattle.leaves.proofs.answers.failure.Reads as failure-reads
 use Rattle.leaves.proofs.answers.attempt_of.Reads as attempt-of-reads
@@ -68,6 +71,9 @@ use Rattle.words.proofs.word.Reads as word-reads
 
 abbrev pub μ-apply : Measures 3 apply-kinds.ps ℕ
 μ-apply κs a = 5 * a .1 .1 .1 .1 .1 .0 + 1
+
+abbrev pub μ-apply-in-scope : Measures 3 apply-in-scope-kinds.ps ℕ
+μ-apply-in-scope κs a = 5 * a .1 .1 .1 .1 .1 .0 + 1
 
 abbrev pub μ-keep-subject : Measures 3 keep-subject-kinds.ps ℕ
 μ-keep-subject κs a = 5 * a .1 .1 .1 .1 .1 .0 + 2
@@ -104,6 +110,12 @@ apply-at t = and 3 apply-kinds.ps (is 3 apply-kinds.ps μ-apply t) apply.Pre
 
 abbrev pub apply-below : ℕ → In 3 apply-kinds.ps
 apply-below t = and 3 apply-kinds.ps (falls 3 apply-kinds.ps _<_ μ-apply t) apply.Pre
+
+abbrev pub apply-in-scope-at : ℕ → In 3 apply-in-scope-kinds.ps
+apply-in-scope-at t = and 3 apply-in-scope-kinds.ps (is 3 apply-in-scope-kinds.ps μ-apply-in-scope t) apply-in-scope.Pre
+
+abbrev pub apply-in-scope-below : ℕ → In 3 apply-in-scope-kinds.ps
+apply-in-scope-below t = and 3 apply-in-scope-kinds.ps (falls 3 apply-in-scope-kinds.ps _<_ μ-apply-in-scope t) apply-in-scope.Pre
 
 abbrev pub keep-subject-at : ℕ → In 3 keep-subject-kinds.ps
 keep-subject-at t = and 3 keep-subject-kinds.ps (is 3 keep-subject-kinds.ps μ-keep-subject t) keep-subject.Pre
@@ -169,7 +181,7 @@ abbrev pub walk-calls : ℕ → walk-lts.Claims
 walk-calls t = (kind-reads.Asked, kind-reads.Learnt, count-reads.Asked, count-reads.Learnt, word-reads.Asked, word-reads.Learnt, visits-ahead-reads.Asked, visits-ahead-reads.Learnt, entry-ahead-reads.Asked, entry-ahead-reads.Learnt, no-units-reads.Asked, no-units-reads.Learnt, saved-mark-reads.Asked, saved-mark-reads.Learnt, saved-mask-reads.Asked, saved-mask-reads.Learnt, operand-reads.Asked, operand-reads.Learnt, done-reads.Asked, done-reads.Learnt, apply-below t, apply.Post, attempt-of-reads.Asked, attempt-of-reads.Learnt, restore-reads.Asked, restore-reads.Learnt, child-at-reads.Asked, child-at-reads.Learnt, others-at-reads.Asked, others-at-reads.Learnt, finish-reads.Asked, finish-reads.Learnt)
 
 abbrev pub scope-calls : ℕ → scope-lts.Claims
-scope-calls t = (scope-mask-reads.Asked, scope-mask-reads.Learnt, bound-in-reads.Asked, bound-in-reads.Learnt, hiding-below t, hiding.Post, entry-reads.Asked, entry-reads.Learnt, apply-below t, apply.Post, unbind-reads.Asked, unbind-reads.Learnt)
+scope-calls t = (scope-mask-reads.Asked, scope-mask-reads.Learnt, bound-in-reads.Asked, bound-in-reads.Learnt, hiding-below t, hiding.Post, entry-reads.Asked, entry-reads.Learnt, apply-in-scope-below t, apply-in-scope.Post, unbind-reads.Asked, unbind-reads.Learnt)
 
 abbrev pub rule-calls : ℕ → rule-lts.Claims
 rule-calls t = (kind-reads.Asked, kind-reads.Learnt, path-below t, path.Post, walk-below t, walk.Post, entry-reads.Asked, entry-reads.Learnt, match-node-reads.Asked, match-node-reads.Learnt, build-reads.Asked, build-reads.Learnt, scope-below t, scope.Post, keep-subject-below t, keep-subject.Post, guard-below t, guard.Post, failure-reads.Asked, failure-reads.Learnt)
@@ -181,7 +193,7 @@ abbrev pub one-calls : ℕ → one-lts.Claims
 one-calls t = (count-reads.Asked, count-reads.Learnt, mask-of-reads.Asked, mask-of-reads.Learnt, entry-reads.Asked, entry-reads.Learnt, word-reads.Asked, word-reads.Learnt, done-reads.Asked, done-reads.Learnt, apply-below t, apply.Post, attempt-of-reads.Asked, attempt-of-reads.Learnt, row-reads.Asked, row-reads.Learnt, node-reads.Asked, node-reads.Learnt, restore-reads.Asked, restore-reads.Learnt, failure-reads.Asked, failure-reads.Learnt)
 
 abbrev pub hiding-calls : ℕ → hiding-lts.Claims
-hiding-calls t = (scope-mask-reads.Asked, scope-mask-reads.Learnt, bound-in-reads.Asked, bound-in-reads.Learnt, kept-words-reads.Asked, kept-words-reads.Learnt, unbind-reads.Asked, unbind-reads.Learnt, entry-reads.Asked, entry-reads.Learnt, apply-below t, apply.Post, put-back-reads.Asked, put-back-reads.Learnt)
+hiding-calls t = (scope-mask-reads.Asked, scope-mask-reads.Learnt, bound-in-reads.Asked, bound-in-reads.Learnt, kept-words-reads.Asked, kept-words-reads.Learnt, unbind-reads.Asked, unbind-reads.Learnt, entry-reads.Asked, entry-reads.Learnt, apply-in-scope-below t, apply-in-scope.Post, put-back-reads.Asked, put-back-reads.Learnt)
 
 abbrev pub guard-calls : ℕ → guard-lts.Claims
 guard-calls t = (mask-of-reads.Asked, mask-of-reads.Learnt, entry-reads.Asked, entry-reads.Learnt, apply-below t, apply.Post, attempt-of-reads.Asked, attempt-of-reads.Learnt, restore-reads.Asked, restore-reads.Learnt, kind-reads.Asked, kind-reads.Learnt, done-reads.Asked, done-reads.Learnt, failure-reads.Asked, failure-reads.Learnt)
@@ -197,3 +209,6 @@ apply-loop-calls t = (no-units-reads.Asked, no-units-reads.Learnt, no-nesting-re
 
 abbrev pub apply-calls : ℕ → apply-lts.Claims
 apply-calls t = (kind-reads.Asked, kind-reads.Learnt, apply-loop-below t, apply-loop.Post, no-units-reads.Asked, no-units-reads.Learnt, no-nesting-reads.Asked, no-nesting-reads.Learnt, count-reads.Asked, count-reads.Learnt, walk-below t, walk.Post)
+
+abbrev pub apply-in-scope-calls : ℕ → apply-in-scope-lts.Claims
+apply-in-scope-calls t = (kind-reads.Asked, kind-reads.Learnt, apply-loop-below t, apply-loop.Post, no-units-reads.Asked, no-units-reads.Learnt, no-nesting-reads.Asked, no-nesting-reads.Learnt, scope-below t, scope.Post)
