@@ -30,7 +30,7 @@ module _ {t : List ℕ} {e : ℕ} where
   pub ahead-none : {d : ℕ} → VisitsAhead t e d 0
   ahead-none = record { few = omega arith; one = λ h. refl; leads = λ z. absurd (z refl) }
 
-  pub ahead-hint : {d n : ℕ} → Hinted t → e < 4096 → (kindOf t e ≡ 11) ⊎ (kindOf t e ≡ 13) → 2 ≤ d → n ≡ wordAt t e 5 → VisitsAhead t e d n
+  pub ahead-hint : {d n : ℕ} → Hinted t → e < 4096 → (kindOf t e ≡ 11) ⊎ (kindOf t e ≡ 12) ⊎ (kindOf t e ≡ 13) → 2 ≤ d → n ≡ wordAt t e 5 → VisitsAhead t e d n
   ahead-hint {d} {n} h l k two q = go (eqb n 0) refl
     where
       go : (z : Bool) → eqb n 0 ≡ z → VisitsAhead t e d n
@@ -39,7 +39,7 @@ module _ {t : List ℕ} {e : ℕ} where
           let a = h .ahead e l k (λ f. eqb-false n 0 z (q ∙ f)) in
           record {
             few = omega (arith, a .0);
-            one = λ f. absurd (⊎-elim (λ g. omega arith) (λ g. omega arith) k);
+            one = λ f. absurd (⊎-elim (λ g. omega arith) (⊎-elim (λ g. omega arith) (λ g. omega arith)) k);
             leads = λ f. rw q (a .1);
           }
 
@@ -61,3 +61,11 @@ module _ {t : List ℕ} {e : ℕ} where
       go true z = operand-below t en e i l other j
       go false true = operand-below t en e 0 l other (omega arith)
       go false false = operand-below t en e 2 l other (omega arith)
+
+  -- so is where the one operand of a ONE leads
+  module _ (h : kindOf t e ≡ 12) {first : ℕ} (n : ℕ) (fe : first ≡ entryAhead t e n) where
+    pub leads-one : {d : ℕ} → VisitsAhead t e d n → Leads t (wordAt t e 2) first n
+    leads-one l = leads-on n 12 0 l (sym h) fe refl
+
+    pub leads-one-inside : Entries t → e < 4096 → first < 4096
+    leads-one-inside en l = leads-inside n 12 0 en l (λ z. omega (arith, h, z)) (omega arith) fe refl

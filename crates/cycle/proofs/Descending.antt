@@ -17,16 +17,16 @@ use Rattle.meaning.specs.Rules.{apply, Do, nth, put, given, again, oneOf}
 use Rattle.meaning.specs.Store.{children}
 use Rattle.meaning.specs.Demands.{Kept, Leaves}
 use Rattle.leaves.specs.declared.answers.Answer.{Answer}
-use Rattle.leaves.specs.declared.answers.Answer.the-variants.{Done, Failed}
+use Rattle.leaves.specs.declared.answers.Answer.the-variants.{Done, Failed, Cut}
 use Rattle.leaves.specs.declared.answers.Attempt.{Attempt}
 use Rattle.leaves.specs.declared.answers.Attempt.the-variants.{Ended, Cut as Off}
-use Rattle.leaves.specs.Answers.{packed, nodeIn, unitsIn, failedWord, answerOf, attemptOf}
+use Rattle.leaves.specs.Answers.{packed, nodeIn, unitsIn, unitsWord, failedWord, answerOf, attemptOf}
 use Rattle.meaning.specs.Limits.{at}
 use Rattle.leaves.specs.Noted.{Standing}
 use Rattle.leaves.specs.Record.{recordLong, markOf, notesOf, standing, held, back, Framed}
 use Rattle.leaves.specs.Visits.{visit, plan, ruled, out, countOf, rowAt, noded, Entries, Steady, Gives}
-use Rattle.cycle.specs.Cycle.{Ready}
-use Rattle.leaves.proofs.AnswerWords.{node-packed, units-packed, gave-failed, failed-few, attempt-done, attempt-failed, attempt-cut}
+use Rattle.cycle.specs.Cycle.{Leads, VisitsAhead, entryAhead, Ready}
+use Rattle.leaves.proofs.AnswerWords.{node-packed, units-packed, gave-failed, failed-few, attempt-done, attempt-failed, attempt-cut, out-units}
 use Rattle.leaves.proofs.Asking.{Tagged, goes-on, caught, cut-off, not-done}
 use Rattle.leaves.proofs.Keeping.{LeavesFitting, apply-leaves, steady-kept, leaves-done, leaves-failed}
 use Rattle.index.specs.Run.{Fits}
@@ -35,6 +35,7 @@ use Rattle.leaves.proofs.Holding.{further, held-back, mark-back, notes-back, fr
 use Rattle.leaves.proofs.Children.{six-at, part-length, part-next, part-end}
 use Rattle.leaves.proofs.Walking.{failing}
 use Rattle.cycle.proofs.Ruling.{ruled-path, ruled-one}
+use Rattle.cycle.proofs.Ahead.{leads-one, leads-one-inside}
 use Rattle.cycle.proofs.Rowing.{kept-count, kept-constructor, kept-children, put-set, child-below, remade}
 
 -- child 0 is none, and so is one past the last
@@ -163,12 +164,17 @@ module _ {t w st : List ℕ} {e s i : ℕ} (n : ℕ) (ready : Ready t w st e s) 
           frame = framed-trans further st st′ st″ (gives .frame) (made .frame);
         }
 
+-- running out of units is a cut-off
+units-cut : answerOf unitsWord ≡ Cut unitsWord
+unfolding answerOf
+units-cut = refl
+
 -- the mark of the start, with what was noted since
 abbrev tried : List ℕ → List ℕ → Standing
 tried st₀ st = at (markOf st₀) (notesOf st)
 
 -- what a turn of ONE's loop has: mark and bindings are those of the start, and the rest of the children is the whole
-pub record Trying (t w₀ st₀ : List ℕ) (n e s c x : ℕ) (w st : List ℕ) (u i : ℕ) : Type 0 where
+pub record Trying (t w₀ st₀ : List ℕ) (n e s c : ℕ) (w st : List ℕ) (u i : ℕ) : Type 0 where
   pub steady : Steady w (tried st₀ st) (held st₀)
   pub mark : markOf st ≡ markOf st₀
   pub holds : held st ≡ held st₀
@@ -177,7 +183,7 @@ pub record Trying (t w₀ st₀ : List ℕ) (n e s c x : ℕ) (w st : List ℕ) 
   pub long : length w ≡ length w₀
   pub count : c ≡ countOf w (nodeIn s)
   pub few : u < 4294967296
-  pub rest : plan t n (oneOf x (take i (children w (nodeIn s))) (drop i (children w (nodeIn s))) (held st₀) (again (nodeIn s) (constructorOf w (nodeIn s)))) w (tried st₀ st) u
+  pub rest : plan t n (oneOf (wordAt t e 2) (take i (children w (nodeIn s))) (drop i (children w (nodeIn s))) (held st₀) (again (nodeIn s) (constructorOf w (nodeIn s)))) w (tried st₀ st) u
       ≡ ruled t n e (nodeIn s) (held st₀) w₀ (standing st₀) (unitsIn s)
 
 -- the next child's visit
@@ -199,8 +205,8 @@ module _ {t w₀ st₀ : List ℕ} {e s : ℕ} (n : ℕ) (ready : Ready t w₀ s
   abbrev Gave : ℕ → List ℕ → List ℕ → Type 0
   Gave r st″ w″ = Gives (ruled t n e (nodeIn s) (held st₀) w₀ (standing st₀) (unitsIn s)) st₀ r st″ w″
 
-  pub one-begins : {c x : ℕ} → kindOf t e ≡ 12 → c ≡ countOf w₀ (nodeIn s) → x ≡ wordAt t e 2 → Trying t w₀ st₀ n e s c x w₀ st₀ (unitsIn s) 0
-  one-begins {x = x} h ce xe = record {
+  pub one-begins : {c : ℕ} → kindOf t e ≡ 12 → c ≡ countOf w₀ (nodeIn s) → Trying t w₀ st₀ n e s c w₀ st₀ (unitsIn s) 0
+  one-begins h ce = record {
     steady = ready .steady;
     mark = refl;
     holds = refl;
@@ -209,39 +215,30 @@ module _ {t w₀ st₀ : List ℕ} {e s : ℕ} (n : ℕ) (ready : Ready t w₀ s
     long = refl;
     count = ce;
     few = omega arith;
-    rest = sym (ruled-one t n e (nodeIn s) (held st₀) w₀ (standing st₀) (unitsIn s) x xe h);
+    rest = sym (ruled-one t n e (nodeIn s) (held st₀) w₀ (standing st₀) (unitsIn s) (wordAt t e 2) refl h);
   }
 
-  module _ {c x : ℕ} {w st : List ℕ} {u i : ℕ} (turn : Trying t w₀ st₀ n e s c x w st u i) where
+  module _ {c : ℕ} {w st : List ℕ} {u i : ℕ} (turn : Trying t w₀ st₀ n e s c w st u i) where
+    -- the operand
+    abbrev x : ℕ
+    x = wordAt t e 2
+
     pub gives-one-none : {r : ℕ} → c ≤ i → r ≡ failedWord u → Gave r st w
     gives-one-none {r} l p = record {
       is = gave-failed st w r u p (turn .few) ∙ sym (one-end t n x w (nodeIn s) i (held st₀) (again (nodeIn s) (constructorOf w (nodeIn s))) (tried st₀ st) u (omega (arith, turn .count)) ∙ failing t n w (tried st₀ st) u) ∙ turn .rest;
       frame = turn .frame;
     }
 
-    -- child i is visited
-    module _ (more : i < c) {y g : ℕ} (ye : y ≡ wordAt w (nodeIn s) (2 + i)) (ge : g ≡ packed y u) where
+    -- child i is visited: the operand leads to the entry op in n′ visits, which are counted and not made
+    module _ (more : i < c) (h : kindOf t e ≡ 12) {n′ op : ℕ} (ahead : VisitsAhead t e n n′) (oe : op ≡ entryAhead t e n′) {y : ℕ} (ye : y ≡ wordAt w (nodeIn s) (2 + i)) where
       has-next : i < countOf w (nodeIn s)
       has-next = omega (arith, turn .count)
 
       below-mark : y < markOf st₀
       below-mark = rw ye (child-below (turn .steady) (ready .subject) has-next)
 
-      node-is : nodeIn g ≡ y
-      node-is = ap nodeIn ge ∙ node-packed y u (turn .few)
-
-      units-is : unitsIn g ≡ u
-      units-is = ap unitsIn ge ∙ units-packed y u (turn .few)
-
-      pub ready-one : kindOf t e ≡ 12 → x ≡ wordAt t e 2 → Ready t w st x g
-      ready-one h xe = record {
-        entries = ready .entries;
-        hints = ready .hints;
-        long = turn .wide ∙ ready .long;
-        inside = rw xe (operand-below t (ready .entries) e 0 (ready .inside) (λ z. omega (arith, h, z)) (omega arith));
-        steady = rw (turn .mark, turn .holds) (turn .steady);
-        subject = rw (node-is, turn .mark) below-mark;
-      }
+      leads : Leads t x op n′
+      leads = leads-one h n′ oe ahead
 
       abbrev follows : ℕ → Bindings ℕ → Do ℕ
       follows z b = again (nodeIn s) (constructorOf w (nodeIn s)) (take i (children w (nodeIn s)) ++ (z ∷ drop (i + 1) (children w (nodeIn s)))) b
@@ -252,60 +249,85 @@ module _ {t w₀ st₀ : List ℕ} {e s : ℕ} (n : ℕ) (ready : Ready t w₀ s
       asks-next : plan t n (ask keep (apply x y (held st₀)) follows others) w (tried st₀ st) u ≡ ruled t n e (nodeIn s) (held st₀) w₀ (standing st₀) (unitsIn s)
       asks-next = ap (λ y. plan t n (ask keep (apply x y (held st₀)) follows others) w (tried st₀ st) u) ye ∙ sym (one-next t n x w (nodeIn s) i (held st₀) (again (nodeIn s) (constructorOf w (nodeIn s))) (tried st₀ st) u has-next) ∙ turn .rest
 
-      module _ {got : ℕ} {st′ w′ : List ℕ} (gives : Gives (visit t n (apply x (nodeIn g) (held st)) w (standing st) (unitsIn g)) st got st′ w′) {a : Attempt} (attempted : a ≡ attemptOf (answerOf got)) where
-        was : out got st′ w′ ≡ visit t n (apply x y (held st₀)) w (tried st₀ st) u
-        was = gives .is ∙ (λ z. visit t n (apply x (node-is z) (turn .holds z)) w (at (turn .mark z) (notesOf st)) (units-is z))
+      -- a cut-off ends it
+      off : {got d : ℕ} {st′ w′ : List ℕ} → out got st′ w′ ≡ visit t n (apply x y (held st₀)) w (tried st₀ st) u → Framed st₀ st′ → answerOf got ≡ Cut d → Gave got st′ w′
+      off {got} {d} {st′} {w′} is f q = record { is = cut-off t n w (tried st₀ st) u _ got st′ w′ is (answerOf got) refl keep follows others d q ∙ asks-next; frame = f }
 
-        framed : Framed st₀ st′
-        framed = framed-trans further st₀ st st′ (turn .frame) (gives .frame)
+      -- the units are fewer than the visits ahead
+      pub gives-one-short : {r : ℕ} → u < n′ → r ≡ unitsWord → Gave r st w
+      gives-one-short l re = off (ap (λ r. out r st w) re ∙ out-units st w ∙ sym (leads .short y (held st₀) w (tried st₀ st) n u (ahead .few) l)) (turn .frame) (ap answerOf re ∙ units-cut)
 
-        wide′ : length st′ ≡ length st₀
-        wide′ = gives .frame .long ∙ turn .wide
+      module _ (enough : n′ ≤ u) {g : ℕ} (ge : g ≡ packed y (u - n′)) where
+        less : u - n′ < 4294967296
+        less = omega (arith, turn .few)
 
-        long′ : length st′ ≡ recordLong
-        long′ = wide′ ∙ ready .long
+        node-is : nodeIn g ≡ y
+        node-is = ap nodeIn ge ∙ node-packed y (u - n′) less
 
-        pub gives-one-off : {d : ℕ} → a ≡ Off d → Gave got st′ w′
-        gives-one-off {d} q = record {
-          is = cut-off t n w (tried st₀ st) u _ got st′ w′ was (answerOf got) refl keep follows others d (attempt-cut (answerOf got) d (sym attempted ∙ q)) ∙ asks-next;
-          frame = framed;
+        units-is : unitsIn g ≡ u - n′
+        units-is = ap unitsIn ge ∙ units-packed y (u - n′) less
+
+        pub ready-one : Ready t w st op g
+        ready-one = record {
+          entries = ready .entries;
+          hints = ready .hints;
+          long = turn .wide ∙ ready .long;
+          inside = leads-one-inside h n′ oe (ready .entries) (ready .inside);
+          steady = rw (turn .mark, turn .holds) (turn .steady);
+          subject = rw (node-is, turn .mark) below-mark;
         }
 
-        module _ {yes : Bool} {z v : ℕ} (q : a ≡ Ended yes z v) where
-          did : yes ≡ true → answerOf got ≡ Done z v
-          did p = attempt-done (answerOf got) z v (sym attempted ∙ q ∙ ap (λ b. Ended b z v) p)
+        module _ {got : ℕ} {st′ w′ : List ℕ} (gives : Gives (visit t (n - n′) (apply op (nodeIn g) (held st)) w (standing st) (unitsIn g)) st got st′ w′) {a : Attempt} (attempted : a ≡ attemptOf (answerOf got)) where
+          was : out got st′ w′ ≡ visit t n (apply x y (held st₀)) w (tried st₀ st) u
+          was = gives .is ∙ (λ z. visit t (n - n′) (apply op (node-is z) (turn .holds z)) w (at (turn .mark z) (notesOf st)) (units-is z)) ∙ sym (leads .is y (held st₀) w (tried st₀ st) n u (ahead .few) enough)
 
-          did-not : yes ≡ false → answerOf got ≡ Failed v
-          did-not p = attempt-failed (answerOf got) z v (sym attempted ∙ q ∙ ap (λ b. Ended b z v) p)
+          framed : Framed st₀ st′
+          framed = framed-trans further st₀ st st′ (turn .frame) (gives .frame)
 
-          pub fits-one : yes ≡ true → Fits w′ (markOf st′) (notesOf st′)
-          fits-one p = fits-done (turn .steady) (ready .entries) n x y u below-mark got st′ w′ was refl (did p)
+          wide′ : length st′ ≡ length st₀
+          wide′ = gives .frame .long ∙ turn .wide
 
-          pub gives-one : {r : ℕ} {words st″ w″ : List ℕ} → yes ≡ true → words ≡ rowAt w′ (nodeIn s) → Gives (noded (set words (2 + i) z) st′ w′ v) st′ r st″ w″ → Gave r st″ w″
-          gives-one {r} {words} {st″} p we made = record {
-            is = made .is ∙ sym (
-                goes-on t n w (tried st₀ st) u _ got st′ w′ was (answerOf got) refl follows others z v (did p)
-                ∙ ap (λ gs. plan t n (again (nodeIn s) (constructorOf w (nodeIn s)) gs (held st′)) w′ (standing st′) v) (set-next w (nodeIn s) i has-next z)
-                ∙ remade (turn .steady) (ready .subject) has-next t n z v st′ (kept-done (turn .steady) (ready .entries) n x y u below-mark got st′ w′ was refl (did p)) we
-                ) ∙ asks-next;
-            frame = framed-trans further st₀ st′ st″ framed (made .frame);
-          }
+          long′ : length st′ ≡ recordLong
+          long′ = wide′ ∙ ready .long
 
-          -- mark and mask are put back, and the next child is tried
-          pub one-again : yes ≡ false → Trying t w₀ st₀ n e s c x w′ (back st₀ st′) v (i + 1)
-          one-again p =
-              let (kept, fits) = kept-failed (turn .steady) (ready .entries) n x y u below-mark got st′ w′ was refl (did-not p) in
-              let kids = kept-children kept (nodeIn s) (ready .subject) in
-              let con = kept-constructor kept (nodeIn s) (ready .subject) in
-              record {
-                steady = rw (notes-back further st₀ st′ long′) (steady-kept (turn .steady) (standing st′) kept fits);
-                mark = mark-back further st₀ st′ long′;
-                holds = held-back further st₀ st′ long′ framed;
-                frame = framed-back further st₀ st′ long′ framed;
-                wide = length-back further st₀ st′ long′ ∙ sym (ready .long);
-                long = kept .long ∙ turn .long;
-                count = turn .count ∙ sym (kept-count kept (nodeIn s) (ready .subject));
-                few = failed-few got v (answerOf got) refl (did-not p);
-                rest = (λ j. plan t n (oneOf x (take (i + 1) (kids j)) (drop (i + 1) (kids j)) (held st₀) (again (nodeIn s) (con j))) w′ (at (markOf st₀) (notes-back further st₀ st′ long′ j)) v)
-                    ∙ sym (caught t n w (tried st₀ st) u _ got st′ w′ was (answerOf got) refl keep follows others v (did-not p)) ∙ asks-next;
-              }
+          pub gives-one-off : {d : ℕ} → a ≡ Off d → Gave got st′ w′
+          gives-one-off {d} q = off was framed (attempt-cut (answerOf got) d (sym attempted ∙ q))
+
+          module _ {yes : Bool} {z v : ℕ} (q : a ≡ Ended yes z v) where
+            did : yes ≡ true → answerOf got ≡ Done z v
+            did p = attempt-done (answerOf got) z v (sym attempted ∙ q ∙ ap (λ b. Ended b z v) p)
+
+            did-not : yes ≡ false → answerOf got ≡ Failed v
+            did-not p = attempt-failed (answerOf got) z v (sym attempted ∙ q ∙ ap (λ b. Ended b z v) p)
+
+            pub fits-one : yes ≡ true → Fits w′ (markOf st′) (notesOf st′)
+            fits-one p = fits-done (turn .steady) (ready .entries) n x y u below-mark got st′ w′ was refl (did p)
+
+            pub gives-one : {r : ℕ} {words st″ w″ : List ℕ} → yes ≡ true → words ≡ rowAt w′ (nodeIn s) → Gives (noded (set words (2 + i) z) st′ w′ v) st′ r st″ w″ → Gave r st″ w″
+            gives-one {r} {words} {st″} p we made = record {
+              is = made .is ∙ sym (
+                  goes-on t n w (tried st₀ st) u _ got st′ w′ was (answerOf got) refl follows others z v (did p)
+                  ∙ ap (λ gs. plan t n (again (nodeIn s) (constructorOf w (nodeIn s)) gs (held st′)) w′ (standing st′) v) (set-next w (nodeIn s) i has-next z)
+                  ∙ remade (turn .steady) (ready .subject) has-next t n z v st′ (kept-done (turn .steady) (ready .entries) n x y u below-mark got st′ w′ was refl (did p)) we
+                  ) ∙ asks-next;
+              frame = framed-trans further st₀ st′ st″ framed (made .frame);
+            }
+
+            -- mark and mask are put back, and the next child is tried
+            pub one-again : yes ≡ false → Trying t w₀ st₀ n e s c w′ (back st₀ st′) v (i + 1)
+            one-again p =
+                let (kept, fits) = kept-failed (turn .steady) (ready .entries) n x y u below-mark got st′ w′ was refl (did-not p) in
+                let kids = kept-children kept (nodeIn s) (ready .subject) in
+                let con = kept-constructor kept (nodeIn s) (ready .subject) in
+                record {
+                  steady = rw (notes-back further st₀ st′ long′) (steady-kept (turn .steady) (standing st′) kept fits);
+                  mark = mark-back further st₀ st′ long′;
+                  holds = held-back further st₀ st′ long′ framed;
+                  frame = framed-back further st₀ st′ long′ framed;
+                  wide = length-back further st₀ st′ long′ ∙ sym (ready .long);
+                  long = kept .long ∙ turn .long;
+                  count = turn .count ∙ sym (kept-count kept (nodeIn s) (ready .subject));
+                  few = failed-few got v (answerOf got) refl (did-not p);
+                  rest = (λ j. plan t n (oneOf x (take (i + 1) (kids j)) (drop (i + 1) (kids j)) (held st₀) (again (nodeIn s) (con j))) w′ (at (markOf st₀) (notes-back further st₀ st′ long′ j)) v)
+                      ∙ sym (caught t n w (tried st₀ st) u _ got st′ w′ was (answerOf got) refl keep follows others v (did-not p)) ∙ asks-next;
+                }

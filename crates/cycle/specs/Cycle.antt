@@ -43,10 +43,10 @@ pub record Heads (t : List ℕ) (x p n : ℕ) : Type 0 where
   pub fails : (w : List ℕ) (k : ℕ) → agreeing t w p k ≡ false → Fails t w x k p n
 
 -- what words 4 and 5 tell of a first operand where they are no operands and word 5 is not 0: of CHOICE's and LEFT's at which
--- pattern it fails and after how many visits, of ALL's and SOME's where a CALL and its REC lead
+-- pattern it fails and after how many visits, of ALL's, ONE's and SOME's where a CALL and its REC lead
 pub record Hinted (t : List ℕ) : Type 0 where
   pub head : (e : ℕ) → e < 4096 → (kindOf t e ≡ 5) ⊎ (kindOf t e ≡ 6) → (wordAt t e 5 ≡ 0 → ⊥) → Heads t (wordAt t e 2) (wordAt t e 4) (wordAt t e 5)
-  pub ahead : (e : ℕ) → e < 4096 → (kindOf t e ≡ 11) ⊎ (kindOf t e ≡ 13) → (wordAt t e 5 ≡ 0 → ⊥) → (wordAt t e 5 ≤ 2) × Leads t (wordAt t e 2) (wordAt t e 4) (wordAt t e 5)
+  pub ahead : (e : ℕ) → e < 4096 → (kindOf t e ≡ 11) ⊎ (kindOf t e ≡ 12) ⊎ (kindOf t e ≡ 13) → (wordAt t e 5 ≡ 0 → ⊥) → (wordAt t e 5 ≤ 2) × Leads t (wordAt t e 2) (wordAt t e 4) (wordAt t e 5)
 
 -- what a visit of entry e requires: the node and the units are in the word g
 pub record Ready (t w st : List ℕ) (e g : ℕ) : Type 0 where

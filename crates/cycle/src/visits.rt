@@ -368,8 +368,8 @@ fn walk(
     )
 }
 
-// How many visits lead to the first work of ALL's or SOME's operand: those of a CALL and its REC, where it is known that
-// there is nothing else in them and the nesting is enough; else 0.
+// How many visits lead to the first work of ALL's, SOME's or ONE's operand: those of a CALL and its REC, where it is known
+// that there is nothing else in them and the nesting is enough; else 0.
 fn visits_ahead(table: &[u32; 32768], e: u32, deep: u32) -> u32
     requires { ⌜ Hinted (now table) × (e < 4096) ⌝ }
     ensures { λ r. ⌜ VisitsAhead (now (table .entry)) e deep r ⌝ }
@@ -381,6 +381,7 @@ fn visits_ahead(table: &[u32; 32768], e: u32, deep: u32) -> u32
     match kind {
         ALL => entry(table, e, HINT_VISITS),
         SOME => entry(table, e, HINT_VISITS),
+        ONE => entry(table, e, HINT_VISITS),
         _ => 0,
     }
 }
@@ -475,7 +476,8 @@ fn finish(
     node(store, st, made, left)
 }
 
-// ONE: the leftmost child that succeeds.
+// ONE: the leftmost child that succeeds. The visits that lead to its operand's first work are counted at once, as in the child
+// walker.
 fn one(
     table: &[u32; 32768],
     store: &mut [u32],
@@ -492,16 +494,20 @@ fn one(
     let n = count(store, t);
     let mark = st[MARK];
     let mask = mask_of(st);
-    let op = entry(table, e, 2);
+    let ahead = visits_ahead(table, e, deep);
+    let op = entry_ahead(table, e, ahead);
     let mut i: u32 = 0;
     while i < n {
-        let got = apply(
+        if left < ahead {
+            return no_units();
+        }
+        let got = apply_loop(
             table,
             store,
             st,
             op,
-            done(word(store, t, 2 + i), left),
-            deep,
+            done(word(store, t, 2 + i), left - ahead),
+            deep - ahead,
         );
         let Attempt::Ended(yes, x, rest) = attempt_of(got) else {
             return got;

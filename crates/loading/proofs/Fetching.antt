@@ -90,7 +90,8 @@ module _ {t c : List ℕ} (l : Loaded t c) where
       go (choice (inl k) n b) = kind-is c e 5 (kind-same e ∙ k) ∙ (rw (x, y)) ∙ sym (kind-is t e 5 k)
       go (choice (inr k) n b) = kind-is c e 6 (kind-same e ∙ k) ∙ (rw (x, y)) ∙ sym (kind-is t e 6 k)
       go (all (inl k) b) = kind-is c e 11 (kind-same e ∙ k) ∙ (rw x) ∙ sym (kind-is t e 11 k)
-      go (all (inr k) b) = kind-is c e 13 (kind-same e ∙ k) ∙ (rw x) ∙ sym (kind-is t e 13 k)
+      go (all (inr (inl k)) b) = kind-is c e 12 (kind-same e ∙ k) ∙ (rw x) ∙ sym (kind-is t e 12 k)
+      go (all (inr (inr k)) b) = kind-is c e 13 (kind-same e ∙ k) ∙ (rw x) ∙ sym (kind-is t e 13 k)
 
   pattern-same : (e : ℕ) → table c .patterns e ≡ table t .patterns e
   pattern-same e = go (l .hints e)
@@ -103,7 +104,8 @@ module _ {t c : List ℕ} (l : Loaded t c) where
       go (choice (inl k) n b) = below 5 k (omega arith)
       go (choice (inr k) n b) = below 6 k (omega arith)
       go (all (inl k) b) = below 11 k (omega arith)
-      go (all (inr k) b) = below 13 k (omega arith)
+      go (all (inr (inl k)) b) = below 12 k (omega arith)
+      go (all (inr (inr k)) b) = below 13 k (omega arith)
 
   pub table-loaded : table c ≡ table t
   unfolding tableBy
@@ -240,4 +242,5 @@ module _ {t c : List ℕ} (h : tableChecked t ≡ checked 0 0) (l : Loaded t c) 
       part e i q n (choice (inl k) m b) = absurd (omega arith)
       part e i q n (choice (inr k) m b) = absurd (omega arith)
       part e i q n (all (inl k) b) = absurd (omega arith)
-      part e i q n (all (inr k) b) = absurd (omega arith)
+      part e i q n (all (inr (inl k)) b) = absurd (omega arith)
+      part e i q n (all (inr (inr k)) b) = absurd (omega arith)

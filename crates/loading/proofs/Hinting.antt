@@ -49,17 +49,19 @@ module _ {t : List ℕ} {e q x n : ℕ} (o : q ≡ wordAt t e 2) where
   pub hints-choice : (kindOf t e ≡ 5) ⊎ (kindOf t e ≡ 6) → HeadFound t q 4 x n → (n ≡ 0 → ⊥) → Hints t e x n
   hints-choice k b z = choice k (b .few) (elsewhere o (b .head z))
 
-  pub hints-all : (kindOf t e ≡ 11) ⊎ (kindOf t e ≡ 13) → ((n ≡ 0 → ⊥) → Calls t x q n) → (n ≡ 0 → ⊥) → Hints t e x n
+  pub hints-all : (kindOf t e ≡ 11) ⊎ (kindOf t e ≡ 12) ⊎ (kindOf t e ≡ 13) → ((n ≡ 0 → ⊥) → Calls t x q n) → (n ≡ 0 → ⊥) → Hints t e x n
   hints-all k b z = all k (subst (λ (q : ℕ). Calls t x q n) o (b z))
 
 -- ---- in a run
 
 -- the kinds of the two hints
-apart : {k : ℕ} → (k ≡ 5) ⊎ (k ≡ 6) → (k ≡ 11) ⊎ (k ≡ 13) → ⊥
+apart : {k : ℕ} → (k ≡ 5) ⊎ (k ≡ 6) → (k ≡ 11) ⊎ (k ≡ 12) ⊎ (k ≡ 13) → ⊥
 apart (inl a) (inl b) = omega arith
-apart (inl a) (inr b) = omega arith
+apart (inl a) (inr (inl b)) = omega arith
+apart (inl a) (inr (inr b)) = omega arith
 apart (inr a) (inl b) = omega arith
-apart (inr a) (inr b) = omega arith
+apart (inr a) (inr (inl b)) = omega arith
+apart (inr a) (inr (inr b)) = omega arith
 
 -- no such beginning is at once
 head-some : {t : List ℕ} {p q n : ℕ} → HasHead t p q n → n ≡ 0 → ⊥
@@ -126,9 +128,10 @@ module _ {t c : List ℕ} (ch : tableChecked t ≡ checked 0 0) (l : Loaded t c)
       }
       head e i k s (all h b) = absurd (apart k h)
 
-      ahead : (e : ℕ) → (kindOf t e ≡ 11) ⊎ (kindOf t e ≡ 13) → (wordAt c e 5 ≡ 0 → ⊥) → Hints t e (wordAt c e 4) (wordAt c e 5)
+      ahead : (e : ℕ) → (kindOf t e ≡ 11) ⊎ (kindOf t e ≡ 12) ⊎ (kindOf t e ≡ 13) → (wordAt c e 5 ≡ 0 → ⊥) → Hints t e (wordAt c e 4) (wordAt c e 5)
           → (wordAt c e 5 ≤ 2) × Leads c (wordAt c e 2) (wordAt c e 4) (wordAt c e 5)
       ahead e (inl k) s (given p q) = absurd (s (q ∙ five-unused t ch e 11 k (λ z. omega arith) (omega arith) (omega arith)))
-      ahead e (inr k) s (given p q) = absurd (s (q ∙ five-unused t ch e 13 k (λ z. omega arith) (omega arith) (omega arith)))
+      ahead e (inr (inl k)) s (given p q) = absurd (s (q ∙ five-unused t ch e 12 k (λ z. omega arith) (omega arith) (omega arith)))
+      ahead e (inr (inr k)) s (given p q) = absurd (s (q ∙ five-unused t ch e 13 k (λ z. omega arith) (omega arith) (omega arith)))
       ahead e k s (choice h n b) = absurd (apart h k)
       ahead e k s (all h b) = (omega (arith, b .visits), rw (word-same l e 2 (omega arith)) (calls-leads b))

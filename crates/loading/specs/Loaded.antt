@@ -26,11 +26,11 @@ pub record Calls (t : List ℕ) (x q n : ℕ) : Type 0 where
   pub visits : n ≡ 2
 
 -- what may stand in words 4 and 5 of entry e in a run: the table's own words; at a CHOICE or a LEFT what its first operand begins
--- with; at an ALL or a SOME where its operand leads
+-- with; at an ALL, a ONE or a SOME where its operand leads
 pub data Hints (t : List ℕ) (e x n : ℕ) : Type 0 where
   given : x ≡ wordAt t e 4 → n ≡ wordAt t e 5 → Hints t e x n
   choice : (kindOf t e ≡ 5) ⊎ (kindOf t e ≡ 6) → n ≤ 4 → HasHead t x (wordAt t e 2) n → Hints t e x n
-  all : (kindOf t e ≡ 11) ⊎ (kindOf t e ≡ 13) → Calls t x (wordAt t e 2) n → Hints t e x n
+  all : (kindOf t e ≡ 11) ⊎ (kindOf t e ≡ 12) ⊎ (kindOf t e ≡ 13) → Calls t x (wordAt t e 2) n → Hints t e x n
 
 -- what a look for a head answers: n is 0 where none is known
 pub record HeadFound (t : List ℕ) (q most x n : ℕ) : Type 0 where

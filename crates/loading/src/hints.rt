@@ -6,6 +6,7 @@ use checks::kinds::CALL;
 use checks::kinds::CHOICE;
 use checks::kinds::LEFT;
 use checks::kinds::MATCH;
+use checks::kinds::ONE;
 use checks::kinds::PCON;
 use checks::kinds::REC;
 use checks::kinds::SCOPE;
@@ -75,7 +76,8 @@ fn body_called(table: &[u32], q: u32) -> Hint
     Hint(word(table, r, 2), 2)
 }
 
-// What is known of entry e: of CHOICE and LEFT what their first operand begins with, of ALL and SOME where their operand leads.
+// What is known of entry e: of CHOICE and LEFT what their first operand begins with, of ALL, ONE and SOME where their operand
+// leads.
 pub(crate) fn hint_for(table: &[u32], e: u32) -> Hint
     ensures { λ r. ⌜ ((r .1 ≡ 0 → ⊥) → Hints (now (table .entry)) e (r .0) (r .1)) ⌝ }
 {
@@ -88,6 +90,9 @@ pub(crate) fn hint_for(table: &[u32], e: u32) -> Hint
         return scope_head(table, q);
     }
     if k == ALL {
+        return body_called(table, q);
+    }
+    if k == ONE {
         return body_called(table, q);
     }
     if k == SOME {

@@ -190,7 +190,7 @@ abbrev pub path-calls : ℕ → path-lts.Claims
 path-calls t = (entry-reads.Asked, entry-reads.Learnt, failure-reads.Asked, failure-reads.Learnt, count-reads.Asked, count-reads.Learnt, word-reads.Asked, word-reads.Learnt, done-reads.Asked, done-reads.Learnt, apply-below t, apply.Post, answer-of-reads.Asked, answer-of-reads.Learnt, row-reads.Asked, row-reads.Learnt, node-reads.Asked, node-reads.Learnt)
 
 abbrev pub one-calls : ℕ → one-lts.Claims
-one-calls t = (count-reads.Asked, count-reads.Learnt, mask-of-reads.Asked, mask-of-reads.Learnt, entry-reads.Asked, entry-reads.Learnt, word-reads.Asked, word-reads.Learnt, done-reads.Asked, done-reads.Learnt, apply-below t, apply.Post, attempt-of-reads.Asked, attempt-of-reads.Learnt, row-reads.Asked, row-reads.Learnt, node-reads.Asked, node-reads.Learnt, restore-reads.Asked, restore-reads.Learnt, failure-reads.Asked, failure-reads.Learnt)
+one-calls t = (count-reads.Asked, count-reads.Learnt, mask-of-reads.Asked, mask-of-reads.Learnt, visits-ahead-reads.Asked, visits-ahead-reads.Learnt, entry-ahead-reads.Asked, entry-ahead-reads.Learnt, no-units-reads.Asked, no-units-reads.Learnt, word-reads.Asked, word-reads.Learnt, done-reads.Asked, done-reads.Learnt, apply-loop-below t, apply-loop.Post, attempt-of-reads.Asked, attempt-of-reads.Learnt, row-reads.Asked, row-reads.Learnt, node-reads.Asked, node-reads.Learnt, restore-reads.Asked, restore-reads.Learnt, failure-reads.Asked, failure-reads.Learnt)
 
 abbrev pub hiding-calls : ℕ → hiding-lts.Claims
 hiding-calls t = (scope-mask-reads.Asked, scope-mask-reads.Learnt, bound-in-reads.Asked, bound-in-reads.Learnt, kept-words-reads.Asked, kept-words-reads.Learnt, unbind-reads.Asked, unbind-reads.Learnt, entry-reads.Asked, entry-reads.Learnt, apply-in-scope-below t, apply-in-scope.Post, put-back-reads.Asked, put-back-reads.Learnt)
