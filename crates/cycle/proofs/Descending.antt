@@ -24,19 +24,20 @@ use Rattle.leaves.specs.Answers.{packed, nodeIn, unitsIn, unitsWord, failedWord
 use Rattle.meaning.specs.Limits.{at}
 use Rattle.leaves.specs.Noted.{Standing}
 use Rattle.leaves.specs.Record.{recordLong, markOf, notesOf, standing, held, back, Framed}
-use Rattle.leaves.specs.Visits.{visit, plan, ruled, out, countOf, rowAt, noded, Entries, Steady, Gives}
+use Rattle.leaves.specs.Visits.{visit, plan, ruled, out, countOf, rowAt, noded, Entries, Steady, Stored, Gives}
 use Rattle.cycle.specs.Cycle.{Leads, VisitsAhead, entryAhead, Ready}
 use Rattle.leaves.proofs.AnswerWords.{node-packed, units-packed, gave-failed, failed-few, attempt-done, attempt-failed, attempt-cut, out-units}
 use Rattle.leaves.proofs.Asking.{Tagged, goes-on, caught, cut-off, not-done}
 use Rattle.leaves.proofs.Keeping.{LeavesFitting, apply-leaves, steady-kept, leaves-done, leaves-failed}
 use Rattle.index.specs.Run.{Fits}
 use Rattle.leaves.proofs.Patterns.{operand-below}
+use Rattle.leaves.proofs.Storing.{steady-stored, kept-stored}
 use Rattle.leaves.proofs.Holding.{further, held-back, mark-back, notes-back, framed-back, length-back, framed-refl, framed-trans}
 use Rattle.leaves.proofs.Children.{six-at, part-length, part-next, part-end}
 use Rattle.leaves.proofs.Walking.{failing}
 use Rattle.cycle.proofs.Ruling.{ruled-path, ruled-one}
 use Rattle.cycle.proofs.Ahead.{leads-one, leads-one-inside}
-use Rattle.cycle.proofs.Rowing.{kept-count, kept-constructor, kept-children, put-set, child-below, remade}
+use Rattle.cycle.proofs.Rowing.{kept-count, kept-constructor, kept-children, put-set, child-below, remade, ready-stored}
 
 -- child 0 is none, and so is one past the last
 nth-zero : (hs : List ℕ) → nth hs 0 ≡ none
@@ -152,6 +153,9 @@ module _ {t w st : List ℕ} {e s i : ℕ} (n : ℕ) (ready : Ready t w st e s) 
 
         pub fits-path : {z v : ℕ} → a ≡ Done z v → Fits w′ (markOf st′) (notesOf st′)
         fits-path q = fits-done (ready .steady) (ready .entries) n x y (unitsIn s) below got st′ w′ is read q
+
+        pub stored-path : {z v : ℕ} → a ≡ Done z v → Stored w′ (nodeIn s)
+        stored-path q = kept-stored (kept-done (ready .steady) (ready .entries) n x y (unitsIn s) below got st′ w′ is read q) (ready .subject) (ready-stored ready)
 
         pub gives-path : {z v r : ℕ} {was st″ w″ : List ℕ} → a ≡ Done z v → was ≡ rowAt w′ (nodeIn s) → Gives (noded (set was (1 + i) z) st′ w′ v) st′ r st″ w″ → Returns r st″ w″
         gives-path {z} {v} {r} {was} {st″} q we made = record {
@@ -302,6 +306,9 @@ module _ {t w₀ st₀ : List ℕ} {e s : ℕ} (n : ℕ) (ready : Ready t w₀ s
 
             pub fits-one : yes ≡ true → Fits w′ (markOf st′) (notesOf st′)
             fits-one p = fits-done (turn .steady) (ready .entries) n x y u below-mark got st′ w′ was refl (did p)
+
+            pub stored-one : yes ≡ true → Stored w′ (nodeIn s)
+            stored-one p = kept-stored (kept-done (turn .steady) (ready .entries) n x y u below-mark got st′ w′ was refl (did p)) (ready .subject) (steady-stored (turn .steady) (nodeIn s) (ready .subject))
 
             pub gives-one : {r : ℕ} {words st″ w″ : List ℕ} → yes ≡ true → words ≡ rowAt w′ (nodeIn s) → Gives (noded (set words (2 + i) z) st′ w′ v) st′ r st″ w″ → Gave r st″ w″
             gives-one {r} {words} {st″} p we made = record {

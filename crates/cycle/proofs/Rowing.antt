@@ -20,8 +20,15 @@ use Rattle.meaning.proofs.Checked.{Node, node-of-good}
 use Rattle.meaning.proofs.Words.{kept-word}
 use Rattle.leaves.specs.Noted.{Standing}
 use Rattle.leaves.specs.Record.{markOf, notesOf, standing, held}
-use Rattle.leaves.specs.Visits.{plan, countOf, rowAt, noded, Steady}
+use Rattle.leaves.specs.Visits.{plan, countOf, rowAt, noded, Steady, Stored}
+use Rattle.leaves.specs.Answers.{nodeIn}
+use Rattle.leaves.proofs.Storing.{steady-stored}
+use Rattle.cycle.specs.Cycle.{Ready}
 use Rattle.leaves.proofs.Children.{six-at, part-length}
+
+-- the subject of a visit stands in the store
+pub ready-stored : {t w st : List ℕ} {e g : ℕ} → Ready t w st e g → Stored w (nodeIn g)
+ready-stored {g = g} r = steady-stored (r .steady) (nodeIn g) (r .subject)
 
 -- a node below the mark has the words that it had
 module _ {w w′ : List ℕ} {m : ℕ} (kept : Kept w m w′) (k : ℕ) (inside : k < m) where

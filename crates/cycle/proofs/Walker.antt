@@ -27,13 +27,14 @@ use Rattle.leaves.specs.declared.answers.Attempt.{Attempt}
 use Rattle.leaves.specs.declared.answers.Attempt.the-variants.{Ended, Cut as Off}
 use Rattle.leaves.specs.Answers.{packed, nodeIn, unitsIn, unitsWord, answerOf, attemptOf}
 use Rattle.leaves.specs.Record.{marking, maskOf, masking, recordLong, markOf, notesOf, standing, held, back, Framed}
-use Rattle.leaves.specs.Visits.{out, visit, plan, countOf, noded, Steady, Gives}
+use Rattle.leaves.specs.Visits.{out, visit, plan, countOf, noded, Steady, Stored, Gives}
 use Rattle.cycle.specs.Cycle.{Counted, operandFor, visits, walked, finished, entryAhead, Leads, VisitsAhead, Ready}
 use Rattle.leaves.proofs.AnswerWords.{node-packed, units-packed, done-units, failed-few, attempt-done, attempt-failed, attempt-cut, out-units}
 use Rattle.leaves.proofs.Asking.{goes-on, caught, cut-off}
 use Rattle.leaves.proofs.Keeping.{LeavesFitting, apply-leaves, steady-kept, steady-after, leaves-done, leaves-failed, node-small}
 use Rattle.index.specs.Run.{Fits}
-use Rattle.cycle.proofs.Rowing.{again-noded}
+use Rattle.cycle.proofs.Rowing.{again-noded, ready-stored}
+use Rattle.leaves.proofs.Storing.{kept-stored}
 use Rattle.leaves.proofs.Holding.{further, held-back, mark-back, notes-back, framed-back, length-back, framed-refl, framed-trans}
 use Rattle.leaves.proofs.Children.{part-length, part-next, part-end, filled, filled-next, one-more, filled-row}
 use Rattle.leaves.proofs.Patterns.{operand-below}
@@ -364,6 +365,10 @@ module _ {t w₀ st₀ : List ℕ} {e s deep : ℕ} {w st : List ℕ} {u won : �
       let o : out r st w ≡ visit t deep (apply (operandFor t e κ i) (nodeIn (packed c u)) (held st)) w (standing st) (unitsIn (packed c u))
       = ap (λ r. out r st w) re ∙ out-units st w ∙ rw (node-packed c u (g .few), units-packed c u (g .few)) (sym (leads .short c (held st) w (standing st) deep u (ahead .few) l)) in
       going-off ready same g h {x = operandFor t e κ i} {κ = κ} {c = c} {p = packed c u} refl κe refl refl (record { is = o; frame = framed-refl further st }) {a = attemptOf (answerOf r)} refl (ap (λ r. attemptOf (answerOf r)) re ∙ units-off)
+
+-- the node that is walked stands in the store
+pub going-stored : {t w₀ st₀ : List ℕ} {e s deep : ℕ} {w st : List ℕ} {u won : ℕ} {made : List ℕ} {i : ℕ} → Ready t w₀ st₀ e s → Going t w₀ st₀ e s deep w st u won made i → Stored w (nodeIn s)
+going-stored ready g = kept-stored (g .kept) (ready .subject) (ready-stored ready)
 
 -- the walk's end
 module _ {t w₀ st₀ : List ℕ} {e s deep : ℕ} {w st : List ℕ} {u won : ℕ} {made : List ℕ} {i : ℕ} (ready : Ready t w₀ st₀ e s) (same : Counted t w₀ e (nodeIn s))

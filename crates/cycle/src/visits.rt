@@ -37,6 +37,7 @@ use leaves::reading::agree;
 use leaves::reading::count;
 use leaves::reading::entry;
 use leaves::reading::kind;
+use leaves::reading::node_word;
 use leaves::reading::row;
 use leaves::reading::scope_mask;
 use leaves::record::MARK;
@@ -48,7 +49,6 @@ use leaves::record::mask_of;
 use leaves::record::put_back;
 use leaves::record::restore;
 use leaves::record::unbind;
-use words::word;
 ghost use mathlib.Core.Path.{_≡_};
 ghost use mathlib.Core.Logic.{_⊎_};
 ghost use Prim.Native.Nat.{_+_, _-_, _<_};
@@ -268,7 +268,7 @@ fn path(
         store,
         st,
         entry(table, e, 2),
-        done(word(store, t, 1 + i), left),
+        done(node_word(store, t, 1 + i), left),
         deep,
     );
     let Answer::Done(x, rest) = answer_of(got) else {
@@ -314,7 +314,7 @@ fn walk(
     let mut left = (s % HALF) as u32;
     let kind = kind(table, e);
     let n = count(store, t);
-    let name = word(store, t, 0);
+    let name = node_word(store, t, 0);
     let ahead = visits_ahead(table, e, deep);
     let first = entry_ahead(table, e, ahead);
     let mut won: u32 = 0;
@@ -326,7 +326,7 @@ fn walk(
         if left < ahead {
             return no_units();
         }
-        let c = word(store, t, 2 + i);
+        let c = node_word(store, t, 2 + i);
         let mark = saved_mark(st, kind);
         let mask = saved_mask(st, kind);
         let got = apply(
@@ -506,7 +506,7 @@ fn one(
             store,
             st,
             op,
-            done(word(store, t, 2 + i), left - ahead),
+            done(node_word(store, t, 2 + i), left - ahead),
             deep - ahead,
         );
         let Attempt::Ended(yes, x, rest) = attempt_of(got) else {

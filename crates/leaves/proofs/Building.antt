@@ -32,7 +32,7 @@ use Rattle.leaves.specs.declared.answers.Answer.{Answer}
 use Rattle.leaves.specs.declared.answers.Answer.the-variants.{Done}
 use Rattle.leaves.specs.Answers.{answerOf, packed, roomWord, unboundWord}
 use Rattle.leaves.specs.Record.{markAt, topAt, marking, marked, recordLong, wordOf, markOf, missOf, roomOf, topOf, nodesOf, notesOf, standing, maskOf, bitOf, held, Framed}
-use Rattle.leaves.specs.Visits.{visit, plan, out, noded, Entries, Steady, Gives}
+use Rattle.leaves.specs.Visits.{visit, plan, out, noded, Entries, Steady, Gives, Builds}
 use Rattle.leaves.proofs.AnswerWords.{out-done, out-room, out-unbound}
 use Rattle.leaves.proofs.Asking.{Tagged}
 use Rattle.leaves.proofs.Kind.{counted, pattern-variable, pattern-con}
@@ -188,6 +188,10 @@ node-of t n c gs made st w u e = rw e
 -- the operands from the i-th on, and then the node
 abbrev pub parts : List ℕ → ℕ → ℕ → ℕ → List ℕ → Bindings ℕ → Do ℕ
 parts t p k i gs b = walk (map (λ q. build q k) (drop i (operands t p))) gs b (λ gs b′. make (argumentOf t p) gs (λ x. ret x b′))
+
+-- an operand built, at values that are equal
+pub builds-at : (t w st : List ℕ) (q u d r r′ : ℕ) (st′ st″ w′ w″ : List ℕ) → w″ ≡ w′ → st″ ≡ st′ → r′ ≡ r → length w′ ≡ length w → Builds t w st q u d r st′ w′ → (length w″ ≡ length w) × Builds t w st q u d r′ st″ w″
+builds-at t w st q u d r r′ st′ st″ w′ w″ e f g l b = rw (e, f, g) (l, b)
 
 -- what holds before operand i is built: gs are the nodes of those before it, in the row that is made, and from here on
 -- all ends as o, whatever the node k that BUILD was applied to

@@ -5,6 +5,7 @@ pub mod Asking
 pub mod Kind
 pub mod Holding
 pub mod Keeping
+pub mod Storing
 pub mod Children
 pub mod Walking
 pub mod Limited

@@ -11,6 +11,7 @@ use borrow.Author.Tests.{eqb-true, eqb-false}
 use lib.ListN.{length, getD, drop}
 use Rattle.checks.specs.Kinds.{variables}
 use Rattle.words.specs.Words.{wordAt}
+use Rattle.words.specs.Tests.{if_then_else_}
 use Rattle.checks.specs.Good.{kindOf, operandCount, argumentOf}
 use Rattle.meaning.specs.Bindings.{Bindings, bind}
 use Rattle.meaning.specs.Table.{table, operands}
@@ -24,13 +25,14 @@ use Rattle.leaves.specs.declared.answers.Answer.{Answer}
 use Rattle.leaves.specs.declared.answers.Answer.the-variants.{Done, Failed, Cut}
 use Rattle.leaves.specs.Answers.{answerOf, packed, nodeIn, unitsIn, failedWord, unitsWord, nestingWord, stoppedWord}
 use Rattle.leaves.specs.Record.{recordLong, wordOf, markOf, maskOf, notesOf, standing, missing, givenUp, bitOf, held, bound, Framed, missOf, lasting}
-use Rattle.leaves.specs.Visits.{countOf, agreeing, visit, plan, meaning, out, giving, kept, Pattern, Entries, Matchable, Gives, MatchesChildren}
+use Rattle.leaves.specs.Visits.{countOf, agreeing, visit, plan, meaning, out, giving, kept, Pattern, Entries, Matchable, Gives, MatchesChildren, Stored, Bound}
 use Rattle.leaves.proofs.AnswerWords.{stopped-units, stopped-nesting, answer-stopped, out-done, out-failed, out-answer, kept-done, kept-failed, kept-units, kept-nesting, kept-answer, node-packed, units-packed, packed-again, done-node}
 use Rattle.leaves.proofs.Asking.{Tagged, gives-up, last-match}
 use Rattle.leaves.proofs.Kind.{counted, no-units, no-nesting, pattern-variable, pattern-con}
 use Rattle.leaves.proofs.Keeping.{node-small}
 use Rattle.leaves.proofs.Limited.{units-out, nesting-out}
-use Rattle.leaves.proofs.Holding.{further, framed-refl, framed-trans, framed-bound, held-bound, mark-bound, notes-bound, mark-missing, notes-missing, framed-missing, held-some, held-none, lasting-missing, lasting-bound}
+use Rattle.leaves.proofs.Storing.{child-stored, steady-stored, steady-bound}
+use Rattle.leaves.proofs.Holding.{further, framed-refl, framed-trans, framed-bound, held-bound, mark-bound, notes-bound, mark-missing, notes-missing, framed-missing, held-missing, held-some, held-none, lasting-missing, lasting-bound}
 use Rattle.leaves.proofs.Children.{part-next, part-end}
 use Rattle.leaves.proofs.Walking.{walk-end, walk-done, walk-failed, walk-cut, kept-on, kept-stop, returned, plan-missed}
 use Rattle.leaves.proofs.Patterns.{no-variable, operand-pattern, agree-is, agreed-count}
@@ -84,6 +86,21 @@ module _ (t : List ℕ) (n q x : ℕ) (b : Bindings ℕ) (w : List ℕ) (m : Sta
 abbrev pub stands : ℕ → List ℕ → Standing
 stands m st = at m (notesOf st)
 
+-- what the record st′ binds stands in the store where what st binds does
+abbrev pub Binds : List ℕ → List ℕ → List ℕ → Type 0
+Binds w st st′ = Bound w (held st) → Bound w (held st′)
+
+binds-missing : (w st : List ℕ) (q : ℕ) → Binds w st (missing st q)
+binds-missing w st q h = subst (Bound w) (sym (held-missing further st q)) h
+
+binds-bound : (w st : List ℕ) (v x : ℕ) → v < variables → length st ≡ recordLong → Stored w x → Binds w st (bound st v x)
+unfolding bind
+binds-bound w st v x l long s h = subst (Bound w) (sym (held-bound further st v x l long)) (λ y j e. go y j (eqb y v) e)
+  where
+    go : (y j : ℕ) (a : Bool) → (if a then some x else held st y) ≡ some j → Stored w j
+    go y j true e = let f : x ≡ j = cc in subst (Stored w) f s
+    go y j false e = h y j e
+
 -- a comparison's answer, and the answer of the match that asked for it: where it failed, the match gives up at q
 module _ (a : Answer) (st : List ℕ) (q : ℕ) where
   framed-given-up : Framed st (givenUp a st q)
@@ -104,6 +121,15 @@ module _ (a : Answer) (st : List ℕ) (q : ℕ) where
       go (Failed u) = lasting-missing further st q
       go (Cut c) = refl
 
+  binds-given-up : (w : List ℕ) → Binds w st (givenUp a st q)
+  unfolding givenUp
+  binds-given-up w = go a
+    where
+      go : (a : Answer) → Binds w st (givenUp a st q)
+      go (Done x u) = λ h. h
+      go (Failed u) = binds-missing w st q
+      go (Cut c) = λ h. h
+
   giving-up : (x : ℕ) (w : List ℕ) (m : ℕ) → length st ≡ recordLong → giving a x (held (givenUp a st q)) w (stands m (givenUp a st q)) ≡ gives-up q (giving a x (held st) w (stands m st))
   unfolding givenUp giving gives-up
   giving-up x w m long = go a
@@ -119,9 +145,10 @@ pub record Matched (t w : List ℕ) (n p g : ℕ) (b st : List ℕ) (u i : ℕ) 
   pub goes-on : (m : ℕ) → (gs : List ℕ) × (plan t n (pairs t w p (nodeIn g) i gs (held st)) w (stands m st) u ≡ plan t n (pairs t w p (nodeIn g) 0 [] (held b)) w (stands m b) (unitsIn g))
   pub frame : Framed b st
   pub lasts : lasting st ≡ lasting b
+  pub binds : Binds w b st
 
 pub matched-none : (t w : List ℕ) (n p g : ℕ) (b : List ℕ) → Matched t w n p g b b (unitsIn g) 0
-matched-none t w n p g b = record { goes-on = λ m. ([], refl); frame = framed-refl further b; lasts = refl }
+matched-none t w n p g b = record { goes-on = λ m. ([], refl); frame = framed-refl further b; lasts = refl; binds = λ h. h }
 
 -- the same at values that are equal
 pub matched-at : (t w : List ℕ) (n p g : ℕ) (b st st′ : List ℕ) (u u′ i : ℕ) → st′ ≡ st → u′ ≡ u → u < 4294967296 → Matched t w n p g b st u i → (u′ < 4294967296) × Matched t w n p g b st′ u′ i
@@ -142,6 +169,7 @@ matched-end t w n p g b st u i r c h e = record {
       ∙ c .goes-on m .1;
   frame = c .frame;
   lasts = c .lasts;
+  binds = c .binds;
 }
 
 pub matched-all : (t w : List ℕ) (n p g : ℕ) (b st : List ℕ) (u i r : ℕ) → Matched t w n p g b st u i → operandCount t p ≤ i → r ≡ packed 0 u → u < 4294967296 → MatchesChildren t w n p g b r st
@@ -155,6 +183,7 @@ pub record Turn (t w : List ℕ) (n p g : ℕ) (b st : List ℕ) (u i q x : ℕ)
   pub inside : p < 4096
   pub kind : kindOf t p ≡ 19
   pub agreed : agreeing t w p (nodeIn g) ≡ true
+  pub stands-there : Stored w (nodeIn g)
   pub below : i < operandCount t p
   pub operand : q ≡ wordAt t p (2 + i)
   pub child : x ≡ wordAt w (nodeIn g) (2 + i)
@@ -169,6 +198,14 @@ module _ {t w : List ℕ} {n p g : ℕ} {b st : List ℕ} {u i q x : ℕ} (c : T
 
   pub constructor-is : {k : ℕ} → k ≡ kindOf t q → (k ≡ 18 → ⊥) → kindOf t q ≡ 19
   constructor-is {k} e n = no-variable t q k (operand-is .1) e n
+
+  -- the child stands in the store
+  pub child-there : Stored w x
+  child-there = child-stored (c .stands-there) i (omega (arith, c .below, agreed-count t w p (nodeIn g) (c .agreed))) (c .child)
+
+  -- so does the node of a bound variable
+  pub bound-there : {v y : ℕ} → kindOf t q ≡ 18 → v ≡ argumentOf t q → bitOf (maskOf st) v ≡ 1 → y ≡ wordOf st v → Bound w (held b) → Stored w y
+  bound-there {v} k e f ye h = subst (Stored w) (sym ye) (c .so-far .binds h v (wordOf st v) (held-some further st v (variable-small k e) f))
 
   abbrev before : ℕ → List ℕ
   before m = c .so-far .goes-on m .0
@@ -187,19 +224,24 @@ module _ {t w : List ℕ} {n p g : ℕ} {b st : List ℕ} {u i q x : ℕ} (c : T
       ∙ c .so-far .goes-on m .1
 
   -- its visit does not succeed, and the word r says so, with the record st′
-  from-here : (r : ℕ) (st′ : List ℕ) → Framed st st′ → lasting st′ ≡ lasting st → ((m : ℕ) → kept r (nodeIn g) (held st′) w (stands m st′) ≡ plan t n (walk (match q x ∷ rest) (before m) (held st) (λ gs b′. ret (nodeIn g) b′)) w (stands m st) u) → MatchesChildren t w n p g b r st′
-  from-here r st′ f k e = record { is = λ m. e m ∙ next m; frame = framed-trans further b st st′ (c .so-far .frame) f; lasts = k ∙ c .so-far .lasts }
+  from-here : (r : ℕ) (st′ : List ℕ) → Framed st st′ → lasting st′ ≡ lasting st → Binds w st st′ → ((m : ℕ) → kept r (nodeIn g) (held st′) w (stands m st′) ≡ plan t n (walk (match q x ∷ rest) (before m) (held st) (λ gs b′. ret (nodeIn g) b′)) w (stands m st) u) → MatchesChildren t w n p g b r st′
+  from-here r st′ f k y e = record {
+    is = λ m. e m ∙ next m;
+    frame = framed-trans further b st st′ (c .so-far .frame) f;
+    lasts = k ∙ c .so-far .lasts;
+    binds = λ h. y (c .so-far .binds h);
+  }
 
   pub child-units : {r : ℕ} → r ≡ unitsWord → u ≡ 0 → MatchesChildren t w n p g b r st
   child-units {r} e z =
-      from-here r st (framed-refl further st) refl (λ m.
+      from-here r st (framed-refl further st) refl (λ h. h) (λ m.
       ap (λ r. kept r (nodeIn g) (held st) w (stands m st)) e
       ∙ kept-units w w (nodeIn g) (held st) (stands m st)
       ∙ sym (walk-cut t n w (stands m st) u (before m) (held st) _ (match q x) rest 0 w (stands m st) units (no-units t n _ w (stands m st) u z)))
 
   pub child-nesting : {r : ℕ} → r ≡ nestingWord u → (u ≡ 0 → ⊥) → n ≡ 0 → MatchesChildren t w n p g b r st
   child-nesting {r} e z d =
-      from-here r st (framed-refl further st) refl (λ m.
+      from-here r st (framed-refl further st) refl (λ h. h) (λ m.
       ap (λ r. kept r (nodeIn g) (held st) w (stands m st)) e
       ∙ kept-nesting w w (nodeIn g) (held st) (stands m st) u (c .few)
       ∙ sym (walk-cut t n w (stands m st) u (before m) (held st) _ (match q x) rest u w (stands m st) nesting (no-nesting t n _ w (stands m st) u z d)))
@@ -216,36 +258,38 @@ module _ {t w : List ℕ} {n p g : ℕ} {b st : List ℕ} {u i q x : ℕ} (c : T
     less = let l : u < 4294967296 = c .few in omega arith
 
     -- it succeeds with the record st′
-    ended-by : (st′ : List ℕ) (v : ℕ) → Framed st st′ → lasting st′ ≡ lasting st → ((m : ℕ) → visit t n (match q x (held st)) w (stands m st) u ≡ ended x (held st′) (on w (stands m st′)) v) → Matched t w n p g b st′ v (i + 1)
-    ended-by st′ v f k e = record {
+    ended-by : (st′ : List ℕ) (v : ℕ) → Framed st st′ → lasting st′ ≡ lasting st → Binds w st st′ → ((m : ℕ) → visit t n (match q x (held st)) w (stands m st) u ≡ ended x (held st′) (on w (stands m st′)) v) → Matched t w n p g b st′ v (i + 1)
+    ended-by st′ v f k y e = record {
       goes-on = λ m. (before m ++ (x ∷ []), sym (walk-done t n w (stands m st) u (before m) (held st) _ (match q x) rest x (stands m st′) v w (held st′) (e m)) ∙ next m);
       frame = framed-trans further b st st′ (c .so-far .frame) f;
       lasts = k ∙ c .so-far .lasts;
+      binds = λ h. y (c .so-far .binds h);
     }
 
     -- its answer's word r, read as a, with the record st′
-    module _ (r : ℕ) (st′ : List ℕ) (f : Framed st st′) (k : lasting st′ ≡ lasting st) (is : (m : ℕ) → kept r x (held st′) w (stands m st′) ≡ visit t n (match q x (held st)) w (stands m st) u) (a : Answer) (read : a ≡ answerOf r) where
+    module _ (r : ℕ) (st′ : List ℕ) (f : Framed st st′) (k : lasting st′ ≡ lasting st) (o : Binds w st st′) (is : (m : ℕ) → kept r x (held st′) w (stands m st′) ≡ visit t n (match q x (held st)) w (stands m st) u) (a : Answer) (read : a ≡ answerOf r) where
       answered : (y v : ℕ) → a ≡ Done y v → Matched t w n p g b st′ v (i + 1)
       answered y v e = record {
         goes-on = λ m. (before m ++ (x ∷ []), sym (kept-on t n w (stands m st) u (before m) (held st) _ (match q x) rest r x (held st′) (stands m st′) (is m) a read y v e) ∙ next m);
         frame = framed-trans further b st st′ (c .so-far .frame) f;
         lasts = k ∙ c .so-far .lasts;
+        binds = λ h. o (c .so-far .binds h);
       }
 
       -- the notes of a record c at return are those of st′
-      stopped-with : (c′ : List ℕ) → Framed st c′ → lasting c′ ≡ lasting st → notesOf c′ ≡ notesOf st′ → Tagged a 1 2 → MatchesChildren t w n p g b r c′
-      stopped-with c′ g′ k′ j e =
-          from-here r c′ g′ k′ (λ m.
+      stopped-with : (c′ : List ℕ) → Framed st c′ → lasting c′ ≡ lasting st → Binds w st c′ → notesOf c′ ≡ notesOf st′ → Tagged a 1 2 → MatchesChildren t w n p g b r c′
+      stopped-with c′ g′ k′ o′ j e =
+          from-here r c′ g′ k′ o′ (λ m.
           ap (λ z. kept r (nodeIn g) (held c′) w (at m z)) j
           ∙ kept-stop t n w (stands m st) u (before m) (held st) _ (match q x) rest r x (held st′) (stands m st′) (is m) a read e (nodeIn g) (held c′))
 
       stopped : Tagged a 1 2 → MatchesChildren t w n p g b r st′
-      stopped e = stopped-with st′ f k refl e
+      stopped e = stopped-with st′ f k o refl e
 
       -- the same with the record as it was, but for the miss
       refused : length st ≡ recordLong → Tagged a 1 2 → MatchesChildren t w n p g b r (missing st (missOf st′))
       refused long e =
-          stopped-with (missing st (missOf st′)) (framed-missing further st (missOf st′)) (lasting-missing further st (missOf st′))
+          stopped-with (missing st (missOf st′)) (framed-missing further st (missOf st′)) (lasting-missing further st (missOf st′)) (binds-missing w st (missOf st′))
           (notes-missing further st (missOf st′) long ∙ ap (λ m. noting (m .notes) (missOf st′)) (sym k)) e
 
     -- a variable
@@ -253,7 +297,7 @@ module _ {t w : List ℕ} {n p g : ℕ} {b st : List ℕ} {u i q x : ℕ} (c : T
       pub free-matched : {st′ : List ℕ} → length st ≡ recordLong → (bitOf (maskOf st) v ≡ 1 → ⊥) → st′ ≡ bound st v x → Matched t w n p g b st′ (u - 1) (i + 1)
       free-matched long e s =
           let l : v < variables = variable-small kind ve in
-          rw s (ended-by (bound st v x) (u - 1) (framed-bound further st v x l long e) (lasting-bound further st v x l)
+          rw s (ended-by (bound st v x) (u - 1) (framed-bound further st v x l long e) (lasting-bound further st v x l) (binds-bound w st v x l long child-there)
           (λ m. variable-free t n q x (held st) w (stands m st) u z d v kind ve (held-none further st v e) ∙ rw (held-bound further st v x l long, notes-bound further st v x l)))
 
       -- a bound one: the comparison's word r
@@ -267,23 +311,23 @@ module _ {t w : List ℕ} {n p g : ℕ} {b st : List ℕ} {u i q x : ℕ} (c : T
 
         pub bound-matched : (j k : ℕ) → a ≡ Done j k → Matched t w n p g b st k (i + 1)
         unfolding givenUp
-        bound-matched j k f = subst (λ a. Matched t w n p g b (givenUp a st q) k (i + 1)) f (answered r (givenUp a st q) (framed-given-up a st q) (lasting-given-up a st q) compared a read j k f)
+        bound-matched j k f = subst (λ a. Matched t w n p g b (givenUp a st q) k (i + 1)) f (answered r (givenUp a st q) (framed-given-up a st q) (lasting-given-up a st q) (binds-given-up a st q w) compared a read j k f)
 
         pub bound-stops : {st′ : List ℕ} → st′ ≡ givenUp (answerOf r) st q → Tagged a 1 2 → MatchesChildren t w n p g b r st′
-        bound-stops s f = rw (s ∙ ap (λ a. givenUp a st q) (sym read)) (stopped r (givenUp a st q) (framed-given-up a st q) (lasting-given-up a st q) compared a read f)
+        bound-stops s f = rw (s ∙ ap (λ a. givenUp a st q) (sym read)) (stopped r (givenUp a st q) (framed-given-up a st q) (lasting-given-up a st q) (binds-given-up a st q w) compared a read f)
 
     -- a constructor
     module _ (kind : kindOf t q ≡ 19) where
       pub other : {r : ℕ} → length st ≡ recordLong → r ≡ failedWord (u - 1) → agreeing t w q x ≡ false → MatchesChildren t w n p g b r (missing st q)
       other {r} long e f =
-          from-here r (missing st q) (framed-missing further st q) (lasting-missing further st q) (λ m.
+          from-here r (missing st q) (framed-missing further st q) (lasting-missing further st q) (binds-missing w st q) (λ m.
           ap (λ r. kept r (nodeIn g) (held (missing st q)) w (stands m (missing st q))) e
           ∙ kept-failed w w (nodeIn g) (held (missing st q)) (stands m (missing st q)) (u - 1) less
           ∙ rw (notes-missing further st q long) (sym (walk-failed t n w (stands m st) u (before m) (held st) _ (match q x) rest (u - 1) w (missedAt q (stands m st)) (differs t n q x (held st) w (stands m st) u z d (c .entries) (operand-is .0) kind f))))
 
       module _ (e : agreeing t w q x ≡ true) where
         pub leaf-matched : operandCount t q ≡ 0 → Matched t w n p g b st (u - 1) (i + 1)
-        leaf-matched f = ended-by st (u - 1) (framed-refl further st) refl (λ m. agrees-leaf t n q x (held st) w (stands m st) u z d (c .entries) (operand-is .0) kind e f)
+        leaf-matched f = ended-by st (u - 1) (framed-refl further st) refl (λ h. h) (λ m. agrees-leaf t n q x (held st) w (stands m st) u z d (c .entries) (operand-is .0) kind e f)
 
         -- its own children: the word s is handed over
         module _ {s : ℕ} (se : s ≡ packed x (u - 1)) where
@@ -296,19 +340,22 @@ module _ {t w : List ℕ} {n p g : ℕ} {b st : List ℕ} {u i q x : ℕ} (c : T
           pub handed : agreeing t w q (nodeIn s) ≡ true
           handed = ap (λ x. agreeing t w q x) node-handed ∙ e
 
+          pub handed-there : Stored w (nodeIn s)
+          handed-there = rw node-handed child-there
+
           -- and the word r comes back
           module _ (r : ℕ) (st′ : List ℕ) (f : MatchesChildren t w (n - 1) q s st r st′) (a : Answer) (read : a ≡ answerOf r) where
             child-matched : (m : ℕ) → kept r x (held st′) w (stands m st′) ≡ visit t n (match q x (held st)) w (stands m st) u
             child-matched m = (rw (node-handed, units-handed) at (f .is m)) ∙ sym (agrees t n q x (held st) w (stands m st) u z d (c .entries) (operand-is .0) kind e)
 
             pub inner-matched : (y k : ℕ) → a ≡ Done y k → Matched t w n p g b st′ k (i + 1)
-            inner-matched y k j = answered r st′ (f .frame) (f .lasts) child-matched a read y k j
+            inner-matched y k j = answered r st′ (f .frame) (f .lasts) (f .binds) child-matched a read y k j
 
             pub inner-stops : Tagged a 1 2 → MatchesChildren t w n p g b r st′
-            inner-stops j = stopped r st′ (f .frame) (f .lasts) child-matched a read j
+            inner-stops j = stopped r st′ (f .frame) (f .lasts) (f .binds) child-matched a read j
 
             pub inner-refused : length st ≡ recordLong → Tagged a 1 2 → MatchesChildren t w n p g b r (missing st (missOf st′))
-            inner-refused long j = refused r st′ (f .frame) (f .lasts) child-matched a read long j
+            inner-refused long j = refused r st′ (f .frame) (f .lasts) (f .binds) child-matched a read long j
 
           -- the last child's: what answers them answers all
           pub last-fits : i + 1 ≡ operandCount t p → (r : ℕ) (st′ : List ℕ) → MatchesChildren t w (n - 1) q s st r st′ → MatchesChildren t w n p g b r st′
@@ -322,8 +369,8 @@ module _ {t w : List ℕ} {n p g : ℕ} {b st : List ℕ} {u i q x : ℕ} (c : T
               go (Cut k) e = inner-stops r st′ f (Cut k) e (inr refl)
 
 -- with no nesting left no child is visited
-nothing-fits : (t w : List ℕ) (n p g : ℕ) (b : List ℕ) → Entries t → p < 4096 → kindOf t p ≡ 19 → agreeing t w p (nodeIn g) ≡ true → (operandCount t p ≡ 0 → ⊥) → n ≡ 0 → {r : ℕ} → r ≡ stoppedWord (unitsIn g) → MatchesChildren t w n p g b r b
-nothing-fits t w n p g b en inside kind agreed o d e =
+nothing-fits : (t w : List ℕ) (n p g : ℕ) (b : List ℕ) → Entries t → p < 4096 → kindOf t p ≡ 19 → agreeing t w p (nodeIn g) ≡ true → Stored w (nodeIn g) → (operandCount t p ≡ 0 → ⊥) → n ≡ 0 → {r : ℕ} → r ≡ stoppedWord (unitsIn g) → MatchesChildren t w n p g b r b
+nothing-fits t w n p g b en inside kind agreed there o d e =
     child-stopped
     {q = wordAt t p 2}
     {x = wordAt w (nodeIn g) 2}
@@ -333,6 +380,7 @@ nothing-fits t w n p g b en inside kind agreed o d e =
       inside = inside;
       kind = kind;
       agreed = agreed;
+      stands-there = there;
       below = omega (arith, o);
       operand = refl;
       child = refl;
@@ -348,7 +396,7 @@ inner-stopped {t} {w} {n} {p} {g} {b} {st} {u} {i} {q} {x} c z kind e o d {r} f 
     let x-is : nodeIn (packed x (u - 1)) ≡ x = node-packed x (u - 1) l in
     let u-is : unitsIn (packed x (u - 1)) ≡ u - 1 = units-packed x (u - 1) l in
     inner-stops c z (λ a. omega arith) kind e refl r st
-    (nothing-fits t w (n - 1) q (packed x (u - 1)) st (c .entries) (operand-is c .0) kind (ap (λ x. agreeing t w q x) x-is ∙ e) o (omega arith) (f ∙ ap (λ u. stoppedWord u) (sym u-is)))
+    (nothing-fits t w (n - 1) q (packed x (u - 1)) st (c .entries) (operand-is c .0) kind (ap (λ x. agreeing t w q x) x-is ∙ e) (rw x-is (child-there c)) o (omega arith) (f ∙ ap (λ u. stoppedWord u) (sym u-is)))
     (Cut r)
     (sym (ap (λ r. answerOf r) f ∙ answer-stopped (u - 1) l ∙ ap (λ r. Cut r) (sym f)))
     (inr refl)
@@ -362,22 +410,33 @@ pub record Going (t w : List ℕ) (n₀ p₀ g₀ : ℕ) (b₀ : List ℕ) (n p 
   pub inside : p < 4096
   pub kind : kindOf t p ≡ 19
   pub agreed : agreeing t w p (nodeIn given) ≡ true
+  pub stands-there : Stored w (nodeIn given)
+  pub bound-then : Bound w (held held-then)
   pub so-far : Matched t w n p given held-then st u i
   pub whole : (r : ℕ) (c : List ℕ) → MatchesChildren t w n p given held-then r c → MatchesChildren t w n₀ p₀ g₀ b₀ r c
 
-pub going-none : (t w : List ℕ) (n p g : ℕ) (b : List ℕ) → p < 4096 → kindOf t p ≡ 19 → agreeing t w p (nodeIn g) ≡ true → Going t w n p g b n p (nodeIn g) b (unitsIn g) 0
-going-none t w n p g b inside kind agreed = record {
+pub going-none : (t w : List ℕ) (n p g : ℕ) (b : List ℕ) → p < 4096 → kindOf t p ≡ 19 → agreeing t w p (nodeIn g) ≡ true → Stored w (nodeIn g) → Bound w (held b) → Going t w n p g b n p (nodeIn g) b (unitsIn g) 0
+going-none t w n p g b inside kind agreed there h = record {
   given = g;
   held-then = b;
   node = refl;
   inside = inside;
   kind = kind;
   agreed = agreed;
+  stands-there = there;
+  bound-then = h;
   so-far = matched-none t w n p g b;
   whole = λ r c f. f;
 }
 
 module _ {t w : List ℕ} {n₀ p₀ g₀ : ℕ} {b₀ : List ℕ} {n p k : ℕ} {st : List ℕ} {u i : ℕ} (c : Going t w n₀ p₀ g₀ b₀ n p k st u i) where
+  -- the node stands in the store, and so does what is bound
+  pub going-there : Stored w k
+  going-there = subst (Stored w) (c .node) (c .stands-there)
+
+  pub going-bound : Bound w (held st)
+  going-bound = c .so-far .binds (c .bound-then)
+
   -- operand and child are read
   pub going-turn : {q x : ℕ} → Entries t → i < operandCount t p → q ≡ wordAt t p (2 + i) → x ≡ wordAt w k (2 + i) → u < 4294967296 → Turn t w n p (c .given) (c .held-then) st u i q x
   going-turn en below e f l = record {
@@ -386,6 +445,7 @@ module _ {t w : List ℕ} {n₀ p₀ g₀ : ℕ} {b₀ : List ℕ} {n p k : ℕ}
     inside = c .inside;
     kind = c .kind;
     agreed = c .agreed;
+    stands-there = c .stands-there;
     below = below;
     operand = e;
     child = f ∙ ap (λ k. wordAt w k (2 + i)) (sym (c .node));
@@ -400,6 +460,8 @@ module _ {t w : List ℕ} {n₀ p₀ g₀ : ℕ} {b₀ : List ℕ} {n p k : ℕ}
     inside = c .inside;
     kind = c .kind;
     agreed = c .agreed;
+    stands-there = c .stands-there;
+    bound-then = c .bound-then;
     so-far = f;
     whole = c .whole;
   }
@@ -419,6 +481,8 @@ module _ {t w : List ℕ} {n₀ p₀ g₀ : ℕ} {b₀ : List ℕ} {n p k : ℕ}
         inside = operand-is a .0;
         kind = kind;
         agreed = handed a z d kind e refl;
+        stands-there = handed-there a z d kind e refl;
+        bound-then = going-bound;
         so-far = rw (units-packed x (u - 1) l) at (matched-none t w (n - 1) q (packed x (u - 1)) st);
         whole = λ r st′ f. c .whole r st′ (last-fits a z d kind e refl h r st′ f);
       }
@@ -437,6 +501,10 @@ out-kept st w r x b m a e h = out-answer st w r a e ∙ go a h ∙ sym (kept-ans
 module _ {t w st : List ℕ} {p g : ℕ} (c : Matchable t w st p g) (n : ℕ) where
   abbrev root : Ran
   root = visit t n (match p (nodeIn g) (held st)) w (standing st) (unitsIn g)
+
+  -- the node stands in the store
+  pub root-stored : Stored w (nodeIn g)
+  root-stored = steady-stored (c .steady) (nodeIn g) (c .subject)
 
   pub root-units : {r : ℕ} → r ≡ unitsWord → unitsIn g ≡ 0 → Gives root st r st w
   root-units {r} e z = record { is = units-out t n _ w (unitsIn g) r st e z; frame = framed-refl further st }
@@ -474,6 +542,9 @@ module _ {t w st : List ℕ} {p g : ℕ} (c : Matchable t w st p g) (n : ℕ) wh
     module _ {v : ℕ} (kind : kindOf t p ≡ 18) (ve : v ≡ argumentOf t p) where
       pub root-small : v < variables
       root-small = omega (arith, c .entries .variable p (c .inside) kind, ve)
+
+      pub root-bound-there : {y : ℕ} → bitOf (maskOf st) v ≡ 1 → y ≡ wordOf st v → Stored w y
+      root-bound-there e ye = subst (Stored w) (sym ye) (steady-bound (c .steady) v (wordOf st v) (held-some further st v root-small e))
 
       pub root-free : {st′ : List ℕ} → (bitOf (maskOf st) v ≡ 1 → ⊥) → st′ ≡ bound st v (nodeIn g) → Gives root st (g - 1) st′ w
       root-free e s =
@@ -517,6 +588,9 @@ module _ {t w st : List ℕ} {p g : ℕ} (c : Matchable t w st p g) (n : ℕ) wh
         pub root-handed : agreeing t w p (nodeIn (g - 1)) ≡ true
         root-handed = ap (λ x. agreeing t w p x) node-less ∙ e
 
+        pub root-there : Stored w (nodeIn (g - 1))
+        root-there = rw node-less root-stored
+
         -- its children: the word r comes back, with the record st′
         module _ (r : ℕ) (st′ : List ℕ) (f : MatchesChildren t w (n - 1) p (g - 1) st r st′) (a : Answer) (read : a ≡ answerOf r) where
           root-answered : kept r (nodeIn g) (held st′) w (stands (markOf st) st′) ≡ root
@@ -536,7 +610,7 @@ module _ {t w st : List ℕ} {p g : ℕ} (c : Matchable t w st p g) (n : ℕ) wh
         pub root-stopped : (operandCount t p ≡ 0 → ⊥) → n ≡ 1 → {r : ℕ} → r ≡ stoppedWord (unitsIn g - 1) → Gives root st r st w
         root-stopped o k {r} f =
             root-stops r st
-            (nothing-fits t w (n - 1) p (g - 1) st (c .entries) (c .inside) kind root-handed o (omega arith) (f ∙ ap (λ u. stoppedWord u) (sym units-less)))
+            (nothing-fits t w (n - 1) p (g - 1) st (c .entries) (c .inside) kind root-handed root-there o (omega arith) (f ∙ ap (λ u. stoppedWord u) (sym units-less)))
             (Cut r)
             (sym (ap (λ r. answerOf r) f ∙ answer-stopped (unitsIn g - 1) (omega arith) ∙ ap (λ r. Cut r) (sym f)))
             (inr refl)

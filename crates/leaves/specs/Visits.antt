@@ -4,7 +4,7 @@ use mathlib.Core.Bool.{Bool, true, _&&_}
 use mathlib.Core.Option.{some}
 use mathlib.Core.Logic.{_⊎_}
 use mathlib.Core.List.{List, [], _∷_}
-use Prim.Native.Nat.{ℕ, _+_, _%_, _≤_, _<_, min}
+use Prim.Native.Nat.{ℕ, _+_, _*_, _%_, _≤_, _<_, min}
 use lib.Dec.{eqb, ltb}
 use lib.ListN.{length}
 use Rattle.words.specs.Words.{wordAt}
@@ -31,6 +31,15 @@ countOf w k = min (wordAt w k 1) 6
 
 abbrev pub rowAt : List ℕ → ℕ → List ℕ
 rowAt w k = wordAt w k 0 ∷ wordAt w k 1 ∷ wordAt w k 2 ∷ wordAt w k 3 ∷ wordAt w k 4 ∷ wordAt w k 5 ∷ wordAt w k 6 ∷ wordAt w k 7 ∷ []
+
+-- node k stands in the store: it lies inside the words, and it and all below it are good
+pub record Stored (w : List ℕ) (k : ℕ) : Type 0 where
+  pub inside : 8 * k + 8 ≤ length w
+  pub good : (j : ℕ) → j ≤ k → goodNode w j ≡ true
+
+-- so does every node that is bound
+abbrev pub Bound : List ℕ → Bindings ℕ → Type 0
+Bound w b = (v j : ℕ) → b v ≡ some j → Stored w j
 
 -- entry p's constructor and count are node k's
 unfoldable pub agreeing : List ℕ → List ℕ → ℕ → ℕ → Bool
@@ -120,20 +129,25 @@ Buildable t w st p = Entries t × (p < 4096) × Pattern t p × Steady w (standin
 abbrev pub Builds : (t w st : List ℕ) (p u d r : ℕ) → (st′ w′ : List ℕ) → Type 0
 Builds t w st p u d r st′ w′ = (k : ℕ) → Gives (visit t d (build p k (held st)) w (standing st) u) st r st′ w′
 
+-- a variable's: record and store stay as they are, whatever the store
+abbrev pub BuildsVariable : (t st : List ℕ) (p u d r : ℕ) → Type 0
+BuildsVariable t st p u d r = (w : List ℕ) → Steady w (standing st) (held st) → Builds t w st p u d r st w
+
 -- MATCH of entry p gives r with the record st′
 abbrev pub Matches : (t w st : List ℕ) (p g d r : ℕ) (st′ : List ℕ) → Type 0
 Matches t w st p g d r st′ = Gives (visit t d (match p (nodeIn g) (held st)) w (standing st) (unitsIn g)) st r st′ w
 
--- entry p is a PCON whose constructor and count are the node's, and nesting is left for its children
+-- entry p is a PCON whose constructor and count are the node's, which stands in the store, and nesting is left for its children
 abbrev pub Agreed : (t w : List ℕ) (p g d : ℕ) → Type 0
-Agreed t w p g d = Entries t × (p < 4096) × (kindOf t p ≡ 19) × (agreeing t w p (nodeIn g) ≡ true) × (0 < d)
+Agreed t w p g d = Entries t × (p < 4096) × (kindOf t p ≡ 19) × (agreeing t w p (nodeIn g) ≡ true) × (0 < d) × Stored w (nodeIn g)
 
 -- what follows a MATCH of entry p on node k, whose constructor and count agree, whatever the mark: the record is b before
--- and c after, and its mark is as it was
+-- and c after, its mark is as it was, and what it binds stands in the store
 pub record MatchesChildren (t w : List ℕ) (n p g : ℕ) (b : List ℕ) (r : ℕ) (c : List ℕ) : Type 0 where
   pub is : (m : ℕ) → kept r (nodeIn g) (held c) w (at m (notesOf c)) ≡ plan t n (walk (zip match (operands t p) (children w (nodeIn g))) [] (held b) (λ gs b′. ret (nodeIn g) b′)) w (at m (notesOf b)) (unitsIn g)
   pub frame : Framed b c
   pub lasts : lasting c ≡ lasting b
+  pub binds : Bound w (held b) → Bound w (held c)
 
 -- a new node of these eight words; with an index, the node that stands with them
 unfoldable pub noded : List ℕ → List ℕ → List ℕ → ℕ → Ran

@@ -23,9 +23,10 @@ use words::put_row;
 ghost use mathlib.Core.Path.{_≡_};
 ghost use Prim.Native.Nat.{_<_, _≤_};
 ghost use lib.ListN.{length};
+ghost use Rattle.checks.specs.Good.{kindOf};
 ghost use Rattle.index.specs.Run.{Fits};
 ghost use Rattle.leaves.specs.Record.{markOf, roomOf, notesOf, recordLong};
-ghost use Rattle.leaves.specs.Visits.{noded, Gives, Buildable, Builds};
+ghost use Rattle.leaves.specs.Visits.{noded, Gives, Entries, Buildable, Builds, BuildsVariable};
 
 // The node of these eight words where the room does not let it be made at once: there is none, or the index is asked.
 fn node_asked(store: &mut [u32], st: &mut [u32; RECORD], made: [u32; 8], left: u32) -> u64
@@ -75,7 +76,25 @@ pub fn node(store: &mut [u32], st: &mut [u32; RECORD], made: [u32; 8], left: u32
     done(k, left)
 }
 
-// BUILD of the pattern p.
+// BUILD of the pattern p, a variable: its node.
+fn build_variable(table: &[u32; 32768], st: &[u32; RECORD], p: u32, units: u32, deep: u32) -> u64
+    requires { ⌜ Entries (now table) × (p < 4096) × (kindOf (now table) p ≡ 18) ⌝ }
+    ensures { λ r. ⌜ BuildsVariable (now (table .entry)) (now (st .entry)) p units deep r ⌝ }
+{
+    if units == 0 {
+        return no_units();
+    }
+    if deep == 0 {
+        return no_nesting(units);
+    }
+    let v = entry(table, p, 1);
+    if bit(st, v) == 1 {
+        return done(word_of(st, v), units - 1);
+    }
+    no_binding(v, units - 1)
+}
+
+// BUILD of the pattern p. Its variables are built here and not by a call of its own.
 pub fn build(
     table: &[u32; 32768],
     store: &mut [u32],
@@ -87,6 +106,9 @@ pub fn build(
     requires { ⌜ Buildable (now table) (now store) (now st) p ⌝ }
     ensures { λ r. ⌜ Builds (now (table .entry)) (now (store .entry)) (now (st .entry)) p units deep r (now (st .exit)) (now (store .exit)) ⌝ }
 {
+    if kind(table, p) == PVAR {
+        return build_variable(table, st, p, units, deep);
+    }
     if units == 0 {
         return no_units();
     }
@@ -94,18 +116,16 @@ pub fn build(
         return no_nesting(units);
     }
     let mut left = units - 1;
-    if kind(table, p) == PVAR {
-        let v = entry(table, p, 1);
-        if bit(st, v) == 1 {
-            return done(word_of(st, v), left);
-        }
-        return no_binding(v, left);
-    }
     let n = operands(table, p);
     let mut made = [entry(table, p, 1), n, 0, 0, 0, 0, 0, 0];
     let mut i: u32 = 0;
     while i < n {
-        let got = build(table, store, st, entry(table, p, 2 + i), left, deep - 1);
+        let q = entry(table, p, 2 + i);
+        let got = if kind(table, q) == PVAR {
+            build_variable(table, st, q, left, deep - 1)
+        } else {
+            build(table, store, st, q, left, deep - 1)
+        };
         let Answer::Done(x, rest) = answer_of(got) else {
             return got;
         };

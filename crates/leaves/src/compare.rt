@@ -1,6 +1,6 @@
 // Term comparison: first the pair, then child pairs left to right, ending at the first difference. It calls itself on the child
-// pairs. In a good store their node numbers are lower, since children lie below their parent; that it ends in every store is by
-// the nesting, which falls at each call. Nesting and units are counted as for every visit. The last child pair goes round the
+// pairs. Their node numbers are lower, since children lie below their parent; so they stand in the store as their parents do. That it
+// ends is by the nesting, which falls at each call. Nesting and units are counted as for every visit. The last child pair goes round the
 // loop, one deeper as the others, and takes no new frame of the machine's stack.
 use crate::answers::Answer;
 use crate::answers::answer_of;
@@ -9,11 +9,12 @@ use crate::answers::failure;
 use crate::answers::no_nesting;
 use crate::answers::no_units;
 use crate::reading::count;
-use words::word;
-ghost use Rattle.leaves.specs.Visits.{Compares};
+use crate::reading::node_word;
+ghost use Rattle.leaves.specs.Visits.{Compares, Stored};
 
 // Whether nodes a and b are the same term. The answer's node means nothing; its units count.
 pub(crate) fn same(store: &[u32], a: u32, b: u32, units: u32, deep: u32) -> u64
+    requires { ⌜ Stored (now store) a × Stored (now store) b ⌝ }
     ensures { λ r. ⌜ Compares (now (store .entry)) a b units deep r ⌝ }
 {
     let mut x = a;
@@ -30,7 +31,7 @@ pub(crate) fn same(store: &[u32], a: u32, b: u32, units: u32, deep: u32) -> u64
         left -= 1;
         d -= 1;
         let n = count(store, x);
-        if word(store, x, 0) != word(store, y, 0) {
+        if node_word(store, x, 0) != node_word(store, y, 0) {
             return failure(left);
         }
         if n != count(store, y) {
@@ -43,14 +44,20 @@ pub(crate) fn same(store: &[u32], a: u32, b: u32, units: u32, deep: u32) -> u64
         while i + 1 < n {
             // The call gets a copy of the slice, so that the slice itself stays in registers.
             let words = store;
-            let got = same(words, word(store, x, 2 + i), word(store, y, 2 + i), left, d);
+            let got = same(
+                words,
+                node_word(store, x, 2 + i),
+                node_word(store, y, 2 + i),
+                left,
+                d,
+            );
             let Answer::Done(_, rest) = answer_of(got) else {
                 return got;
             };
             left = rest;
             i += 1;
         }
-        x = word(store, x, 2 + i);
-        y = word(store, y, 2 + i);
+        x = node_word(store, x, 2 + i);
+        y = node_word(store, y, 2 + i);
     }
 }

@@ -13,6 +13,7 @@ use crate::compare::same;
 use crate::reading::agree;
 use crate::reading::entry;
 use crate::reading::kind;
+use crate::reading::node_word;
 use crate::reading::operands;
 use crate::record::Bindings;
 use crate::record::MISS;
@@ -23,12 +24,11 @@ use crate::record::give_up;
 use crate::record::put_variable;
 use crate::record::word_of;
 use checks::kinds::PVAR;
-use words::word;
 ghost use mathlib.Core.Path.{_≡_};
 ghost use Prim.Native.Nat.{_<_};
 ghost use lib.ListN.{length};
-ghost use Rattle.leaves.specs.Record.{recordLong};
-ghost use Rattle.leaves.specs.Visits.{Pattern, Agreed, Matchable, Matches, MatchesChildren};
+ghost use Rattle.leaves.specs.Record.{recordLong, held};
+ghost use Rattle.leaves.specs.Visits.{Pattern, Agreed, Matchable, Matches, MatchesChildren, Bound};
 
 // The children of a PCON whose constructor and count agree with the node's, after its own visit, one by one, in the record lent. Some
 // nesting is left for them, so that the loop does not test it; its caller does.
@@ -40,7 +40,7 @@ fn match_nested(
     s: u64,
     deep: u32,
 ) -> u64
-    requires { ⌜ (length (now st) ≡ recordLong) × Agreed (now table) (now store) p s deep ⌝ }
+    requires { ⌜ (length (now st) ≡ recordLong) × Agreed (now table) (now store) p s deep × Bound (now store) (held (now st)) ⌝ }
     ensures { λ r. ⌜ MatchesChildren (now (table .entry)) (now (store .entry)) deep p s (now (st .entry)) r (now (st .exit)) ⌝ }
 {
     let t = (s / HALF) as u32;
@@ -49,7 +49,7 @@ fn match_nested(
     let mut i: u32 = 0;
     while i < n {
         let q = entry(table, p, 2 + i);
-        let c = word(store, t, 2 + i);
+        let c = node_word(store, t, 2 + i);
         if left == 0 {
             return no_units();
         }
@@ -104,7 +104,7 @@ fn match_children(
     b: Bindings,
     deep: u32,
 ) -> MatchedChildren
-    requires { ⌜ Agreed (now table) (now store) p s deep ⌝ }
+    requires { ⌜ Agreed (now table) (now store) p s deep × Bound (now store) (held (b .words)) ⌝ }
     ensures { λ r. ⌜ MatchesChildren (now (table .entry)) (now (store .entry)) deep p s (b .words) (r .got) (r .binds .words) ⌝ }
 {
     let mut words = b.words;
@@ -125,7 +125,7 @@ fn match_in_place(
     s: u64,
     deep: u32,
 ) -> u64
-    requires { ⌜ (length (now st) ≡ recordLong) × Agreed (now table) (now store) p s deep ⌝ }
+    requires { ⌜ (length (now st) ≡ recordLong) × Agreed (now table) (now store) p s deep × Bound (now store) (held (now st)) ⌝ }
     ensures { λ r. ⌜ MatchesChildren (now (table .entry)) (now (store .entry)) deep p s (now (st .entry)) r (now (st .exit)) ⌝ }
 {
     let mut x = p;
@@ -136,7 +136,7 @@ fn match_in_place(
     let mut i: u32 = 0;
     while i < n {
         let q = entry(table, x, 2 + i);
-        let c = word(store, t, 2 + i);
+        let c = node_word(store, t, 2 + i);
         if left == 0 {
             return no_units();
         }

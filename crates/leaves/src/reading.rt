@@ -1,13 +1,13 @@
-// Reading the table, which a run holds in 32,768 words, and the store. A node's count is read as at most 6.
+// Reading the table, which a run holds in 32,768 words, and the store. A node that is read stands in the store, so no read tests the
+// store's length, and a count needs no bound.
 use crate::answers::HALF;
-use words::word;
 ghost use mathlib.Core.Path.{_≡_};
 ghost use Prim.Native.Nat.{_<_, _+_, min};
 ghost use mathlib.Core.Bool.{true, false};
 ghost use Rattle.words.specs.Words.{wordAt};
 ghost use Rattle.checks.specs.Good.{kindOf, operandCount, maskBy};
 ghost use Rattle.checks.specs.Kinds.{ours};
-ghost use Rattle.leaves.specs.Visits.{countOf, rowAt, agreeing};
+ghost use Rattle.leaves.specs.Visits.{countOf, rowAt, agreeing, Stored};
 
 // The words of an entry that a run may note a hint in, where they are no operands: an entry, and a number of visits.
 pub const HINT_ENTRY: u32 = 4;
@@ -47,36 +47,45 @@ pub fn scope_mask(table: &[u32; 32768], e: u32) -> u64
     entry(table, e, 1) as u64 + entry(table, e, 2) as u64 * HALF
 }
 
-// The child count of node k, at most 6.
+// Word j of node k.
+pub fn node_word(store: &[u32], k: u32, j: u32) -> u32
+    requires { ⌜ Stored (now store) k × (j < 8) ⌝ }
+    ensures { λ r. ⌜ r ≡ wordAt (now (store .entry)) k j ⌝ }
+{
+    store[8 * (k as usize) + (j as usize)]
+}
+
+// The child count of node k, which is at most 6.
 pub fn count(store: &[u32], k: u32) -> u32
+    requires { ⌜ Stored (now store) k ⌝ }
     ensures { λ r. ⌜ r ≡ countOf (now (store .entry)) k ⌝ }
 {
-    let n = word(store, k, 1);
-    if n < 6 { n } else { 6 }
+    node_word(store, k, 1)
 }
 
 // The eight words of node k.
 pub fn row(store: &[u32], k: u32) -> [u32; 8]
+    requires { ⌜ Stored (now store) k ⌝ }
     ensures { λ r. ⌜ r ≡ rowAt (now (store .entry)) k ⌝ }
 {
     [
-        word(store, k, 0),
-        word(store, k, 1),
-        word(store, k, 2),
-        word(store, k, 3),
-        word(store, k, 4),
-        word(store, k, 5),
-        word(store, k, 6),
-        word(store, k, 7),
+        node_word(store, k, 0),
+        node_word(store, k, 1),
+        node_word(store, k, 2),
+        node_word(store, k, 3),
+        node_word(store, k, 4),
+        node_word(store, k, 5),
+        node_word(store, k, 6),
+        node_word(store, k, 7),
     ]
 }
 
 // Whether the constructor and the count of entry p are those of node k.
 pub fn agree(table: &[u32; 32768], store: &[u32], p: u32, k: u32) -> bool
-    requires { ⌜ p < 4096 ⌝ }
+    requires { ⌜ (p < 4096) × Stored (now store) k ⌝ }
     ensures { λ r. ⌜ r ≡ agreeing (now (table .entry)) (now (store .entry)) p k ⌝ }
 {
-    if entry(table, p, 1) != word(store, k, 0) {
+    if entry(table, p, 1) != node_word(store, k, 0) {
         return false;
     }
     operands(table, p) == count(store, k)

@@ -11,7 +11,7 @@ returns : tie.Need-returns
 returns c = skips-none _
 
 agree-requires : tie.Need-agree-requires
-agree-requires c κs = rw (c .entry2 .ensures) (c .before .before .before .before .pre .2)
+agree-requires c κs = (rw (c .entry2 .ensures) (c .before .before .before .before .pre .2), c .before .before .before .before .pre .4)
 
 returns-2 : tie.Need-returns-2
 returns-2 c = skips-none _

@@ -11,7 +11,7 @@ use Rattle.checks.specs.Good.{kindOf, operandCount}
 use Rattle.leaves.specs.Record.{recordLong, held}
 use Rattle.leaves.specs.Visits.{agreeing}
 use Rattle.leaves.proofs.AnswerWords.{done-node}
-use Rattle.leaves.proofs.Matching.{Matched, Turn, matched-none, matched-at, matched-all, operand-is, variable-small, constructor-is, child-units, inner-stopped, free-matched, bound-matched, bound-stops, other, leaf-matched, handed, inner-matched, inner-stops}
+use Rattle.leaves.proofs.Matching.{Matched, Turn, child-there, bound-there, handed-there, matched-none, matched-at, matched-all, operand-is, variable-small, constructor-is, child-units, inner-stopped, free-matched, bound-matched, bound-stops, other, leaf-matched, handed, inner-matched, inner-stops}
 use Prim.Native.Nat.{ℕ, _+_, _-_, _<_, _≤_}
 use borrow.Fn.Kinds.{In}
 use borrow.Fn.PlainCycle.{Measures, is, falls, and}
@@ -27,12 +27,12 @@ use Rattle.leaves.proofs.compare.same.Reads as same-reads
 use Rattle.leaves.proofs.reading.agree.Reads as agree-reads
 use Rattle.leaves.proofs.reading.entry.Reads as entry-reads
 use Rattle.leaves.proofs.reading.kind.Reads as kind-reads
+use Rattle.leaves.proofs.reading.node_word.Reads as node-word-reads
 use Rattle.leaves.proofs.reading.operands.Reads as operands-reads
 use Rattle.leaves.proofs.record.bit.Reads as bit-reads
 use Rattle.leaves.proofs.record.give_up.Reads as give-up-reads
 use Rattle.leaves.proofs.record.put_variable.Reads as put-variable-reads
 use Rattle.leaves.proofs.record.word_of.Reads as word-of-reads
-use Rattle.words.proofs.word.Reads as word-reads
 use Rattle.leaves.proofs.matcher.+match_nested.{statement}
 use Rattle.leaves.proofs.matcher.+match_nested.Tie.{close}
 
@@ -46,7 +46,7 @@ abbrev children-below : ℕ → In 3 children-kinds.ps
 children-below t = and 3 children-kinds.ps (falls 3 children-kinds.ps _<_ μ-children t) children.Pre
 
 abbrev children-calls : ℕ → children-lts.Claims
-children-calls t = (operands-reads.Asked, operands-reads.Learnt, entry-reads.Asked, entry-reads.Learnt, word-reads.Asked, word-reads.Learnt, no-units-reads.Asked, no-units-reads.Learnt, kind-reads.Asked, kind-reads.Learnt, bit-reads.Asked, bit-reads.Learnt, word-of-reads.Asked, word-of-reads.Learnt, same-reads.Asked, same-reads.Learnt, answer-of-reads.Asked, answer-of-reads.Learnt, give-up-reads.Asked, give-up-reads.Learnt, put-variable-reads.Asked, put-variable-reads.Learnt, agree-reads.Asked, agree-reads.Learnt, failure-reads.Asked, failure-reads.Learnt, stopped-reads.Asked, stopped-reads.Learnt, done-reads.Asked, done-reads.Learnt, children-below t, children.Post)
+children-calls t = (operands-reads.Asked, operands-reads.Learnt, entry-reads.Asked, entry-reads.Learnt, node-word-reads.Asked, node-word-reads.Learnt, no-units-reads.Asked, no-units-reads.Learnt, kind-reads.Asked, kind-reads.Learnt, bit-reads.Asked, bit-reads.Learnt, word-of-reads.Asked, word-of-reads.Learnt, same-reads.Asked, same-reads.Learnt, answer-of-reads.Asked, answer-of-reads.Learnt, give-up-reads.Asked, give-up-reads.Learnt, put-variable-reads.Asked, put-variable-reads.Learnt, agree-reads.Asked, agree-reads.Learnt, failure-reads.Asked, failure-reads.Learnt, stopped-reads.Asked, stopped-reads.Learnt, done-reads.Asked, done-reads.Learnt, children-below t, children.Post)
 
 abbrev children-Inv-loop : children-lts.InvT-loop
 children-Inv-loop table store st₀ p s deep t left₀ n i₀ st left i =
@@ -56,7 +56,7 @@ abbrev children-μ-loop : children-lts.MeasureT-loop
 children-μ-loop table store st₀ p s deep t left₀ n i₀ st left i = n - i
 
 -- the turn, where operand and child are read
-turn : (t : ℕ) (c : children-lts.After-word (children-calls t) (children-at t) children.Post children-Inv-loop children-μ-loop) → let a = c .before .before .before .before .before .before .args in let l = c .before .before .before .loop in Turn (a .table .now) (a .store .now) (a .deep) (a .p) (a .s) (a .st .now) (l .st) (l .left) (l .i) (c .before .entry .result) (c .word .result)
+turn : (t : ℕ) (c : children-lts.After-node-word (children-calls t) (children-at t) children.Post children-Inv-loop children-μ-loop) → let a = c .before .before .before .before .before .before .args in let l = c .before .before .before .loop in Turn (a .table .now) (a .store .now) (a .deep) (a .p) (a .s) (a .st .now) (l .st) (l .left) (l .i) (c .before .entry .result) (c .node-word .result)
 turn t c =
     let f = c .before .before .before .before .before .before .pre .1 .1 in
     let i = c .before .before .before .loop .inv in
@@ -66,14 +66,15 @@ turn t c =
       inside = f .1;
       kind = f .2;
       agreed = f .3;
+      stands-there = f .5;
       below = omega arith;
       operand = c .before .entry .ensures;
-      child = c .word .ensures;
+      child = c .node-word .ensures;
       few = i .2;
     }
 
 -- some nesting is left
-levels : (t : ℕ) (c : children-lts.After-word (children-calls t) (children-at t) children.Post children-Inv-loop children-μ-loop) → c .before .before .before .before .before .before .args .deep ≡ 0 → ⊥
+levels : (t : ℕ) (c : children-lts.After-node-word (children-calls t) (children-at t) children.Post children-Inv-loop children-μ-loop) → c .before .before .before .before .before .before .args .deep ≡ 0 → ⊥
 levels t c e = omega (arith, c .before .before .before .before .before .before .pre .1 .1 .4)
 
 -- the operand is a variable, or a constructor that agrees with the child's
@@ -83,7 +84,7 @@ is-variable t c = sym (c .before .kind .ensures) ∙ c .if2 .taken
 is-constructor : (t : ℕ) (c : children-lts.Else2 (children-calls t) (children-at t) children.Post children-Inv-loop children-μ-loop) → kindOf (c .before .before .before .before .before .before .before .before .before .args .table .now) (c .before .before .before .before .entry .result) ≡ 19
 is-constructor t c = constructor-is (turn t (c .before .before .before)) (c .before .kind .ensures) (c .if2 .left)
 
-agrees : (t : ℕ) (c : children-lts.Else4 (children-calls t) (children-at t) children.Post children-Inv-loop children-μ-loop) → agreeing (c .before .before .before .before .before .before .before .before .before .before .before .args .table .now) (c .before .before .before .before .before .before .before .before .before .before .before .args .store .now) (c .before .before .before .before .before .before .entry .result) (c .before .before .before .before .before .word .result) ≡ true
+agrees : (t : ℕ) (c : children-lts.Else4 (children-calls t) (children-at t) children.Post children-Inv-loop children-μ-loop) → agreeing (c .before .before .before .before .before .before .before .before .before .before .before .args .table .now) (c .before .before .before .before .before .before .before .before .before .before .before .args .store .now) (c .before .before .before .before .before .before .entry .result) (c .before .before .before .before .before .node-word .result) ≡ true
 agrees t c = sym (c .before .agree .ensures) ∙ not-false _ (c .if4 .left)
 
 -- what each way through a turn comes to
@@ -118,11 +119,11 @@ children-add-entry t c = omega (arith, c .before .before .before .before .pre .1
 children-entry-requires : (t : ℕ) → children-lts.Need-entry-requires (children-calls t) (children-at t) children.Post children-Inv-loop children-μ-loop
 children-entry-requires t c κs = (c .before .before .before .before .pre .1 .1 .1, omega (arith, c .before .before .before .before .pre .1 .1 .0 .few _ (c .before .before .before .before .pre .1 .1 .1)))
 
-children-add-word : (t : ℕ) → children-lts.Need-add-word (children-calls t) (children-at t) children.Post children-Inv-loop children-μ-loop
+children-add-word : (t : ℕ) → children-lts.Need-add-node-word (children-calls t) (children-at t) children.Post children-Inv-loop children-μ-loop
 children-add-word t c = omega (arith, c .before .before .before .before .before .pre .1 .1 .0 .few _ (c .before .before .before .before .before .pre .1 .1 .1))
 
-children-word-requires : (t : ℕ) → children-lts.Need-word-requires (children-calls t) (children-at t) children.Post children-Inv-loop children-μ-loop
-children-word-requires t c κs = omega (arith, c .before .before .before .before .before .pre .1 .1 .0 .few _ (c .before .before .before .before .before .pre .1 .1 .1))
+children-word-requires : (t : ℕ) → children-lts.Need-node-word-requires (children-calls t) (children-at t) children.Post children-Inv-loop children-μ-loop
+children-word-requires t c κs = (c .before .before .before .before .before .pre .1 .1 .5, omega (arith, c .before .before .before .before .before .pre .1 .1 .0 .few _ (c .before .before .before .before .before .pre .1 .1 .1)))
 
 children-returns : (t : ℕ) → children-lts.Need-returns (children-calls t) (children-at t) children.Post children-Inv-loop children-μ-loop
 children-returns t c = child-units (turn t (c .before .before)) (c .no-units .ensures) (c .before .if1 .taken)
@@ -138,6 +139,16 @@ children-bit-requires t c κs = variable-small (turn t (c .before .before .befor
 
 children-word-of-requires : (t : ℕ) → children-lts.Need-word-of-requires (children-calls t) (children-at t) children.Post children-Inv-loop children-μ-loop
 children-word-of-requires t c κs = variable-small (turn t (c .before .before .before .before .before .before .before .before)) (is-variable t (c .before .before .before .before .before)) (c .before .before .before .before .entry2 .ensures)
+
+children-same-requires : (t : ℕ) → children-lts.Need-same-requires (children-calls t) (children-at t) children.Post children-Inv-loop children-μ-loop
+children-same-requires t c κs =
+    let at-if3 = c .before .before in
+    let at-bit = at-if3 .before in
+    let at-before = at-bit .before .before in
+    let at-before′ = at-before .before .before .before in
+    let start = at-before′ .before .before .before .before .before .before .before in
+    let k = turn t (at-before′ .before) in
+    (bound-there k (is-variable t (at-before .before)) (at-before .entry2 .ensures) (sym (at-bit .bit .ensures) ∙ at-if3 .if3 .taken) (c .word-of .ensures) (start .pre .1 .2), child-there k)
 
 children-returns-2 : (t : ℕ) → children-lts.Need-returns-2 (children-calls t) (children-at t) children.Post children-Inv-loop children-μ-loop
 children-returns-2 t c =
@@ -156,7 +167,7 @@ children-put-variable-requires : (t : ℕ) → children-lts.Need-put-variable-re
 children-put-variable-requires t c κs = variable-small (turn t (c .before .before .before .before .before .before .before .before)) (is-variable t (c .before .before .before .before .before)) (c .before .before .before .before .entry2 .ensures)
 
 children-agree-requires : (t : ℕ) → children-lts.Need-agree-requires (children-calls t) (children-at t) children.Post children-Inv-loop children-μ-loop
-children-agree-requires t c κs = operand-is (turn t (c .before .before .before)) .0
+children-agree-requires t c κs = let k = turn t (c .before .before .before) in (operand-is k .0, child-there k)
 
 children-returns-3 : (t : ℕ) → children-lts.Need-returns-3 (children-calls t) (children-at t) children.Post children-Inv-loop children-μ-loop
 children-returns-3 t c =
@@ -186,7 +197,11 @@ children-match-nested-requires t c κs =
     let at-before′′ = at-before′ .before .before .before in
     let at-loop = at-before′′ .before .before .before .before in
     let start = at-loop .before .before .before in
-    (omega arith, (at-loop .loop .inv .3, (start .pre .1 .1 .0, operand-is (turn t (at-before′′ .before)) .0, is-constructor t (at-before′ .before), handed (turn t (at-before′′ .before)) (at-before′′ .if1 .left) (levels t (at-before′′ .before)) (is-constructor t (at-before′ .before)) (agrees t (at-before .before)) (c .done .ensures), omega (arith, at-if6 .if6 .left, start .pre .1 .1 .4))))
+    let k = turn t (at-before′′ .before) in
+    let d = levels t (at-before′′ .before) in
+    let n = is-constructor t (at-before′ .before) in
+    let e = agrees t (at-before .before) in
+    (omega arith, (at-loop .loop .inv .3, (start .pre .1 .1 .0, operand-is k .0, n, handed k (at-before′′ .if1 .left) d n e (c .done .ensures), omega (arith, at-if6 .if6 .left, start .pre .1 .1 .4), handed-there k (at-before′′ .if1 .left) d n e (c .done .ensures)), at-loop .loop .inv .4 .binds (start .pre .1 .2)))
 
 children-returns-5 : (t : ℕ) → children-lts.Need-returns-5 (children-calls t) (children-at t) children.Post children-Inv-loop children-μ-loop
 children-returns-5 t c =
@@ -215,7 +230,7 @@ pub +match-nested-spec : {M : Type 1} → statement M
     (children-add-entry t) (children-entry-requires t) (children-add-word t) (children-word-requires t) (λ c κs. search needs)
     (children-returns t) (λ c. search needs) (children-kind-requires t) (children-entry-requires-2 t)
     (children-bit-requires t) (children-word-of-requires t) (λ c. search needs)
-    (λ c κs. search needs) (λ c κs. search needs) (λ c. search needs) (λ c κs. search needs) (children-returns-2 t)
+    (children-same-requires t) (λ c κs. search needs) (λ c. search needs) (λ c κs. search needs) (children-returns-2 t)
     (children-put-variable-requires t)
     (children-agree-requires t) (λ c. search needs) (λ c κs. search needs) (children-returns-3 t) (children-operands-requires-2 t)
     (λ c κs. search needs) (children-returns-4 t) (λ c κs. search needs) (λ c. search needs) (children-match-nested-requires t)

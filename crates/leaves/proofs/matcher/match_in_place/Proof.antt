@@ -13,7 +13,7 @@ use Rattle.checks.specs.Good.{kindOf, operandCount}
 use Rattle.leaves.specs.Record.{recordLong, held}
 use Rattle.leaves.specs.Visits.{agreeing}
 use Rattle.leaves.proofs.AnswerWords.{done-node}
-use Rattle.leaves.proofs.Matching.{Turn, Going, going-none, going-turn, going-on, going-long, going-down, matched-all, operand-is, variable-small, constructor-is, child-units, inner-stopped, free-matched, bound-matched, bound-stops, other, leaf-matched, handed, inner-matched, inner-refused}
+use Rattle.leaves.proofs.Matching.{Turn, child-there, bound-there, handed-there, going-there, going-bound, Going, going-none, going-turn, going-on, going-long, going-down, matched-all, operand-is, variable-small, constructor-is, child-units, inner-stopped, free-matched, bound-matched, bound-stops, other, leaf-matched, handed, inner-matched, inner-refused}
 use Rattle.leaves.proofs.matcher.match_in_place.Statement.{statement}
 use Rattle.leaves.proofs.matcher.match_in_place.Tie as tie
 
@@ -29,13 +29,13 @@ few : (c : tie.At-loop Inv-loop μ-loop) → operandCount (c .before .before .be
 few c = c .before .before .before .pre .1 .0 .few _ (c .loop .inv .5 .inside)
 
 -- the turn, where operand and child are read
-turn : (c : tie.After-word Inv-loop μ-loop) → let a = c .before .before .before .before .before .before .args in let l = c .before .before .before .loop in Turn (a .table .now) (a .store .now) (l .d) (l .x) (l .inv .5 .given) (l .inv .5 .held-then) (l .st) (l .left) (l .i) (c .before .entry .result) (c .word .result)
+turn : (c : tie.After-node-word Inv-loop μ-loop) → let a = c .before .before .before .before .before .before .args in let l = c .before .before .before .loop in Turn (a .table .now) (a .store .now) (l .d) (l .x) (l .inv .5 .given) (l .inv .5 .held-then) (l .st) (l .left) (l .i) (c .before .entry .result) (c .node-word .result)
 turn c =
     let l = c .before .before .before .loop .inv in
-    going-turn (l .5) (c .before .before .before .before .before .before .pre .1 .0) (omega arith) (c .before .entry .ensures) (c .word .ensures) (l .2)
+    going-turn (l .5) (c .before .before .before .before .before .before .pre .1 .0) (omega arith) (c .before .entry .ensures) (c .node-word .ensures) (l .2)
 
 -- some nesting is left
-levels : (c : tie.After-word Inv-loop μ-loop) → c .before .before .before .loop .d ≡ 0 → ⊥
+levels : (c : tie.After-node-word Inv-loop μ-loop) → c .before .before .before .loop .d ≡ 0 → ⊥
 levels c e = omega (arith, c .before .before .before .loop .inv .3)
 
 -- the operand is a variable, or a constructor that agrees with the child's
@@ -48,11 +48,11 @@ small c = variable-small (turn (c .before .before .before .before)) (is-variable
 is-constructor : (c : tie.Else2 Inv-loop μ-loop) → kindOf (c .before .before .before .before .before .before .before .before .before .args .table .now) (c .before .before .before .before .entry .result) ≡ 19
 is-constructor c = constructor-is (turn (c .before .before .before)) (c .before .kind .ensures) (c .if2 .left)
 
-agrees : (c : tie.Else4 Inv-loop μ-loop) → agreeing (c .before .before .before .before .before .before .before .before .before .before .before .args .table .now) (c .before .before .before .before .before .before .before .before .before .before .before .args .store .now) (c .before .before .before .before .before .before .entry .result) (c .before .before .before .before .before .word .result) ≡ true
+agrees : (c : tie.Else4 Inv-loop μ-loop) → agreeing (c .before .before .before .before .before .before .before .before .before .before .before .args .table .now) (c .before .before .before .before .before .before .before .before .before .before .before .args .store .now) (c .before .before .before .before .before .before .entry .result) (c .before .before .before .before .before .node-word .result) ≡ true
 agrees c = sym (c .before .agree .ensures) ∙ not-false _ (c .if4 .left)
 
 loop-holds : tie.Need-loop-holds Inv-loop μ-loop
-loop-holds c = let h = c .before .before .pre in (omega arith, c .operands .ensures, omega arith, h .1 .4, h .0, going-none _ _ _ _ _ _ (h .1 .1) (h .1 .2) (h .1 .3))
+loop-holds c = let h = c .before .before .pre in (omega arith, c .operands .ensures, omega arith, h .1 .4, h .0, going-none _ _ _ _ _ _ (h .1 .1) (h .1 .2) (h .1 .3) (h .1 .5) (h .2))
 
 add-entry : tie.Need-add-entry Inv-loop μ-loop
 add-entry c = omega (arith, few (c .before))
@@ -60,11 +60,11 @@ add-entry c = omega (arith, few (c .before))
 entry-requires : tie.Need-entry-requires Inv-loop μ-loop
 entry-requires c κs = (c .before .loop .inv .5 .inside, omega (arith, few (c .before)))
 
-add-word : tie.Need-add-word Inv-loop μ-loop
+add-word : tie.Need-add-node-word Inv-loop μ-loop
 add-word c = omega (arith, few (c .before .before))
 
-word-requires : tie.Need-word-requires Inv-loop μ-loop
-word-requires c κs = omega (arith, few (c .before .before))
+word-requires : tie.Need-node-word-requires Inv-loop μ-loop
+word-requires c κs = (going-there (c .before .before .loop .inv .5), omega (arith, few (c .before .before)))
 
 returns : tie.Need-returns Inv-loop μ-loop
 returns c = c .before .before .before .before .before .loop .inv .5 .whole _ _ (child-units (turn (c .before .before)) (c .no-units .ensures) (c .before .if1 .taken))
@@ -83,6 +83,16 @@ bit-requires c κs = small (c .before)
 
 word-of-requires : tie.Need-word-of-requires Inv-loop μ-loop
 word-of-requires c κs = small (c .before .before .before .before)
+
+same-requires : tie.Need-same-requires Inv-loop μ-loop
+same-requires c κs =
+    let at-if3 = c .before .before in
+    let at-bit = at-if3 .before in
+    let at-before = at-bit .before .before in
+    let at-before′ = at-before .before .before .before in
+    let at-loop = at-before′ .before .before .before .before in
+    let k = turn (at-before′ .before) in
+    (bound-there k (is-variable (at-before .before)) (at-before .entry2 .ensures) (sym (at-bit .bit .ensures) ∙ at-if3 .if3 .taken) (c .word-of .ensures) (at-loop .loop .inv .5 .bound-then), child-there k)
 
 returns-2 : tie.Need-returns-2 Inv-loop μ-loop
 returns-2 c =
@@ -133,7 +143,7 @@ loop-again-2 c =
     (omega arith, l .1, omega (arith, l .2), l .3, going-long (l .5) (l .4) f, going-on (l .5) f)
 
 agree-requires : tie.Need-agree-requires Inv-loop μ-loop
-agree-requires c κs = operand-is (turn (c .before .before .before)) .0
+agree-requires c κs = let k = turn (c .before .before .before) in (operand-is k .0, child-there k)
 
 returns-3 : tie.Need-returns-3 Inv-loop μ-loop
 returns-3 c =
@@ -183,7 +193,11 @@ children-requires c κs =
     let at-before′′ = at-before′ .before .before .before in
     let at-loop = at-before′′ .before .before .before .before in
     let start = at-loop .before .before .before in
-    (start .pre .1 .0, operand-is (turn (at-before′′ .before)) .0, is-constructor (at-before′ .before), handed (turn (at-before′′ .before)) (at-before′′ .if1 .left) (levels (at-before′′ .before)) (is-constructor (at-before′ .before)) (agrees (at-before .before)) (at-done .done .ensures), omega (arith, at-if6 .if6 .left, at-loop .loop .inv .3))
+    let k = turn (at-before′′ .before) in
+    let d = levels (at-before′′ .before) in
+    let n = is-constructor (at-before′ .before) in
+    let e = agrees (at-before .before) in
+    ((start .pre .1 .0, operand-is k .0, n, handed k (at-before′′ .if1 .left) d n e (at-done .done .ensures), omega (arith, at-if6 .if6 .left, at-loop .loop .inv .3), handed-there k (at-before′′ .if1 .left) d n e (at-done .done .ensures)), going-bound (at-loop .loop .inv .5))
 
 returns-5 : tie.Need-returns-5 Inv-loop μ-loop
 returns-5 c =
@@ -236,7 +250,7 @@ match-in-place-spec =
     Inv-loop μ-loop (λ c. search needs) (λ c. search needs) (λ c κs. search needs) loop-holds add-entry entry-requires
     add-word word-requires (λ c κs. search needs) returns (λ c. search needs) add-i kind-requires entry-requires-2
     bit-requires word-of-requires (λ c. search needs)
-    (λ c κs. search needs) (λ c κs. search needs) (λ c. search needs) (λ c κs. search needs) returns-2 loop-less loop-again
+    same-requires (λ c κs. search needs) (λ c. search needs) (λ c κs. search needs) returns-2 loop-less loop-again
     put-variable-requires loop-less-2 loop-again-2 agree-requires (λ c. search needs) (λ c κs. search needs) returns-3 operands-requires-2
     (λ c κs. search needs) returns-4 (λ c. search needs) loop-less-3 loop-again-3 (λ c κs. search needs)
     (λ c. search needs) children-requires (λ c κs. search needs) (λ c. search needs) (λ c. search needs) (λ c. search needs) returns-5 loop-less-4 loop-again-4

@@ -10,7 +10,8 @@ use Rattle.leaves.specs.Answers.{nodeIn}
 use Rattle.leaves.specs.Record.{standing, held}
 use Rattle.leaves.specs.Visits.{agreeing}
 use Rattle.leaves.proofs.Patterns.{no-variable}
-use Rattle.leaves.proofs.Matching.{root-units, root-nesting, root-small, root-free, root-bound, root-bound-stops, root-other, root-leaf, root-handed, root-stops, root-stopped, root-matched}
+use Rattle.leaves.proofs.Storing.{steady-bound}
+use Rattle.leaves.proofs.Matching.{root-stored, root-bound-there, root-there, root-units, root-nesting, root-small, root-free, root-bound, root-bound-stops, root-other, root-leaf, root-handed, root-stops, root-stopped, root-matched}
 use borrow.Author.Needs.{needs}
 use Rattle.leaves.proofs.matcher.match_node.Statement.{statement}
 use Rattle.leaves.proofs.matcher.match_node.Tie as tie
@@ -40,6 +41,17 @@ bit-requires c κs = small (c .before)
 
 word-of-requires : tie.Need-word-of-requires
 word-of-requires c κs = small (c .before .before .before .before)
+
+same-requires : tie.Need-same-requires
+same-requires c κs =
+    let at-if4 = c .before .before in
+    let at-bit = at-if4 .before in
+    let at-before = at-bit .before in
+    let at-entry = at-before .before in
+    let at-if2 = at-entry .before .before .before in
+    let at-if1 = at-if2 .before in
+    let start = at-if1 .before .before in
+    (root-bound-there (start .pre .0) (start .args .deep) (at-if1 .if1 .left) (at-if2 .if2 .left) (is-variable (at-before .before)) (at-entry .entry .ensures) (sym (at-bit .bit .ensures) ∙ at-if4 .if4 .taken) (c .word-of .ensures), root-stored (start .pre .0) (start .args .deep))
 
 returns-3 : tie.Need-returns-3
 returns-3 c =
@@ -86,6 +98,9 @@ returns-5 c =
     let start = at-if1 .before .before in
     root-free (start .pre .0) _ (at-if1 .if1 .left) (at-if2 .if2 .left) (is-variable (at-before .before)) (at-entry .entry .ensures) (λ e. at-if4 .if4 .left (at-bit .bit .ensures ∙ e)) (at-bind .bind .ensures)
 
+agree-requires : tie.Need-agree-requires
+agree-requires c κs = let start = c .before .before .before .before .before in (start .pre .0 .inside, root-stored (start .pre .0) (start .args .deep))
+
 returns-6 : tie.Need-returns-6
 returns-6 c =
     let at-if5 = c .before in
@@ -123,7 +138,7 @@ in-place-requires c κs =
     let at-if2 = at-before′ .before .before .before in
     let at-if1 = at-if2 .before in
     let start = at-if1 .before .before in
-    (start .pre .0 .long, (start .pre .0 .entries, start .pre .0 .inside, is-constructor (at-before′ .before), root-handed (start .pre .0) _ (at-if1 .if1 .left) (at-if2 .if2 .left) (is-constructor (at-before′ .before)) (agrees (at-before .before)), omega (arith, at-if7 .if7 .left)))
+    (start .pre .0 .long, (start .pre .0 .entries, start .pre .0 .inside, is-constructor (at-before′ .before), root-handed (start .pre .0) _ (at-if1 .if1 .left) (at-if2 .if2 .left) (is-constructor (at-before′ .before)) (agrees (at-before .before)), omega (arith, at-if7 .if7 .left), root-there (start .pre .0) _ (at-if1 .if1 .left) (at-if2 .if2 .left) (is-constructor (at-before′ .before)) (agrees (at-before .before))), steady-bound (start .pre .0 .steady))
 
 returns-9 : tie.Need-returns-9
 returns-9 c =
@@ -154,9 +169,9 @@ match-node-spec =
     (tie.spec
     (λ c. search needs) (λ c κs. search needs) returns (λ c κs. search needs) returns-2 (λ c. search needs)
     (λ c κs. search needs) (λ c κs. search needs) bit-requires
-    word-of-requires (λ c. search needs) (λ c. search needs) (λ c κs. search needs)
+    word-of-requires (λ c. search needs) (λ c. search needs) same-requires
     (λ c κs. search needs) (λ c. search needs) (λ c κs. search needs) returns-3 (λ c κs. search needs) returns-4 bind-requires
-    (λ c. search needs) returns-5 (λ c κs. search needs) (λ c. search needs) (λ c. search needs) (λ c κs. search needs) returns-6
+    (λ c. search needs) returns-5 agree-requires (λ c. search needs) (λ c. search needs) (λ c κs. search needs) returns-6
     (λ c κs. search needs) (λ c. search needs) returns-7 (λ c. search needs) (λ c κs. search needs) returns-8
     (λ c. search needs) (λ c. search needs) in-place-requires (λ c κs. search needs) (λ c. search needs) returns-9
     (λ c κs. search needs) returns-10)

@@ -7,11 +7,11 @@ use Rattle.leaves.proofs.reading.agree.Tie as tie
 
 returns : tie.Need-returns
 unfolding agreeing
-returns c = rw (← (c .before .before .entry .ensures), ← (c .before .word .ensures), ne-eqb _ _ (c .if1 .taken))
+returns c = rw (← (c .before .before .entry .ensures), ← (c .before .node-word .ensures), ne-eqb _ _ (c .if1 .taken))
 
 returns-2 : tie.Need-returns-2
 unfolding agreeing
-returns-2 c = rw (← (c .before .before .before .before .entry .ensures), ← (c .before .before .before .word .ensures), ← (c .before .operands .ensures), ← (c .count .ensures), eq-eqb _ _ (c .before .before .if1 .left))
+returns-2 c = rw (← (c .before .before .before .before .entry .ensures), ← (c .before .before .before .node-word .ensures), ← (c .before .operands .ensures), ← (c .count .ensures), eq-eqb _ _ (c .before .before .if1 .left))
 
 pub agree-spec : {M : Type 1} → statement M
 agree-spec =

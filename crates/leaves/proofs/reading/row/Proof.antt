@@ -1,4 +1,4 @@
--- `reading::row` meets its contract: each word is what `word` ensures. Assumes nothing.
+-- `reading::row` meets its contract: each word is what `node_word` ensures. Assumes nothing.
 use borrow.Author.Needs.{needs}
 use Rattle.leaves.proofs.reading.row.Statement.{statement}
 use Rattle.leaves.proofs.reading.row.Tie as tie

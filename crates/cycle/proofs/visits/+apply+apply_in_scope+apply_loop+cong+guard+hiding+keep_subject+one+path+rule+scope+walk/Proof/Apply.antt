@@ -1,6 +1,7 @@
 -- One visit: ALL by the child walker, or at once where there is no child; every other kind by the apply-loop of the loop.
 use Rattle.cycle.proofs.Looping.{first-turn, ends-units, ends-nesting, ready-same, all-itself, two-kinds, whole, pos}
 use Rattle.cycle.proofs.Returning.{renamed}
+use Rattle.cycle.proofs.Rowing.{ready-stored}
 use Rattle.cycle.proofs.Ruling.{ruled-all}
 use Prim.Native.Nat.{ℕ, _<_, _≤_, _-_, _+_}
 use mathlib.Core.Path.{_≡_, refl, sym, ap, _∙_}
@@ -27,6 +28,9 @@ apply-returns-2 t c = ends-units (first-turn _ (c .before .before .before .befor
 
 pub apply-returns-3 : (t : ℕ) → apply-lts.Need-returns-3 (apply-calls t) (apply-at t) apply.Post
 apply-returns-3 t c = ends-nesting (first-turn _ (c .before .before .before .before .before .before .pre .1) (c .before .before .before .before .before .before .fits .given .fits)) _ (c .no-nesting .ensures) (c .before .before .if2 .left) (c .before .if3 .taken)
+
+pub apply-count-requires : (t : ℕ) → apply-lts.Need-count-requires (apply-calls t) (apply-at t) apply.Post
+apply-count-requires t c κs = ready-stored (c .before .before .before .before .before .before .pre .1)
 
 pub apply-sub-result : (t : ℕ) → apply-lts.Need-sub-result (apply-calls t) (apply-at t) apply.Post
 apply-sub-result t c = omega (arith, pos _ (c .before .before .before .before .if2 .left))
@@ -74,5 +78,5 @@ apply-closed t =
     apply-lts.spec (apply-calls t) (apply-at t) apply.Post
     (apply-kind-requires t) (apply-apply-loop-requires t) (apply-same-length t) (apply-returns t) (λ c. search needs)
     (λ c κs. search needs) (apply-returns-2 t) (λ c κs. search needs) (apply-returns-3 t) (λ c. search needs)
-    (λ c κs. search needs) (apply-sub-result t) (λ c. search needs) (apply-returns-4 t) (apply-sub-walk t)
+    (apply-count-requires t) (apply-sub-result t) (λ c. search needs) (apply-returns-4 t) (apply-sub-walk t)
     (apply-sub-walk-2 t) (apply-walk-requires t) (apply-same-length-3 t) (apply-returns-5 t)

@@ -1,5 +1,6 @@
 use Rattle.leaves.proofs.Patterns.{operand-below}
-use Rattle.cycle.proofs.Looping.{no-scope, Turn, first-turn, ends-units, ends-nesting, ready-next, ready-same, seq-returns, seq-turn, left-returns, left-turn, skip-turn, within, rec-turn, of-two, last-kind, five-up, whole, pos}
+use Rattle.cycle.proofs.Looping.{same-node, no-scope, Turn, first-turn, ends-units, ends-nesting, ready-next, ready-same, seq-returns, seq-turn, left-returns, left-turn, skip-turn, within, rec-turn, of-two, last-kind, five-up, whole, pos}
+use Rattle.cycle.proofs.Rowing.{ready-stored}
 use mathlib.Core.Logic.{inl, inr, ⊎-elim}
 use Rattle.leaves.proofs.Keeping.{node-small}
 use Prim.Native.Nat.{ℕ, _<_, _≤_, _-_, _+_}
@@ -139,7 +140,7 @@ apply-loop-visits-to-failure-requires t c κs =
     let at-match = at-if3 .before in
     let at-kind = at-match .before in
     let at-loop = at-kind .before .before .before in
-    ((at-loop .loop .inv) .ready .hints, (at-loop .loop .inv) .ready .inside, operand-below _ ((at-loop .loop .inv) .ready .entries) _ 2 ((at-loop .loop .inv) .ready .inside) (no-scope (of-two _ _ 5 (at-kind .kind .ensures) (five-up _ (at-match .match .rest .0 .0 .1) (at-if3 .if3 .left)) (at-if4 .if4 .taken)) (omega arith) (omega arith)) (omega arith), (of-two _ _ 5 (at-kind .kind .ensures) (five-up _ (at-match .match .rest .0 .0 .1) (at-if3 .if3 .left)) (at-if4 .if4 .taken)))
+    ((at-loop .loop .inv) .ready .hints, (at-loop .loop .inv) .ready .inside, operand-below _ ((at-loop .loop .inv) .ready .entries) _ 2 ((at-loop .loop .inv) .ready .inside) (no-scope (of-two _ _ 5 (at-kind .kind .ensures) (five-up _ (at-match .match .rest .0 .0 .1) (at-if3 .if3 .left)) (at-if4 .if4 .taken)) (omega arith) (omega arith)) (omega arith), (of-two _ _ 5 (at-kind .kind .ensures) (five-up _ (at-match .match .rest .0 .0 .1) (at-if3 .if3 .left)) (at-if4 .if4 .taken)), rw (same-node _ (c .before .before .before .before .before .before .before .if1 .left)) (ready-stored ((at-loop .loop .inv) .ready)))
 
 pub apply-loop-entry-requires-4 : (t : ℕ) → apply-loop-lts.Need-entry-requires-4 (apply-loop-calls t) (apply-loop-at t) apply-loop.Post apply-loop-Inv-loop apply-loop-μ-loop
 apply-loop-entry-requires-4 t c κs = ((c .before .before .before .before .before .before .before .before .before .before .loop .inv) .ready .inside, omega arith)

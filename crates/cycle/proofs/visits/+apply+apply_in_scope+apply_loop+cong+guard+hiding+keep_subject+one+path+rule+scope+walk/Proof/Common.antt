@@ -50,6 +50,7 @@ use Rattle.leaves.proofs.reading.agree.Reads as agree-reads
 use Rattle.leaves.proofs.reading.count.Reads as count-reads
 use Rattle.leaves.proofs.reading.entry.Reads as entry-reads
 use Rattle.leaves.proofs.reading.kind.Reads as kind-reads
+use Rattle.leaves.proofs.reading.node_word.Reads as node-word-reads
 use Rattle.leaves.proofs.reading.row.Reads as row-reads
 use Rattle.leaves.proofs.reading.scope_mask.Reads as scope-mask-reads
 use Rattle.leaves.proofs.record.bound_in.Reads as bound-in-reads
@@ -67,7 +68,6 @@ use Rattle.cycle.proofs.visits.visits_ahead.Reads as visits-ahead-reads
 use Rattle.cycle.proofs.visits.operand.Reads as operand-reads
 use Rattle.cycle.proofs.visits.saved_mark.Reads as saved-mark-reads
 use Rattle.cycle.proofs.visits.saved_mask.Reads as saved-mask-reads
-use Rattle.words.proofs.word.Reads as word-reads
 
 abbrev pub μ-apply : Measures 3 apply-kinds.ps ℕ
 μ-apply κs a = 5 * a .1 .1 .1 .1 .1 .0 + 1
@@ -178,7 +178,7 @@ abbrev pub walk-below : ℕ → In 3 walk-kinds.ps
 walk-below t = and 3 walk-kinds.ps (falls 3 walk-kinds.ps _<_ μ-walk t) walk.Pre
 
 abbrev pub walk-calls : ℕ → walk-lts.Claims
-walk-calls t = (kind-reads.Asked, kind-reads.Learnt, count-reads.Asked, count-reads.Learnt, word-reads.Asked, word-reads.Learnt, visits-ahead-reads.Asked, visits-ahead-reads.Learnt, entry-ahead-reads.Asked, entry-ahead-reads.Learnt, no-units-reads.Asked, no-units-reads.Learnt, saved-mark-reads.Asked, saved-mark-reads.Learnt, saved-mask-reads.Asked, saved-mask-reads.Learnt, operand-reads.Asked, operand-reads.Learnt, done-reads.Asked, done-reads.Learnt, apply-below t, apply.Post, attempt-of-reads.Asked, attempt-of-reads.Learnt, restore-reads.Asked, restore-reads.Learnt, child-at-reads.Asked, child-at-reads.Learnt, others-at-reads.Asked, others-at-reads.Learnt, finish-reads.Asked, finish-reads.Learnt)
+walk-calls t = (kind-reads.Asked, kind-reads.Learnt, count-reads.Asked, count-reads.Learnt, node-word-reads.Asked, node-word-reads.Learnt, visits-ahead-reads.Asked, visits-ahead-reads.Learnt, entry-ahead-reads.Asked, entry-ahead-reads.Learnt, no-units-reads.Asked, no-units-reads.Learnt, saved-mark-reads.Asked, saved-mark-reads.Learnt, saved-mask-reads.Asked, saved-mask-reads.Learnt, operand-reads.Asked, operand-reads.Learnt, done-reads.Asked, done-reads.Learnt, apply-below t, apply.Post, attempt-of-reads.Asked, attempt-of-reads.Learnt, restore-reads.Asked, restore-reads.Learnt, child-at-reads.Asked, child-at-reads.Learnt, others-at-reads.Asked, others-at-reads.Learnt, finish-reads.Asked, finish-reads.Learnt)
 
 abbrev pub scope-calls : ℕ → scope-lts.Claims
 scope-calls t = (scope-mask-reads.Asked, scope-mask-reads.Learnt, bound-in-reads.Asked, bound-in-reads.Learnt, hiding-below t, hiding.Post, entry-reads.Asked, entry-reads.Learnt, apply-in-scope-below t, apply-in-scope.Post, unbind-reads.Asked, unbind-reads.Learnt)
@@ -187,10 +187,10 @@ abbrev pub rule-calls : ℕ → rule-lts.Claims
 rule-calls t = (kind-reads.Asked, kind-reads.Learnt, path-below t, path.Post, walk-below t, walk.Post, entry-reads.Asked, entry-reads.Learnt, match-node-reads.Asked, match-node-reads.Learnt, build-reads.Asked, build-reads.Learnt, scope-below t, scope.Post, keep-subject-below t, keep-subject.Post, guard-below t, guard.Post, failure-reads.Asked, failure-reads.Learnt)
 
 abbrev pub path-calls : ℕ → path-lts.Claims
-path-calls t = (entry-reads.Asked, entry-reads.Learnt, failure-reads.Asked, failure-reads.Learnt, count-reads.Asked, count-reads.Learnt, word-reads.Asked, word-reads.Learnt, done-reads.Asked, done-reads.Learnt, apply-below t, apply.Post, answer-of-reads.Asked, answer-of-reads.Learnt, row-reads.Asked, row-reads.Learnt, node-reads.Asked, node-reads.Learnt)
+path-calls t = (entry-reads.Asked, entry-reads.Learnt, failure-reads.Asked, failure-reads.Learnt, count-reads.Asked, count-reads.Learnt, node-word-reads.Asked, node-word-reads.Learnt, done-reads.Asked, done-reads.Learnt, apply-below t, apply.Post, answer-of-reads.Asked, answer-of-reads.Learnt, row-reads.Asked, row-reads.Learnt, node-reads.Asked, node-reads.Learnt)
 
 abbrev pub one-calls : ℕ → one-lts.Claims
-one-calls t = (count-reads.Asked, count-reads.Learnt, mask-of-reads.Asked, mask-of-reads.Learnt, visits-ahead-reads.Asked, visits-ahead-reads.Learnt, entry-ahead-reads.Asked, entry-ahead-reads.Learnt, no-units-reads.Asked, no-units-reads.Learnt, word-reads.Asked, word-reads.Learnt, done-reads.Asked, done-reads.Learnt, apply-loop-below t, apply-loop.Post, attempt-of-reads.Asked, attempt-of-reads.Learnt, row-reads.Asked, row-reads.Learnt, node-reads.Asked, node-reads.Learnt, restore-reads.Asked, restore-reads.Learnt, failure-reads.Asked, failure-reads.Learnt)
+one-calls t = (count-reads.Asked, count-reads.Learnt, mask-of-reads.Asked, mask-of-reads.Learnt, visits-ahead-reads.Asked, visits-ahead-reads.Learnt, entry-ahead-reads.Asked, entry-ahead-reads.Learnt, no-units-reads.Asked, no-units-reads.Learnt, node-word-reads.Asked, node-word-reads.Learnt, done-reads.Asked, done-reads.Learnt, apply-loop-below t, apply-loop.Post, attempt-of-reads.Asked, attempt-of-reads.Learnt, row-reads.Asked, row-reads.Learnt, node-reads.Asked, node-reads.Learnt, restore-reads.Asked, restore-reads.Learnt, failure-reads.Asked, failure-reads.Learnt)
 
 abbrev pub hiding-calls : ℕ → hiding-lts.Claims
 hiding-calls t = (scope-mask-reads.Asked, scope-mask-reads.Learnt, bound-in-reads.Asked, bound-in-reads.Learnt, kept-words-reads.Asked, kept-words-reads.Learnt, unbind-reads.Asked, unbind-reads.Learnt, entry-reads.Asked, entry-reads.Learnt, apply-in-scope-below t, apply-in-scope.Post, put-back-reads.Asked, put-back-reads.Learnt)

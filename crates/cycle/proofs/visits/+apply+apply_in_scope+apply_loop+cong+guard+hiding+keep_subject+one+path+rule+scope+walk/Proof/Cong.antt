@@ -1,5 +1,6 @@
 -- CONG: a failure where constructor or count do not agree, else the child walker's answer.
 use Rattle.cycle.proofs.Agreeing.{cong-counted, gives-cong-failed, gives-cong}
+use Rattle.cycle.proofs.Rowing.{ready-stored}
 use Prim.Native.Nat.{ℕ}
 use borrow.Author.Needs.{needs}
 use native.Mathlib.Omega.{arith}
@@ -8,7 +9,7 @@ use Rattle.cycle.proofs.visits.+apply+apply_in_scope+apply_loop+cong+gu
 use Rattle.cycle.proofs.visits.+apply+apply_in_scope+apply_loop+cong+guard+hiding+keep_subject+one+path+rule+scope+walk.Proof.Common.{cong-at, cong-calls}
 
 pub cong-agree-requires : (t : ℕ) → cong-lts.Need-agree-requires (cong-calls t) (cong-at t) cong.Post
-cong-agree-requires t c κs = (c .before .before .pre .1 .0) .inside
+cong-agree-requires t c κs = let r = c .before .before .pre .1 .0 in (r .inside, ready-stored r)
 
 pub cong-returns : (t : ℕ) → cong-lts.Need-returns (cong-calls t) (cong-at t) cong.Post
 cong-returns t c = gives-cong-failed _ (c .before .before .before .before .before .pre .1 .0) (c .before .before .before .before .before .pre .1 .1) (c .before .before .agree .ensures) (c .before .if1 .taken) (c .failure .ensures)
