@@ -156,6 +156,10 @@ fn apply_loop(
                 return cong(table, store, st, e, s, d);
             }
             ONE => {
+                // Looked at here, so that a term without children takes no call.
+                if count(store, (s / HALF) as u32) == 0 {
+                    return failure((s % HALF) as u32);
+                }
                 return one(table, store, st, e, s, d);
             }
             _ => {

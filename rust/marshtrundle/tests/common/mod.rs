@@ -48,6 +48,15 @@ fn wrapped(count: usize, wrap: impl Fn(Strategy) -> Strategy, core: Strategy) ->
     (0..count).fold(core, |s, _| wrap(s))
 }
 
+/// The two mixes that take most: a SCOPE inside another form takes a frame of the loop, which one inside a SCOPE does not.
+fn cong_of_scope(s: Strategy) -> Strategy {
+    cong(7, [scope([VARS[0]], s)])
+}
+
+fn some_of_scope(s: Strategy) -> Strategy {
+    some(scope([VARS[0]], s))
+}
+
 fn nested(count: usize, wide: bool, core: Pattern) -> Pattern {
     (0..count).fold(core, |p, _| {
         if wide {
@@ -210,6 +219,18 @@ pub fn fitting(number: usize) -> Option<Deep> {
             &match_(nested_first(4_093, var(x))),
             Answer::Done,
         )),
+        7 => Some(deep(
+            "CONG and SCOPE in turn",
+            &wrapped(2_047, cong_of_scope, id()),
+            false,
+            Answer::Done,
+        )),
+        8 => Some(deep(
+            "SOME and SCOPE in turn",
+            &wrapped(2_047, some_of_scope, id()),
+            false,
+            Answer::Done,
+        )),
         other => rest
             .get(other)
             .map(|(name, s)| deep(name, s, name.contains("six"), Answer::Done)),
@@ -258,6 +279,22 @@ pub fn too_deep(number: usize) -> Option<Deep> {
                 &rec(|again| left(match_(pattern), again)),
                 Answer::TooDeep,
             ));
+        }
+        9 => {
+            return Some(deep(
+                "CONG and SCOPE in turn",
+                &rec(|again| wrapped(2_045, cong_of_scope, again)),
+                false,
+                Answer::TooDeep,
+            ))
+        }
+        10 => {
+            return Some(deep(
+                "SOME and SCOPE in turn",
+                &rec(|again| wrapped(2_045, some_of_scope, again)),
+                false,
+                Answer::TooDeep,
+            ))
         }
         _ => return None,
     };

@@ -1,6 +1,7 @@
 use Rattle.leaves.proofs.Patterns.{operand-below}
 use Rattle.cycle.proofs.Looping.{same-node, no-scope, Turn, first-turn, ends-units, ends-nesting, ready-next, ready-same, seq-returns, seq-turn, left-returns, left-turn, skip-turn, within, rec-turn, of-two, last-kind, five-up, whole, pos}
 use Rattle.cycle.proofs.Rowing.{ready-stored}
+use Rattle.cycle.proofs.Descending.{one-begins, gives-one-none}
 use mathlib.Core.Logic.{inl, inr, ⊎-elim}
 use Rattle.leaves.proofs.Keeping.{node-small}
 use Prim.Native.Nat.{ℕ, _<_, _≤_, _-_, _+_}
@@ -109,38 +110,40 @@ apply-loop-returns-4 t c =
     let at-loop = at-if1 .before in
     whole (at-loop .loop .inv) (at-if1 .if1 .left) (at-if2 .if2 .left) (at-cong .cong .ensures)
 
-pub apply-loop-one-requires : (t : ℕ) → apply-loop-lts.Need-one-requires (apply-loop-calls t) (apply-loop-at t) apply-loop.Post apply-loop-Inv-loop apply-loop-μ-loop
-apply-loop-one-requires t c κs =
-    let at-match = c .before .before in
-    let at-kind = at-match .before in
-    let at-if2 = at-kind .before in
-    let at-if1 = at-if2 .before in
-    let at-loop = at-if1 .before in
-    let start = at-loop .before .before in
-    (omega (arith, (at-loop .loop .inv) .deeper, pos _ (at-if2 .if2 .left), start .pre .0), (ready-same (at-loop .loop .inv) (at-if1 .if1 .left) (at-if2 .if2 .left), sym (at-kind .kind .ensures) ∙ at-match .match .keys3))
+pub apply-loop-count-requires : (t : ℕ) → apply-loop-lts.Need-count-requires (apply-loop-calls t) (apply-loop-at t) apply-loop.Post apply-loop-Inv-loop apply-loop-μ-loop
+apply-loop-count-requires t c κs = rw (same-node _ (c .before .before .before .before .if1 .left)) (ready-stored (c .before .before .before .before .before .loop .inv .ready))
 
 pub apply-loop-same-length-5 : (t : ℕ) → apply-loop-lts.Need-same-length-5 (apply-loop-calls t) (apply-loop-at t) apply-loop.Post apply-loop-Inv-loop apply-loop-μ-loop
-apply-loop-same-length-5 t c = c .before .before .one .kept .1 .0 ∙ (c .before .before .before .before .before .before .before .before .before .loop .inv) .long
+apply-loop-same-length-5 t c = (c .before .before .before .before .before .before .before .before .loop .inv) .long
 
 pub apply-loop-returns-5 : (t : ℕ) → apply-loop-lts.Need-returns-5 (apply-loop-calls t) (apply-loop-at t) apply-loop.Post apply-loop-Inv-loop apply-loop-μ-loop
 apply-loop-returns-5 t c =
-    let at-one = c .before .before in
-    let at-if2 = at-one .before .before .before .before .before in
-    let at-if1 = at-if2 .before in
-    let at-loop = at-if1 .before in
-    whole (at-loop .loop .inv) (at-if1 .if1 .left) (at-if2 .if2 .left) (at-one .one .ensures)
+    let l = c .before .before .before .before .before .before .before .before .loop .inv in
+    let r = ready-same l (c .before .before .before .before .before .before .before .if1 .left) (c .before .before .before .before .before .before .if2 .left) in
+    whole l (c .before .before .before .before .before .before .before .if1 .left) (c .before .before .before .before .before .before .if2 .left) (gives-one-none _ r (one-begins _ r (sym (c .before .before .before .before .before .kind .ensures) ∙ c .before .before .before .before .match .keys3) (c .before .before .count .ensures)) (omega (arith, c .before .if3 .taken)) (c .failure .ensures))
+
+pub apply-loop-one-requires : (t : ℕ) → apply-loop-lts.Need-one-requires (apply-loop-calls t) (apply-loop-at t) apply-loop.Post apply-loop-Inv-loop apply-loop-μ-loop
+apply-loop-one-requires t c κs =
+    let l = c .before .before .before .before .before .before .before .before .before .loop .inv in
+    (omega (arith, l .deeper, pos _ (c .before .before .before .before .before .before .before .if2 .left), c .before .before .before .before .before .before .before .before .before .before .before .pre .0), (ready-same l (c .before .before .before .before .before .before .before .before .if1 .left) (c .before .before .before .before .before .before .before .if2 .left), sym (c .before .before .before .before .before .before .kind .ensures) ∙ c .before .before .before .before .before .match .keys3))
+
+pub apply-loop-same-length-6 : (t : ℕ) → apply-loop-lts.Need-same-length-6 (apply-loop-calls t) (apply-loop-at t) apply-loop.Post apply-loop-Inv-loop apply-loop-μ-loop
+apply-loop-same-length-6 t c = c .before .before .one .kept .1 .0 ∙ (c .before .before .before .before .before .before .before .before .before .before .before .before .loop .inv) .long
+
+pub apply-loop-returns-6 : (t : ℕ) → apply-loop-lts.Need-returns-6 (apply-loop-calls t) (apply-loop-at t) apply-loop.Post apply-loop-Inv-loop apply-loop-μ-loop
+apply-loop-returns-6 t c = whole (c .before .before .before .before .before .before .before .before .before .before .before .before .loop .inv) (c .before .before .before .before .before .before .before .before .before .before .before .if1 .left) (c .before .before .before .before .before .before .before .before .before .before .if2 .left) (c .before .before .one .ensures)
 
 pub apply-loop-entry-requires-3 : (t : ℕ) → apply-loop-lts.Need-entry-requires-3 (apply-loop-calls t) (apply-loop-at t) apply-loop.Post apply-loop-Inv-loop apply-loop-μ-loop
 apply-loop-entry-requires-3 t c κs = ((c .before .before .before .before .before .before .loop .inv) .ready .inside, omega arith)
 
 pub apply-loop-visits-to-failure-requires : (t : ℕ) → apply-loop-lts.Need-visits-to-failure-requires (apply-loop-calls t) (apply-loop-at t) apply-loop.Post apply-loop-Inv-loop apply-loop-μ-loop
 apply-loop-visits-to-failure-requires t c κs =
-    let at-if4 = c .before .before in
-    let at-if3 = at-if4 .before in
-    let at-match = at-if3 .before in
+    let at-if5 = c .before .before in
+    let at-if4 = at-if5 .before in
+    let at-match = at-if4 .before in
     let at-kind = at-match .before in
     let at-loop = at-kind .before .before .before in
-    ((at-loop .loop .inv) .ready .hints, (at-loop .loop .inv) .ready .inside, operand-below _ ((at-loop .loop .inv) .ready .entries) _ 2 ((at-loop .loop .inv) .ready .inside) (no-scope (of-two _ _ 5 (at-kind .kind .ensures) (five-up _ (at-match .match .rest .0 .0 .1) (at-if3 .if3 .left)) (at-if4 .if4 .taken)) (omega arith) (omega arith)) (omega arith), (of-two _ _ 5 (at-kind .kind .ensures) (five-up _ (at-match .match .rest .0 .0 .1) (at-if3 .if3 .left)) (at-if4 .if4 .taken)), rw (same-node _ (c .before .before .before .before .before .before .before .if1 .left)) (ready-stored ((at-loop .loop .inv) .ready)))
+    ((at-loop .loop .inv) .ready .hints, (at-loop .loop .inv) .ready .inside, operand-below _ ((at-loop .loop .inv) .ready .entries) _ 2 ((at-loop .loop .inv) .ready .inside) (no-scope (of-two _ _ 5 (at-kind .kind .ensures) (five-up _ (at-match .match .rest .0 .0 .1) (at-if4 .if4 .left)) (at-if5 .if5 .taken)) (omega arith) (omega arith)) (omega arith), (of-two _ _ 5 (at-kind .kind .ensures) (five-up _ (at-match .match .rest .0 .0 .1) (at-if4 .if4 .left)) (at-if5 .if5 .taken)), rw (same-node _ (c .before .before .before .before .before .before .before .if1 .left)) (ready-stored ((at-loop .loop .inv) .ready)))
 
 pub apply-loop-entry-requires-4 : (t : ℕ) → apply-loop-lts.Need-entry-requires-4 (apply-loop-calls t) (apply-loop-at t) apply-loop.Post apply-loop-Inv-loop apply-loop-μ-loop
 apply-loop-entry-requires-4 t c κs = ((c .before .before .before .before .before .before .before .before .before .before .loop .inv) .ready .inside, omega arith)
@@ -157,46 +160,46 @@ apply-loop-loop-less-2 t c = omega (arith, pos _ (c .before .before .before .bef
 pub apply-loop-loop-again-2 : (t : ℕ) → apply-loop-lts.Need-loop-again-2 (apply-loop-calls t) (apply-loop-at t) apply-loop.Post apply-loop-Inv-loop apply-loop-μ-loop
 apply-loop-loop-again-2 t c =
     let at-entry4 = c .before in
-    let at-if5 = at-entry4 .before in
-    let at-visits-to-failure = at-if5 .before in
-    let at-if4 = at-visits-to-failure .before .before .before in
-    let at-if3 = at-if4 .before in
-    let at-match = at-if3 .before in
+    let at-if6 = at-entry4 .before in
+    let at-visits-to-failure = at-if6 .before in
+    let at-if5 = at-visits-to-failure .before .before .before in
+    let at-if4 = at-if5 .before in
+    let at-match = at-if4 .before in
     let at-kind = at-match .before in
     let at-if2 = at-kind .before in
     let at-if1 = at-if2 .before in
     let at-loop = at-if1 .before in
-    skip-turn (at-loop .loop .inv) (at-if1 .if1 .left) (at-if2 .if2 .left) refl (at-visits-to-failure .visits-to-failure .ensures) (at-if5 .if5 .taken) (of-two _ _ 5 (at-kind .kind .ensures) (five-up _ (at-match .match .rest .0 .0 .1) (at-if3 .if3 .left)) (at-if4 .if4 .taken)) (at-entry4 .entry4 .ensures) (c .entry5 .ensures)
+    skip-turn (at-loop .loop .inv) (at-if1 .if1 .left) (at-if2 .if2 .left) refl (at-visits-to-failure .visits-to-failure .ensures) (at-if6 .if6 .taken) (of-two _ _ 5 (at-kind .kind .ensures) (five-up _ (at-match .match .rest .0 .0 .1) (at-if4 .if4 .left)) (at-if5 .if5 .taken)) (at-entry4 .entry4 .ensures) (c .entry5 .ensures)
 
 pub apply-loop-apply-loop-requires : (t : ℕ) → apply-loop-lts.Need-apply-loop-requires (apply-loop-calls t) (apply-loop-at t) apply-loop.Post apply-loop-Inv-loop apply-loop-μ-loop
 apply-loop-apply-loop-requires t c κs =
     let at-entry3 = c .before .before .before .before .before .before .before .before in
-    let at-if4 = at-entry3 .before in
-    let at-if3 = at-if4 .before in
-    let at-match = at-if3 .before in
+    let at-if5 = at-entry3 .before in
+    let at-if4 = at-if5 .before in
+    let at-match = at-if4 .before in
     let at-kind = at-match .before in
     let at-if2 = at-kind .before in
     let at-if1 = at-if2 .before in
     let at-loop = at-if1 .before in
     let start = at-loop .before .before in
-    (omega (arith, (at-loop .loop .inv) .deeper, pos _ (at-if2 .if2 .left), start .pre .0), ready-next (at-loop .loop .inv) (at-if1 .if1 .left) (at-if2 .if2 .left) (no-scope (of-two _ _ 5 (at-kind .kind .ensures) (five-up _ (at-match .match .rest .0 .0 .1) (at-if3 .if3 .left)) (at-if4 .if4 .taken)) (omega arith) (omega arith)) 0 _ (omega arith) (at-entry3 .entry3 .ensures))
+    (omega (arith, (at-loop .loop .inv) .deeper, pos _ (at-if2 .if2 .left), start .pre .0), ready-next (at-loop .loop .inv) (at-if1 .if1 .left) (at-if2 .if2 .left) (no-scope (of-two _ _ 5 (at-kind .kind .ensures) (five-up _ (at-match .match .rest .0 .0 .1) (at-if4 .if4 .left)) (at-if5 .if5 .taken)) (omega arith) (omega arith)) 0 _ (omega arith) (at-entry3 .entry3 .ensures))
 
-pub apply-loop-same-length-6 : (t : ℕ) → apply-loop-lts.Need-same-length-6 (apply-loop-calls t) (apply-loop-at t) apply-loop.Post apply-loop-Inv-loop apply-loop-μ-loop
-apply-loop-same-length-6 t c = c .before .before .before .before .apply-loop .kept .1 .0 ∙ (c .before .before .before .before .before .before .before .before .before .before .before .before .before .before .before .before .before .before .before .before .loop .inv) .long
+pub apply-loop-same-length-7 : (t : ℕ) → apply-loop-lts.Need-same-length-7 (apply-loop-calls t) (apply-loop-at t) apply-loop.Post apply-loop-Inv-loop apply-loop-μ-loop
+apply-loop-same-length-7 t c = c .before .before .before .before .apply-loop .kept .1 .0 ∙ (c .before .before .before .before .before .before .before .before .before .before .before .before .before .before .before .before .before .before .before .before .loop .inv) .long
 
-pub apply-loop-returns-6 : (t : ℕ) → apply-loop-lts.Need-returns-6 (apply-loop-calls t) (apply-loop-at t) apply-loop.Post apply-loop-Inv-loop apply-loop-μ-loop
-apply-loop-returns-6 t c =
+pub apply-loop-returns-7 : (t : ℕ) → apply-loop-lts.Need-returns-7 (apply-loop-calls t) (apply-loop-at t) apply-loop.Post apply-loop-Inv-loop apply-loop-μ-loop
+apply-loop-returns-7 t c =
     let at-answer-of2 = c .before in
     let at-apply-loop = at-answer-of2 .before .before .before in
     let at-entry3 = at-apply-loop .before .before .before .before .before .before .before .before .before in
-    let at-if4 = at-entry3 .before in
-    let at-if3 = at-if4 .before in
-    let at-match = at-if3 .before in
+    let at-if5 = at-entry3 .before in
+    let at-if4 = at-if5 .before in
+    let at-match = at-if4 .before in
     let at-kind = at-match .before in
     let at-if2 = at-kind .before in
     let at-if1 = at-if2 .before in
     let at-loop = at-if1 .before in
-    left-returns (at-loop .loop .inv) (at-if1 .if1 .left) (at-if2 .if2 .left) (at-entry3 .entry3 .ensures) (at-apply-loop .apply-loop .ensures) (at-answer-of2 .answer-of2 .ensures) (of-two _ _ 5 (at-kind .kind .ensures) (five-up _ (at-match .match .rest .0 .0 .1) (at-if3 .if3 .left)) (at-if4 .if4 .taken)) refl (c .match3 .keys2)
+    left-returns (at-loop .loop .inv) (at-if1 .if1 .left) (at-if2 .if2 .left) (at-entry3 .entry3 .ensures) (at-apply-loop .apply-loop .ensures) (at-answer-of2 .answer-of2 .ensures) (of-two _ _ 5 (at-kind .kind .ensures) (five-up _ (at-match .match .rest .0 .0 .1) (at-if4 .if4 .left)) (at-if5 .if5 .taken)) refl (c .match3 .keys2)
 
 pub apply-loop-cast-done : (t : ℕ) → apply-loop-lts.Need-cast-done (apply-loop-calls t) (apply-loop-at t) apply-loop.Post apply-loop-Inv-loop apply-loop-μ-loop
 apply-loop-cast-done t c =
@@ -219,14 +222,14 @@ apply-loop-loop-again-3 t c =
     let at-answer-of2 = at-rest .before .before in
     let at-apply-loop = at-answer-of2 .before .before .before in
     let at-entry3 = at-apply-loop .before .before .before .before .before .before .before .before .before in
-    let at-if4 = at-entry3 .before in
-    let at-if3 = at-if4 .before in
-    let at-match = at-if3 .before in
+    let at-if5 = at-entry3 .before in
+    let at-if4 = at-if5 .before in
+    let at-match = at-if4 .before in
     let at-kind = at-match .before in
     let at-if2 = at-kind .before in
     let at-if1 = at-if2 .before in
     let at-loop = at-if1 .before in
-    rw (at-restore .restore .ensures, at-apply-loop .before .before .before .mask-of .ensures) (left-turn (at-loop .loop .inv) (at-if1 .if1 .left) (at-if2 .if2 .left) (at-entry3 .entry3 .ensures) (at-apply-loop .apply-loop .ensures) (at-answer-of2 .answer-of2 .ensures) (of-two _ _ 5 (at-kind .kind .ensures) (five-up _ (at-match .match .rest .0 .0 .1) (at-if3 .if3 .left)) (at-if4 .if4 .taken)) (c .entry6 .ensures) (at-rest .rest .given .1) (at-done .done .ensures) (at-apply-loop .apply-loop .kept .1 .0))
+    rw (at-restore .restore .ensures, at-apply-loop .before .before .before .mask-of .ensures) (left-turn (at-loop .loop .inv) (at-if1 .if1 .left) (at-if2 .if2 .left) (at-entry3 .entry3 .ensures) (at-apply-loop .apply-loop .ensures) (at-answer-of2 .answer-of2 .ensures) (of-two _ _ 5 (at-kind .kind .ensures) (five-up _ (at-match .match .rest .0 .0 .1) (at-if4 .if4 .left)) (at-if5 .if5 .taken)) (c .entry6 .ensures) (at-rest .rest .given .1) (at-done .done .ensures) (at-apply-loop .apply-loop .kept .1 .0))
 
 pub apply-loop-entry-requires-7 : (t : ℕ) → apply-loop-lts.Need-entry-requires-7 (apply-loop-calls t) (apply-loop-at t) apply-loop.Post apply-loop-Inv-loop apply-loop-μ-loop
 apply-loop-entry-requires-7 t c κs = ((c .before .before .before .before .before .before .before .loop .inv) .ready .inside, omega arith)
@@ -236,30 +239,30 @@ apply-loop-loop-less-4 t c = omega (arith, pos _ (c .before .before .before .bef
 
 pub apply-loop-loop-again-4 : (t : ℕ) → apply-loop-lts.Need-loop-again-4 (apply-loop-calls t) (apply-loop-at t) apply-loop.Post apply-loop-Inv-loop apply-loop-μ-loop
 apply-loop-loop-again-4 t c =
-    let at-if6 = c .before in
-    let at-if4 = at-if6 .before in
-    let at-kind = at-if4 .before .before .before in
+    let at-if7 = c .before in
+    let at-if5 = at-if7 .before in
+    let at-kind = at-if5 .before .before .before in
     let at-if2 = at-kind .before in
     let at-if1 = at-if2 .before in
     let at-loop = at-if1 .before in
-    rec-turn (at-loop .loop .inv) (at-if1 .if1 .left) (at-if2 .if2 .left) _ (c .entry7 .ensures) (of-two _ _ 7 (at-kind .kind .ensures) (at-if4 .if4 .left) (at-if6 .if6 .taken))
+    rec-turn (at-loop .loop .inv) (at-if1 .if1 .left) (at-if2 .if2 .left) _ (c .entry7 .ensures) (of-two _ _ 7 (at-kind .kind .ensures) (at-if5 .if5 .left) (at-if7 .if7 .taken))
 
 pub apply-loop-rule-requires : (t : ℕ) → apply-loop-lts.Need-rule-requires (apply-loop-calls t) (apply-loop-at t) apply-loop.Post apply-loop-Inv-loop apply-loop-μ-loop
 apply-loop-rule-requires t c κs =
-    let at-if3 = c .before .before in
-    let at-match = at-if3 .before in
+    let at-if4 = c .before .before in
+    let at-match = at-if4 .before in
     let at-kind = at-match .before in
     let at-if2 = at-kind .before in
     let at-if1 = at-if2 .before in
     let at-loop = at-if1 .before in
     let start = at-loop .before .before in
-    (omega (arith, (at-loop .loop .inv) .deeper, pos _ (at-if2 .if2 .left), start .pre .0), (ready-same (at-loop .loop .inv) (at-if1 .if1 .left) (at-if2 .if2 .left), last-kind _ _ (at-kind .kind .ensures) (at-match .match .rest .0 .0 .1) (at-match .match .rest .0 .1) (at-match .match .rest .1) (⊎-elim (λ w. inl (w .taken)) (λ w. inr (w .2 .left)) (at-if3 .if3 .came))))
+    (omega (arith, (at-loop .loop .inv) .deeper, pos _ (at-if2 .if2 .left), start .pre .0), (ready-same (at-loop .loop .inv) (at-if1 .if1 .left) (at-if2 .if2 .left), last-kind _ _ (at-kind .kind .ensures) (at-match .match .rest .0 .0 .1) (at-match .match .rest .0 .1) (at-match .match .rest .1) (⊎-elim (λ w. inl (w .taken)) (λ w. inr (w .2 .left)) (at-if4 .if4 .came))))
 
-pub apply-loop-same-length-7 : (t : ℕ) → apply-loop-lts.Need-same-length-7 (apply-loop-calls t) (apply-loop-at t) apply-loop.Post apply-loop-Inv-loop apply-loop-μ-loop
-apply-loop-same-length-7 t c = c .before .before .rule .kept .1 .0 ∙ (c .before .before .before .before .before .before .before .before .before .before .loop .inv) .long
+pub apply-loop-same-length-8 : (t : ℕ) → apply-loop-lts.Need-same-length-8 (apply-loop-calls t) (apply-loop-at t) apply-loop.Post apply-loop-Inv-loop apply-loop-μ-loop
+apply-loop-same-length-8 t c = c .before .before .rule .kept .1 .0 ∙ (c .before .before .before .before .before .before .before .before .before .before .loop .inv) .long
 
-pub apply-loop-returns-7 : (t : ℕ) → apply-loop-lts.Need-returns-7 (apply-loop-calls t) (apply-loop-at t) apply-loop.Post apply-loop-Inv-loop apply-loop-μ-loop
-apply-loop-returns-7 t c =
+pub apply-loop-returns-8 : (t : ℕ) → apply-loop-lts.Need-returns-8 (apply-loop-calls t) (apply-loop-at t) apply-loop.Post apply-loop-Inv-loop apply-loop-μ-loop
+apply-loop-returns-8 t c =
     let at-rule = c .before .before in
     let at-if2 = at-rule .before .before .before .before .before .before in
     let at-if1 = at-if2 .before in
@@ -269,15 +272,19 @@ apply-loop-returns-7 t c =
 pub apply-loop-closed : {M : Type 1} (t : ℕ) → apply-loop-lts.Closed (apply-loop-calls t) (apply-loop-at t) apply-loop.Post M
 apply-loop-closed t =
     apply-loop-lts.spec (apply-loop-calls t) (apply-loop-at t) apply-loop.Post
-    apply-loop-Inv-loop apply-loop-μ-loop (apply-loop-loop-holds t) (λ c. search needs) (λ c κs. search needs) (apply-loop-same-length t)
-    (apply-loop-returns t) (λ c κs. search needs) (apply-loop-same-length-2 t) (apply-loop-returns-2 t) (apply-loop-sub-d t) (apply-loop-sub-s t)
-    (apply-loop-kind-requires t) (apply-loop-entry-requires t) (apply-loop-apply-requires t) (λ c κs. search needs) (λ c. search needs)
-    (apply-loop-same-length-3 t) (apply-loop-returns-3 t) (apply-loop-entry-requires-2 t) (apply-loop-loop-less t) (apply-loop-loop-again t)
-    (apply-loop-cong-requires t) (apply-loop-same-length-4 t) (apply-loop-returns-4 t) (apply-loop-one-requires t)
-    (apply-loop-same-length-5 t) (apply-loop-returns-5 t)
-    (apply-loop-entry-requires-3 t) (apply-loop-visits-to-failure-requires t) (apply-loop-entry-requires-4 t) (λ c. search needs) (λ c. search needs) (apply-loop-sub-s-2 t)
-    (apply-loop-entry-requires-5 t) (apply-loop-loop-less-2 t) (apply-loop-loop-again-2 t) (λ c. search needs) (λ c κs. search needs)
-    (apply-loop-apply-loop-requires t) (λ c κs. search needs) (λ c. search needs) (apply-loop-same-length-6 t) (apply-loop-returns-6 t)
-    (λ c κs. search needs) (apply-loop-cast-done t) (λ c κs. search needs) (apply-loop-entry-requires-6 t)
-    (apply-loop-loop-less-3 t) (apply-loop-loop-again-3 t) (apply-loop-entry-requires-7 t) (apply-loop-loop-less-4 t) (apply-loop-loop-again-4 t)
-    (apply-loop-rule-requires t) (apply-loop-same-length-7 t) (apply-loop-returns-7 t)
+    apply-loop-Inv-loop apply-loop-μ-loop (apply-loop-loop-holds t) (λ c. search needs) (λ c κs. search needs)
+    (apply-loop-same-length t) (apply-loop-returns t) (λ c κs. search needs) (apply-loop-same-length-2 t)
+    (apply-loop-returns-2 t) (apply-loop-sub-d t) (apply-loop-sub-s t) (apply-loop-kind-requires t)
+    (apply-loop-entry-requires t) (apply-loop-apply-requires t) (λ c κs. search needs) (λ c. search needs)
+    (apply-loop-same-length-3 t) (apply-loop-returns-3 t) (apply-loop-entry-requires-2 t) (apply-loop-loop-less t)
+    (apply-loop-loop-again t) (apply-loop-cong-requires t) (apply-loop-same-length-4 t) (apply-loop-returns-4 t)
+    (λ c. search needs) (apply-loop-count-requires t) (λ c. search needs) (λ c κs. search needs)
+    (apply-loop-same-length-5 t) (apply-loop-returns-5 t) (apply-loop-one-requires t) (apply-loop-same-length-6 t)
+    (apply-loop-returns-6 t) (apply-loop-entry-requires-3 t) (apply-loop-visits-to-failure-requires t)
+    (apply-loop-entry-requires-4 t) (λ c. search needs) (λ c. search needs) (apply-loop-sub-s-2 t)
+    (apply-loop-entry-requires-5 t) (apply-loop-loop-less-2 t) (apply-loop-loop-again-2 t) (λ c. search needs)
+    (λ c κs. search needs) (apply-loop-apply-loop-requires t) (λ c κs. search needs) (λ c. search needs)
+    (apply-loop-same-length-7 t) (apply-loop-returns-7 t) (λ c κs. search needs) (apply-loop-cast-done t)
+    (λ c κs. search needs) (apply-loop-entry-requires-6 t) (apply-loop-loop-less-3 t) (apply-loop-loop-again-3 t)
+    (apply-loop-entry-requires-7 t) (apply-loop-loop-less-4 t) (apply-loop-loop-again-4 t) (apply-loop-rule-requires t)
+    (apply-loop-same-length-8 t) (apply-loop-returns-8 t)

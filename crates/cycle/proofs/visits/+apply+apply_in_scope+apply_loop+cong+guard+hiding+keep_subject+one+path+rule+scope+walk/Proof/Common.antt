@@ -205,7 +205,7 @@ abbrev pub keep-subject-calls : ℕ → keep-subject-lts.Claims
 keep-subject-calls t = (entry-reads.Asked, entry-reads.Learnt, apply-below t, apply.Post, answer-of-reads.Asked, answer-of-reads.Learnt, done-reads.Asked, done-reads.Learnt)
 
 abbrev pub apply-loop-calls : ℕ → apply-loop-lts.Claims
-apply-loop-calls t = (no-units-reads.Asked, no-units-reads.Learnt, no-nesting-reads.Asked, no-nesting-reads.Learnt, kind-reads.Asked, kind-reads.Learnt, entry-reads.Asked, entry-reads.Learnt, apply-below t, apply.Post, answer-of-reads.Asked, answer-of-reads.Learnt, cong-below t, cong.Post, one-below t, one.Post, visits-to-failure-reads.Asked, visits-to-failure-reads.Learnt, mask-of-reads.Asked, mask-of-reads.Learnt, apply-loop-below t, apply-loop.Post, restore-reads.Asked, restore-reads.Learnt, done-reads.Asked, done-reads.Learnt, rule-below t, rule.Post)
+apply-loop-calls t = (no-units-reads.Asked, no-units-reads.Learnt, no-nesting-reads.Asked, no-nesting-reads.Learnt, kind-reads.Asked, kind-reads.Learnt, entry-reads.Asked, entry-reads.Learnt, apply-below t, apply.Post, answer-of-reads.Asked, answer-of-reads.Learnt, cong-below t, cong.Post, count-reads.Asked, count-reads.Learnt, failure-reads.Asked, failure-reads.Learnt, one-below t, one.Post, visits-to-failure-reads.Asked, visits-to-failure-reads.Learnt, mask-of-reads.Asked, mask-of-reads.Learnt, apply-loop-below t, apply-loop.Post, restore-reads.Asked, restore-reads.Learnt, done-reads.Asked, done-reads.Learnt, rule-below t, rule.Post)
 
 abbrev pub apply-calls : ℕ → apply-lts.Claims
 apply-calls t = (kind-reads.Asked, kind-reads.Learnt, apply-loop-below t, apply-loop.Post, no-units-reads.Asked, no-units-reads.Learnt, no-nesting-reads.Asked, no-nesting-reads.Learnt, count-reads.Asked, count-reads.Learnt, walk-below t, walk.Post)
