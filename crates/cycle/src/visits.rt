@@ -142,7 +142,7 @@ fn apply_loop(
                 }
                 let mark = st[MARK];
                 let mask = mask_of(st);
-                let got = apply_loop(table, store, st, first, s, d);
+                let got = apply_first(table, store, st, first, s, d);
                 let Answer::Failed(rest) = answer_of(got) else {
                     return got;
                 };
@@ -167,6 +167,32 @@ fn apply_loop(
             }
         }
     }
+}
+
+// One visit of CHOICE's or LEFT's first operand. A CONG is entered from here and not by the loop, so that an alternative that is a
+// CONG takes one call fewer, and none where constructor or count differ.
+fn apply_first(
+    table: &[u32; 32768],
+    store: &mut [u32],
+    st: &mut [u32; RECORD],
+    start: u32,
+    given: u64,
+    deep: u32,
+) -> u64
+    requires { ⌜ Ready (now table) (now store) (now st) start given ⌝ }
+    ensures { λ r. ⌜ Applied (now (table .entry)) (now (store .entry)) (now (st .entry)) start given deep r (now (st .exit)) (now (store .exit)) ⌝ }
+{
+    if kind(table, start) != CONG {
+        return apply_loop(table, store, st, start, given, deep);
+    }
+    let left = (given % HALF) as u32;
+    if left == 0 {
+        return no_units();
+    }
+    if deep == 0 {
+        return no_nesting(left);
+    }
+    cong(table, store, st, start, given - 1, deep - 1)
 }
 
 // The rule of a kind that the loop leaves: no operand is in a last position, and it is neither CONG nor ONE.

@@ -9,8 +9,8 @@ use mathlib.Core.Path.{_≡_, refl, sym, ap, _∙_}
 use borrow.Author.Needs.{needs}
 use native.Mathlib.Omega.{arith}
 use Rattle.cycle.proofs.visits.apply_loop.Reads as apply-loop
-use Rattle.cycle.proofs.visits.+apply+apply_in_scope+apply_loop+cong+guard+hiding+keep_subject+one+path+rule+scope+walk.Lts-apply_loop as apply-loop-lts
-use Rattle.cycle.proofs.visits.+apply+apply_in_scope+apply_loop+cong+guard+hiding+keep_subject+one+path+rule+scope+walk.Proof.Common.{apply-loop-at, apply-loop-calls}
+use Rattle.cycle.proofs.visits.+apply+apply_first+apply_in_scope+apply_loop+cong+guard+hiding+keep_subject+one+path+rule+scope+walk.Lts-apply_loop as apply-loop-lts
+use Rattle.cycle.proofs.visits.+apply+apply_first+apply_in_scope+apply_loop+cong+guard+hiding+keep_subject+one+path+rule+scope+walk.Proof.Common.{apply-loop-at, apply-loop-calls}
 
 abbrev pub apply-loop-Inv-loop : apply-loop-lts.InvT-loop
 apply-loop-Inv-loop table store₀ st₀ start given deep e₀ s₀ d₀ store st e s d = Turn table store₀ st₀ start given deep store st e s d
@@ -171,8 +171,8 @@ apply-loop-loop-again-2 t c =
     let at-loop = at-if1 .before in
     skip-turn (at-loop .loop .inv) (at-if1 .if1 .left) (at-if2 .if2 .left) refl (at-visits-to-failure .visits-to-failure .ensures) (at-if6 .if6 .taken) (of-two _ _ 5 (at-kind .kind .ensures) (five-up _ (at-match .match .rest .0 .0 .1) (at-if4 .if4 .left)) (at-if5 .if5 .taken)) (at-entry4 .entry4 .ensures) (c .entry5 .ensures)
 
-pub apply-loop-apply-loop-requires : (t : ℕ) → apply-loop-lts.Need-apply-loop-requires (apply-loop-calls t) (apply-loop-at t) apply-loop.Post apply-loop-Inv-loop apply-loop-μ-loop
-apply-loop-apply-loop-requires t c κs =
+pub apply-loop-apply-first-requires : (t : ℕ) → apply-loop-lts.Need-apply-first-requires (apply-loop-calls t) (apply-loop-at t) apply-loop.Post apply-loop-Inv-loop apply-loop-μ-loop
+apply-loop-apply-first-requires t c κs =
     let at-entry3 = c .before .before .before .before .before .before .before .before in
     let at-if5 = at-entry3 .before in
     let at-if4 = at-if5 .before in
@@ -185,13 +185,13 @@ apply-loop-apply-loop-requires t c κs =
     (omega (arith, (at-loop .loop .inv) .deeper, pos _ (at-if2 .if2 .left), start .pre .0), ready-next (at-loop .loop .inv) (at-if1 .if1 .left) (at-if2 .if2 .left) (no-scope (of-two _ _ 5 (at-kind .kind .ensures) (five-up _ (at-match .match .rest .0 .0 .1) (at-if4 .if4 .left)) (at-if5 .if5 .taken)) (omega arith) (omega arith)) 0 _ (omega arith) (at-entry3 .entry3 .ensures))
 
 pub apply-loop-same-length-7 : (t : ℕ) → apply-loop-lts.Need-same-length-7 (apply-loop-calls t) (apply-loop-at t) apply-loop.Post apply-loop-Inv-loop apply-loop-μ-loop
-apply-loop-same-length-7 t c = c .before .before .before .before .apply-loop .kept .1 .0 ∙ (c .before .before .before .before .before .before .before .before .before .before .before .before .before .before .before .before .before .before .before .before .loop .inv) .long
+apply-loop-same-length-7 t c = c .before .before .before .before .apply-first .kept .1 .0 ∙ (c .before .before .before .before .before .before .before .before .before .before .before .before .before .before .before .before .before .before .before .before .loop .inv) .long
 
 pub apply-loop-returns-7 : (t : ℕ) → apply-loop-lts.Need-returns-7 (apply-loop-calls t) (apply-loop-at t) apply-loop.Post apply-loop-Inv-loop apply-loop-μ-loop
 apply-loop-returns-7 t c =
     let at-answer-of2 = c .before in
-    let at-apply-loop = at-answer-of2 .before .before .before in
-    let at-entry3 = at-apply-loop .before .before .before .before .before .before .before .before .before in
+    let at-apply-first = at-answer-of2 .before .before .before in
+    let at-entry3 = at-apply-first .before .before .before .before .before .before .before .before .before in
     let at-if5 = at-entry3 .before in
     let at-if4 = at-if5 .before in
     let at-match = at-if4 .before in
@@ -199,7 +199,7 @@ apply-loop-returns-7 t c =
     let at-if2 = at-kind .before in
     let at-if1 = at-if2 .before in
     let at-loop = at-if1 .before in
-    left-returns (at-loop .loop .inv) (at-if1 .if1 .left) (at-if2 .if2 .left) (at-entry3 .entry3 .ensures) (at-apply-loop .apply-loop .ensures) (at-answer-of2 .answer-of2 .ensures) (of-two _ _ 5 (at-kind .kind .ensures) (five-up _ (at-match .match .rest .0 .0 .1) (at-if4 .if4 .left)) (at-if5 .if5 .taken)) refl (c .match3 .keys2)
+    left-returns (at-loop .loop .inv) (at-if1 .if1 .left) (at-if2 .if2 .left) (at-entry3 .entry3 .ensures) (at-apply-first .apply-first .ensures) (at-answer-of2 .answer-of2 .ensures) (of-two _ _ 5 (at-kind .kind .ensures) (five-up _ (at-match .match .rest .0 .0 .1) (at-if4 .if4 .left)) (at-if5 .if5 .taken)) refl (c .match3 .keys2)
 
 pub apply-loop-cast-done : (t : ℕ) → apply-loop-lts.Need-cast-done (apply-loop-calls t) (apply-loop-at t) apply-loop.Post apply-loop-Inv-loop apply-loop-μ-loop
 apply-loop-cast-done t c =
@@ -220,8 +220,8 @@ apply-loop-loop-again-3 t c =
     let at-restore = at-done .before in
     let at-rest = at-restore .before .before .before in
     let at-answer-of2 = at-rest .before .before in
-    let at-apply-loop = at-answer-of2 .before .before .before in
-    let at-entry3 = at-apply-loop .before .before .before .before .before .before .before .before .before in
+    let at-apply-first = at-answer-of2 .before .before .before in
+    let at-entry3 = at-apply-first .before .before .before .before .before .before .before .before .before in
     let at-if5 = at-entry3 .before in
     let at-if4 = at-if5 .before in
     let at-match = at-if4 .before in
@@ -229,7 +229,7 @@ apply-loop-loop-again-3 t c =
     let at-if2 = at-kind .before in
     let at-if1 = at-if2 .before in
     let at-loop = at-if1 .before in
-    rw (at-restore .restore .ensures, at-apply-loop .before .before .before .mask-of .ensures) (left-turn (at-loop .loop .inv) (at-if1 .if1 .left) (at-if2 .if2 .left) (at-entry3 .entry3 .ensures) (at-apply-loop .apply-loop .ensures) (at-answer-of2 .answer-of2 .ensures) (of-two _ _ 5 (at-kind .kind .ensures) (five-up _ (at-match .match .rest .0 .0 .1) (at-if4 .if4 .left)) (at-if5 .if5 .taken)) (c .entry6 .ensures) (at-rest .rest .given .1) (at-done .done .ensures) (at-apply-loop .apply-loop .kept .1 .0))
+    rw (at-restore .restore .ensures, at-apply-first .before .before .before .mask-of .ensures) (left-turn (at-loop .loop .inv) (at-if1 .if1 .left) (at-if2 .if2 .left) (at-entry3 .entry3 .ensures) (at-apply-first .apply-first .ensures) (at-answer-of2 .answer-of2 .ensures) (of-two _ _ 5 (at-kind .kind .ensures) (five-up _ (at-match .match .rest .0 .0 .1) (at-if4 .if4 .left)) (at-if5 .if5 .taken)) (c .entry6 .ensures) (at-rest .rest .given .1) (at-done .done .ensures) (at-apply-first .apply-first .kept .1 .0))
 
 pub apply-loop-entry-requires-7 : (t : ℕ) → apply-loop-lts.Need-entry-requires-7 (apply-loop-calls t) (apply-loop-at t) apply-loop.Post apply-loop-Inv-loop apply-loop-μ-loop
 apply-loop-entry-requires-7 t c κs = ((c .before .before .before .before .before .before .before .loop .inv) .ready .inside, omega arith)
@@ -283,7 +283,7 @@ apply-loop-closed t =
     (apply-loop-returns-6 t) (apply-loop-entry-requires-3 t) (apply-loop-visits-to-failure-requires t)
     (apply-loop-entry-requires-4 t) (λ c. search needs) (λ c. search needs) (apply-loop-sub-s-2 t)
     (apply-loop-entry-requires-5 t) (apply-loop-loop-less-2 t) (apply-loop-loop-again-2 t) (λ c. search needs)
-    (λ c κs. search needs) (apply-loop-apply-loop-requires t) (λ c κs. search needs) (λ c. search needs)
+    (λ c κs. search needs) (apply-loop-apply-first-requires t) (λ c κs. search needs) (λ c. search needs)
     (apply-loop-same-length-7 t) (apply-loop-returns-7 t) (λ c κs. search needs) (apply-loop-cast-done t)
     (λ c κs. search needs) (apply-loop-entry-requires-6 t) (apply-loop-loop-less-3 t) (apply-loop-loop-again-3 t)
     (apply-loop-entry-requires-7 t) (apply-loop-loop-less-4 t) (apply-loop-loop-again-4 t) (apply-loop-rule-requires t)
