@@ -123,7 +123,7 @@ fn apply_loop(
                 e = entry(table, e, 2);
             }
             SEQ => {
-                let got = apply(table, store, st, entry(table, e, 2), s, d);
+                let got = begin_seq(table, store, st, entry(table, e, 2), s, d);
                 let Answer::Done(_, _) = answer_of(got) else {
                     return got;
                 };
@@ -169,8 +169,40 @@ fn apply_loop(
     }
 }
 
-// One visit of CHOICE's or LEFT's first operand. A CONG is entered from here and not by the loop, so that an alternative that is a
-// CONG takes one call fewer, and none where constructor or count differ.
+// One visit of SEQ's first operand. A MATCH, with which a rewrite rule begins, is made from here and not by the loop.
+fn begin_seq(
+    table: &[u32; 32768],
+    store: &mut [u32],
+    st: &mut [u32; RECORD],
+    start: u32,
+    given: u64,
+    deep: u32,
+) -> u64
+    requires { ⌜ Ready (now table) (now store) (now st) start given ⌝ }
+    ensures { λ r. ⌜ Applied (now (table .entry)) (now (store .entry)) (now (st .entry)) start given deep r (now (st .exit)) (now (store .exit)) ⌝ }
+{
+    if kind(table, start) != MATCH {
+        return apply(table, store, st, start, given, deep);
+    }
+    let left = (given % HALF) as u32;
+    if left == 0 {
+        return no_units();
+    }
+    if deep == 0 {
+        return no_nesting(left);
+    }
+    match_node(
+        table,
+        store,
+        st,
+        entry(table, start, 2),
+        given - 1,
+        deep - 1,
+    )
+}
+
+// One visit of CHOICE's or LEFT's first operand. A CONG and a SCOPE are entered from here and not by the loop, so that an alternative that
+// is one of them takes one call fewer, and a CONG none where constructor or count differ.
 fn apply_first(
     table: &[u32; 32768],
     store: &mut [u32],
@@ -182,8 +214,11 @@ fn apply_first(
     requires { ⌜ Ready (now table) (now store) (now st) start given ⌝ }
     ensures { λ r. ⌜ Applied (now (table .entry)) (now (store .entry)) (now (st .entry)) start given deep r (now (st .exit)) (now (store .exit)) ⌝ }
 {
-    if kind(table, start) != CONG {
-        return apply_loop(table, store, st, start, given, deep);
+    let kind = kind(table, start);
+    if kind != CONG {
+        if kind != SCOPE {
+            return apply_loop(table, store, st, start, given, deep);
+        }
     }
     let left = (given % HALF) as u32;
     if left == 0 {
@@ -191,6 +226,9 @@ fn apply_first(
     }
     if deep == 0 {
         return no_nesting(left);
+    }
+    if kind == SCOPE {
+        return scope(table, store, st, start, given - 1, deep - 1);
     }
     cong(table, store, st, start, given - 1, deep - 1)
 }

@@ -5,8 +5,8 @@ use mathlib.Core.Path.{sym, _∙_}
 use borrow.Author.Needs.{needs}
 use native.Mathlib.Omega.{arith}
 use Rattle.cycle.proofs.visits.apply_in_scope.Reads as apply-in-scope
-use Rattle.cycle.proofs.visits.+apply+apply_first+apply_in_scope+apply_loop+cong+guard+hiding+keep_subject+one+path+rule+scope+walk.Lts-apply_in_scope as apply-in-scope-lts
-use Rattle.cycle.proofs.visits.+apply+apply_first+apply_in_scope+apply_loop+cong+guard+hiding+keep_subject+one+path+rule+scope+walk.Proof.Common.{apply-in-scope-at, apply-in-scope-calls}
+use Rattle.cycle.proofs.visits.+apply+apply_first+apply_in_scope+apply_loop+begin_seq+cong+guard+hiding+keep_subject+one+path+rule+scope+walk.Lts-apply_in_scope as apply-in-scope-lts
+use Rattle.cycle.proofs.visits.+apply+apply_first+apply_in_scope+apply_loop+begin_seq+cong+guard+hiding+keep_subject+one+path+rule+scope+walk.Proof.Common.{apply-in-scope-at, apply-in-scope-calls}
 
 pub apply-in-scope-kind-requires : (t : ℕ) → apply-in-scope-lts.Need-kind-requires (apply-in-scope-calls t) (apply-in-scope-at t) apply-in-scope.Post
 apply-in-scope-kind-requires t c κs = (c .before .pre .1) .inside

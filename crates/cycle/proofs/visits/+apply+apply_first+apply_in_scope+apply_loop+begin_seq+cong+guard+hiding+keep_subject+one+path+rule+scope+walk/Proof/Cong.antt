@@ -5,8 +5,8 @@ use Prim.Native.Nat.{ℕ}
 use borrow.Author.Needs.{needs}
 use native.Mathlib.Omega.{arith}
 use Rattle.cycle.proofs.visits.cong.Reads as cong
-use Rattle.cycle.proofs.visits.+apply+apply_first+apply_in_scope+apply_loop+cong+guard+hiding+keep_subject+one+path+rule+scope+walk.Lts-cong as cong-lts
-use Rattle.cycle.proofs.visits.+apply+apply_first+apply_in_scope+apply_loop+cong+guard+hiding+keep_subject+one+path+rule+scope+walk.Proof.Common.{cong-at, cong-calls}
+use Rattle.cycle.proofs.visits.+apply+apply_first+apply_in_scope+apply_loop+begin_seq+cong+guard+hiding+keep_subject+one+path+rule+scope+walk.Lts-cong as cong-lts
+use Rattle.cycle.proofs.visits.+apply+apply_first+apply_in_scope+apply_loop+begin_seq+cong+guard+hiding+keep_subject+one+path+rule+scope+walk.Proof.Common.{cong-at, cong-calls}
 
 pub cong-agree-requires : (t : ℕ) → cong-lts.Need-agree-requires (cong-calls t) (cong-at t) cong.Post
 cong-agree-requires t c κs = let r = c .before .before .pre .1 .0 in (r .inside, ready-stored r)

@@ -8,8 +8,8 @@ use mathlib.Core.Path.{_≡_, refl, sym, ap, _∙_}
 use borrow.Author.Needs.{needs}
 use native.Mathlib.Omega.{arith}
 use Rattle.cycle.proofs.visits.walk.Reads as walk
-use Rattle.cycle.proofs.visits.+apply+apply_first+apply_in_scope+apply_loop+cong+guard+hiding+keep_subject+one+path+rule+scope+walk.Lts-walk as walk-lts
-use Rattle.cycle.proofs.visits.+apply+apply_first+apply_in_scope+apply_loop+cong+guard+hiding+keep_subject+one+path+rule+scope+walk.Proof.Common.{walk-at, walk-calls}
+use Rattle.cycle.proofs.visits.+apply+apply_first+apply_in_scope+apply_loop+begin_seq+cong+guard+hiding+keep_subject+one+path+rule+scope+walk.Lts-walk as walk-lts
+use Rattle.cycle.proofs.visits.+apply+apply_first+apply_in_scope+apply_loop+begin_seq+cong+guard+hiding+keep_subject+one+path+rule+scope+walk.Proof.Common.{walk-at, walk-calls}
 
 abbrev pub walk-Inv-loop : walk-lts.InvT-loop
 walk-Inv-loop table store₀ st₀ e s deep t u₀ kind n name ahead first won₀ a₀ b₀ more₀ i₀ store st u won a b more i = Going table store₀ st₀ e s deep store st u won (name ∷ n ∷ a ∷ b ∷ more) i × (length more ≡ 4)

@@ -8,8 +8,8 @@ use mathlib.Core.Path.{_≡_, refl, sym, ap, _∙_}
 use borrow.Author.Needs.{needs}
 use native.Mathlib.Omega.{arith}
 use Rattle.cycle.proofs.visits.rule.Reads as rule
-use Rattle.cycle.proofs.visits.+apply+apply_first+apply_in_scope+apply_loop+cong+guard+hiding+keep_subject+one+path+rule+scope+walk.Lts-rule as rule-lts
-use Rattle.cycle.proofs.visits.+apply+apply_first+apply_in_scope+apply_loop+cong+guard+hiding+keep_subject+one+path+rule+scope+walk.Proof.Common.{rule-at, rule-calls}
+use Rattle.cycle.proofs.visits.+apply+apply_first+apply_in_scope+apply_loop+begin_seq+cong+guard+hiding+keep_subject+one+path+rule+scope+walk.Lts-rule as rule-lts
+use Rattle.cycle.proofs.visits.+apply+apply_first+apply_in_scope+apply_loop+begin_seq+cong+guard+hiding+keep_subject+one+path+rule+scope+walk.Proof.Common.{rule-at, rule-calls}
 
 pub rule-kind-requires : (t : ℕ) → rule-lts.Need-kind-requires (rule-calls t) (rule-at t) rule.Post
 rule-kind-requires t c κs = (c .before .pre .1 .0) .inside

@@ -9,8 +9,8 @@ use mathlib.Core.Path.{_≡_, refl, sym, ap, _∙_}
 use borrow.Author.Needs.{needs}
 use native.Mathlib.Omega.{arith}
 use Rattle.cycle.proofs.visits.apply_loop.Reads as apply-loop
-use Rattle.cycle.proofs.visits.+apply+apply_first+apply_in_scope+apply_loop+cong+guard+hiding+keep_subject+one+path+rule+scope+walk.Lts-apply_loop as apply-loop-lts
-use Rattle.cycle.proofs.visits.+apply+apply_first+apply_in_scope+apply_loop+cong+guard+hiding+keep_subject+one+path+rule+scope+walk.Proof.Common.{apply-loop-at, apply-loop-calls}
+use Rattle.cycle.proofs.visits.+apply+apply_first+apply_in_scope+apply_loop+begin_seq+cong+guard+hiding+keep_subject+one+path+rule+scope+walk.Lts-apply_loop as apply-loop-lts
+use Rattle.cycle.proofs.visits.+apply+apply_first+apply_in_scope+apply_loop+begin_seq+cong+guard+hiding+keep_subject+one+path+rule+scope+walk.Proof.Common.{apply-loop-at, apply-loop-calls}
 
 abbrev pub apply-loop-Inv-loop : apply-loop-lts.InvT-loop
 apply-loop-Inv-loop table store₀ st₀ start given deep e₀ s₀ d₀ store st e s d = Turn table store₀ st₀ start given deep store st e s d
@@ -45,8 +45,8 @@ apply-loop-kind-requires t c κs = (c .before .before .loop .inv) .ready .inside
 pub apply-loop-entry-requires : (t : ℕ) → apply-loop-lts.Need-entry-requires (apply-loop-calls t) (apply-loop-at t) apply-loop.Post apply-loop-Inv-loop apply-loop-μ-loop
 apply-loop-entry-requires t c κs = ((c .before .before .before .before .before .before .loop .inv) .ready .inside, omega arith)
 
-pub apply-loop-apply-requires : (t : ℕ) → apply-loop-lts.Need-apply-requires (apply-loop-calls t) (apply-loop-at t) apply-loop.Post apply-loop-Inv-loop apply-loop-μ-loop
-apply-loop-apply-requires t c κs =
+pub apply-loop-begin-seq-requires : (t : ℕ) → apply-loop-lts.Need-begin-seq-requires (apply-loop-calls t) (apply-loop-at t) apply-loop.Post apply-loop-Inv-loop apply-loop-μ-loop
+apply-loop-begin-seq-requires t c κs =
     let at-match = c .before .before .before in
     let at-kind = at-match .before in
     let at-if2 = at-kind .before in
@@ -56,19 +56,19 @@ apply-loop-apply-requires t c κs =
     (omega (arith, (at-loop .loop .inv) .deeper, pos _ (at-if2 .if2 .left), start .pre .0), ready-next (at-loop .loop .inv) (at-if1 .if1 .left) (at-if2 .if2 .left) (λ z. omega (arith, at-kind .kind .ensures, at-match .match .keys1, z)) 0 _ (omega arith) (c .entry .ensures))
 
 pub apply-loop-same-length-3 : (t : ℕ) → apply-loop-lts.Need-same-length-3 (apply-loop-calls t) (apply-loop-at t) apply-loop.Post apply-loop-Inv-loop apply-loop-μ-loop
-apply-loop-same-length-3 t c = c .before .before .before .before .apply .kept .1 .0 ∙ (c .before .before .before .before .before .before .before .before .before .before .before .before .loop .inv) .long
+apply-loop-same-length-3 t c = c .before .before .before .before .begin-seq .kept .1 .0 ∙ (c .before .before .before .before .before .before .before .before .before .before .before .before .loop .inv) .long
 
 pub apply-loop-returns-3 : (t : ℕ) → apply-loop-lts.Need-returns-3 (apply-loop-calls t) (apply-loop-at t) apply-loop.Post apply-loop-Inv-loop apply-loop-μ-loop
 apply-loop-returns-3 t c =
     let at-answer-of = c .before in
-    let at-apply = at-answer-of .before .before .before in
-    let at-entry = at-apply .before in
+    let at-begin-seq = at-answer-of .before .before .before in
+    let at-entry = at-begin-seq .before in
     let at-match = at-entry .before .before .before in
     let at-kind = at-match .before in
     let at-if2 = at-kind .before in
     let at-if1 = at-if2 .before in
     let at-loop = at-if1 .before in
-    seq-returns (at-loop .loop .inv) (at-if1 .if1 .left) (at-if2 .if2 .left) (at-entry .entry .ensures) (at-apply .apply .ensures) (at-answer-of .answer-of .ensures) refl (sym (at-kind .kind .ensures) ∙ at-match .match .keys1) (c .match2 .keys2)
+    seq-returns (at-loop .loop .inv) (at-if1 .if1 .left) (at-if2 .if2 .left) (at-entry .entry .ensures) (at-begin-seq .begin-seq .ensures) (at-answer-of .answer-of .ensures) refl (sym (at-kind .kind .ensures) ∙ at-match .match .keys1) (c .match2 .keys2)
 
 pub apply-loop-entry-requires-2 : (t : ℕ) → apply-loop-lts.Need-entry-requires-2 (apply-loop-calls t) (apply-loop-at t) apply-loop.Post apply-loop-Inv-loop apply-loop-μ-loop
 apply-loop-entry-requires-2 t c κs = ((c .before .before .before .before .before .before .before .before .before .before .before .before .before .loop .inv) .ready .inside, omega arith)
@@ -80,14 +80,14 @@ pub apply-loop-loop-again : (t : ℕ) → apply-loop-lts.Need-loop-again (apply-
 apply-loop-loop-again t c =
     let at-enum-told = c .before in
     let at-answer-of = at-enum-told .before .before in
-    let at-apply = at-answer-of .before .before .before in
-    let at-entry = at-apply .before in
+    let at-begin-seq = at-answer-of .before .before .before in
+    let at-entry = at-begin-seq .before in
     let at-match = at-entry .before .before .before in
     let at-kind = at-match .before in
     let at-if2 = at-kind .before in
     let at-if1 = at-if2 .before in
     let at-loop = at-if1 .before in
-    seq-turn (at-loop .loop .inv) (at-if1 .if1 .left) (at-if2 .if2 .left) (at-entry .entry .ensures) (at-apply .apply .ensures) (at-answer-of .answer-of .ensures) (c .entry2 .ensures) (sym (at-kind .kind .ensures) ∙ at-match .match .keys1) (at-enum-told .enum-told .given .1) (at-apply .apply .kept .1 .0)
+    seq-turn (at-loop .loop .inv) (at-if1 .if1 .left) (at-if2 .if2 .left) (at-entry .entry .ensures) (at-begin-seq .begin-seq .ensures) (at-answer-of .answer-of .ensures) (c .entry2 .ensures) (sym (at-kind .kind .ensures) ∙ at-match .match .keys1) (at-enum-told .enum-told .given .1) (at-begin-seq .begin-seq .kept .1 .0)
 
 pub apply-loop-cong-requires : (t : ℕ) → apply-loop-lts.Need-cong-requires (apply-loop-calls t) (apply-loop-at t) apply-loop.Post apply-loop-Inv-loop apply-loop-μ-loop
 apply-loop-cong-requires t c κs =
@@ -275,7 +275,7 @@ apply-loop-closed t =
     apply-loop-Inv-loop apply-loop-μ-loop (apply-loop-loop-holds t) (λ c. search needs) (λ c κs. search needs)
     (apply-loop-same-length t) (apply-loop-returns t) (λ c κs. search needs) (apply-loop-same-length-2 t)
     (apply-loop-returns-2 t) (apply-loop-sub-d t) (apply-loop-sub-s t) (apply-loop-kind-requires t)
-    (apply-loop-entry-requires t) (apply-loop-apply-requires t) (λ c κs. search needs) (λ c. search needs)
+    (apply-loop-entry-requires t) (apply-loop-begin-seq-requires t) (λ c κs. search needs) (λ c. search needs)
     (apply-loop-same-length-3 t) (apply-loop-returns-3 t) (apply-loop-entry-requires-2 t) (apply-loop-loop-less t)
     (apply-loop-loop-again t) (apply-loop-cong-requires t) (apply-loop-same-length-4 t) (apply-loop-returns-4 t)
     (λ c. search needs) (apply-loop-count-requires t) (λ c. search needs) (λ c κs. search needs)

@@ -6,8 +6,8 @@ use mathlib.Core.Path.{_≡_, refl, sym, ap, _∙_}
 use borrow.Author.Needs.{needs}
 use native.Mathlib.Omega.{arith}
 use Rattle.cycle.proofs.visits.guard.Reads as guard
-use Rattle.cycle.proofs.visits.+apply+apply_first+apply_in_scope+apply_loop+cong+guard+hiding+keep_subject+one+path+rule+scope+walk.Lts-guard as guard-lts
-use Rattle.cycle.proofs.visits.+apply+apply_first+apply_in_scope+apply_loop+cong+guard+hiding+keep_subject+one+path+rule+scope+walk.Proof.Common.{guard-at, guard-calls}
+use Rattle.cycle.proofs.visits.+apply+apply_first+apply_in_scope+apply_loop+begin_seq+cong+guard+hiding+keep_subject+one+path+rule+scope+walk.Lts-guard as guard-lts
+use Rattle.cycle.proofs.visits.+apply+apply_first+apply_in_scope+apply_loop+begin_seq+cong+guard+hiding+keep_subject+one+path+rule+scope+walk.Proof.Common.{guard-at, guard-calls}
 
 pub guard-entry-requires : (t : ℕ) → guard-lts.Need-entry-requires (guard-calls t) (guard-at t) guard.Post
 guard-entry-requires t c κs = ((c .before .before .before .before .before .before .pre .1 .0) .inside, omega arith)

@@ -3,43 +3,46 @@ use borrow.Fn.Kinds.{In}
 use borrow.Fn.PlainCycle.{Measures, is, falls, and}
 use Rattle.cycle.proofs.visits.apply.Reads as apply
 use Rattle.cycle.proofs.visits.apply.Kinds as apply-kinds
-use Rattle.cycle.proofs.visits.+apply+apply_first+apply_in_scope+apply_loop+cong+guard+hiding+keep_subject+one+path+rule+scope+walk.Lts-apply as apply-lts
+use Rattle.cycle.proofs.visits.+apply+apply_first+apply_in_scope+apply_loop+begin_seq+cong+guard+hiding+keep_subject+one+path+rule+scope+walk.Lts-apply as apply-lts
 use Rattle.cycle.proofs.visits.apply_first.Reads as apply-first
 use Rattle.cycle.proofs.visits.apply_first.Kinds as apply-first-kinds
-use Rattle.cycle.proofs.visits.+apply+apply_first+apply_in_scope+apply_loop+cong+guard+hiding+keep_subject+one+path+rule+scope+walk.Lts-apply_first as apply-first-lts
+use Rattle.cycle.proofs.visits.+apply+apply_first+apply_in_scope+apply_loop+begin_seq+cong+guard+hiding+keep_subject+one+path+rule+scope+walk.Lts-apply_first as apply-first-lts
+use Rattle.cycle.proofs.visits.begin_seq.Reads as begin-seq
+use Rattle.cycle.proofs.visits.begin_seq.Kinds as begin-seq-kinds
+use Rattle.cycle.proofs.visits.+apply+apply_first+apply_in_scope+apply_loop+begin_seq+cong+guard+hiding+keep_subject+one+path+rule+scope+walk.Lts-begin_seq as begin-seq-lts
 use Rattle.cycle.proofs.visits.apply_in_scope.Reads as apply-in-scope
 use Rattle.cycle.proofs.visits.apply_in_scope.Kinds as apply-in-scope-kinds
-use Rattle.cycle.proofs.visits.+apply+apply_first+apply_in_scope+apply_loop+cong+guard+hiding+keep_subject+one+path+rule+scope+walk.Lts-apply_in_scope as apply-in-scope-lts
+use Rattle.cycle.proofs.visits.+apply+apply_first+apply_in_scope+apply_loop+begin_seq+cong+guard+hiding+keep_subject+one+path+rule+scope+walk.Lts-apply_in_scope as apply-in-scope-lts
 use Rattle.cycle.proofs.visits.keep_subject.Reads as keep-subject
 use Rattle.cycle.proofs.visits.keep_subject.Kinds as keep-subject-kinds
-use Rattle.cycle.proofs.visits.+apply+apply_first+apply_in_scope+apply_loop+cong+guard+hiding+keep_subject+one+path+rule+scope+walk.Lts-keep_subject as keep-subject-lts
+use Rattle.cycle.proofs.visits.+apply+apply_first+apply_in_scope+apply_loop+begin_seq+cong+guard+hiding+keep_subject+one+path+rule+scope+walk.Lts-keep_subject as keep-subject-lts
 use Rattle.cycle.proofs.visits.cong.Reads as cong
 use Rattle.cycle.proofs.visits.cong.Kinds as cong-kinds
-use Rattle.cycle.proofs.visits.+apply+apply_first+apply_in_scope+apply_loop+cong+guard+hiding+keep_subject+one+path+rule+scope+walk.Lts-cong as cong-lts
+use Rattle.cycle.proofs.visits.+apply+apply_first+apply_in_scope+apply_loop+begin_seq+cong+guard+hiding+keep_subject+one+path+rule+scope+walk.Lts-cong as cong-lts
 use Rattle.cycle.proofs.visits.guard.Reads as guard
 use Rattle.cycle.proofs.visits.guard.Kinds as guard-kinds
-use Rattle.cycle.proofs.visits.+apply+apply_first+apply_in_scope+apply_loop+cong+guard+hiding+keep_subject+one+path+rule+scope+walk.Lts-guard as guard-lts
+use Rattle.cycle.proofs.visits.+apply+apply_first+apply_in_scope+apply_loop+begin_seq+cong+guard+hiding+keep_subject+one+path+rule+scope+walk.Lts-guard as guard-lts
 use Rattle.cycle.proofs.visits.hiding.Reads as hiding
 use Rattle.cycle.proofs.visits.hiding.Kinds as hiding-kinds
-use Rattle.cycle.proofs.visits.+apply+apply_first+apply_in_scope+apply_loop+cong+guard+hiding+keep_subject+one+path+rule+scope+walk.Lts-hiding as hiding-lts
+use Rattle.cycle.proofs.visits.+apply+apply_first+apply_in_scope+apply_loop+begin_seq+cong+guard+hiding+keep_subject+one+path+rule+scope+walk.Lts-hiding as hiding-lts
 use Rattle.cycle.proofs.visits.one.Reads as one
 use Rattle.cycle.proofs.visits.one.Kinds as one-kinds
-use Rattle.cycle.proofs.visits.+apply+apply_first+apply_in_scope+apply_loop+cong+guard+hiding+keep_subject+one+path+rule+scope+walk.Lts-one as one-lts
+use Rattle.cycle.proofs.visits.+apply+apply_first+apply_in_scope+apply_loop+begin_seq+cong+guard+hiding+keep_subject+one+path+rule+scope+walk.Lts-one as one-lts
 use Rattle.cycle.proofs.visits.path.Reads as path
 use Rattle.cycle.proofs.visits.path.Kinds as path-kinds
-use Rattle.cycle.proofs.visits.+apply+apply_first+apply_in_scope+apply_loop+cong+guard+hiding+keep_subject+one+path+rule+scope+walk.Lts-path as path-lts
+use Rattle.cycle.proofs.visits.+apply+apply_first+apply_in_scope+apply_loop+begin_seq+cong+guard+hiding+keep_subject+one+path+rule+scope+walk.Lts-path as path-lts
 use Rattle.cycle.proofs.visits.rule.Reads as rule
 use Rattle.cycle.proofs.visits.rule.Kinds as rule-kinds
-use Rattle.cycle.proofs.visits.+apply+apply_first+apply_in_scope+apply_loop+cong+guard+hiding+keep_subject+one+path+rule+scope+walk.Lts-rule as rule-lts
+use Rattle.cycle.proofs.visits.+apply+apply_first+apply_in_scope+apply_loop+begin_seq+cong+guard+hiding+keep_subject+one+path+rule+scope+walk.Lts-rule as rule-lts
 use Rattle.cycle.proofs.visits.scope.Reads as scope
 use Rattle.cycle.proofs.visits.scope.Kinds as scope-kinds
-use Rattle.cycle.proofs.visits.+apply+apply_first+apply_in_scope+apply_loop+cong+guard+hiding+keep_subject+one+path+rule+scope+walk.Lts-scope as scope-lts
+use Rattle.cycle.proofs.visits.+apply+apply_first+apply_in_scope+apply_loop+begin_seq+cong+guard+hiding+keep_subject+one+path+rule+scope+walk.Lts-scope as scope-lts
 use Rattle.cycle.proofs.visits.apply_loop.Reads as apply-loop
 use Rattle.cycle.proofs.visits.apply_loop.Kinds as apply-loop-kinds
-use Rattle.cycle.proofs.visits.+apply+apply_first+apply_in_scope+apply_loop+cong+guard+hiding+keep_subject+one+path+rule+scope+walk.Lts-apply_loop as apply-loop-lts
+use Rattle.cycle.proofs.visits.+apply+apply_first+apply_in_scope+apply_loop+begin_seq+cong+guard+hiding+keep_subject+one+path+rule+scope+walk.Lts-apply_loop as apply-loop-lts
 use Rattle.cycle.proofs.visits.walk.Reads as walk
 use Rattle.cycle.proofs.visits.walk.Kinds as walk-kinds
-use Rattle.cycle.proofs.visits.+apply+apply_first+apply_in_scope+apply_loop+cong+guard+hiding+keep_subject+one+path+rule+scope+walk.Lts-walk as walk-lts
+use Rattle.cycle.proofs.visits.+apply+apply_first+apply_in_scope+apply_loop+begin_seq+cong+guard+hiding+keep_subject+one+path+rule+scope+walk.Lts-walk as walk-lts
 use Rattle.leaves.proofs.answers.done.Reads as done-reads
 use Rattle.leaves.proofs.answers.failure.Reads as failure-reads
 use Rattle.leaves.proofs.answers.attempt_of.Reads as attempt-of-reads
@@ -77,6 +80,9 @@ abbrev pub μ-apply : Measures 3 apply-kinds.ps ℕ
 
 abbrev pub μ-apply-first : Measures 3 apply-first-kinds.ps ℕ
 μ-apply-first κs a = 5 * a .1 .1 .1 .1 .1 .0 + 1
+
+abbrev pub μ-begin-seq : Measures 3 begin-seq-kinds.ps ℕ
+μ-begin-seq κs a = 5 * a .1 .1 .1 .1 .1 .0 + 2
 
 abbrev pub μ-apply-in-scope : Measures 3 apply-in-scope-kinds.ps ℕ
 μ-apply-in-scope κs a = 5 * a .1 .1 .1 .1 .1 .0 + 1
@@ -120,11 +126,17 @@ apply-below t = and 3 apply-kinds.ps (falls 3 apply-kinds.ps _<_ μ-apply t) app
 abbrev pub apply-first-at : ℕ → In 3 apply-first-kinds.ps
 apply-first-at t = and 3 apply-first-kinds.ps (is 3 apply-first-kinds.ps μ-apply-first t) apply-first.Pre
 
+abbrev pub begin-seq-at : ℕ → In 3 begin-seq-kinds.ps
+begin-seq-at t = and 3 begin-seq-kinds.ps (is 3 begin-seq-kinds.ps μ-begin-seq t) begin-seq.Pre
+
 abbrev pub apply-in-scope-at : ℕ → In 3 apply-in-scope-kinds.ps
 apply-in-scope-at t = and 3 apply-in-scope-kinds.ps (is 3 apply-in-scope-kinds.ps μ-apply-in-scope t) apply-in-scope.Pre
 
 abbrev pub apply-first-below : ℕ → In 3 apply-first-kinds.ps
 apply-first-below t = and 3 apply-first-kinds.ps (falls 3 apply-first-kinds.ps _<_ μ-apply-first t) apply-first.Pre
+
+abbrev pub begin-seq-below : ℕ → In 3 begin-seq-kinds.ps
+begin-seq-below t = and 3 begin-seq-kinds.ps (falls 3 begin-seq-kinds.ps _<_ μ-begin-seq t) begin-seq.Pre
 
 abbrev pub apply-in-scope-below : ℕ → In 3 apply-in-scope-kinds.ps
 apply-in-scope-below t = and 3 apply-in-scope-kinds.ps (falls 3 apply-in-scope-kinds.ps _<_ μ-apply-in-scope t) apply-in-scope.Pre
@@ -217,13 +229,16 @@ abbrev pub keep-subject-calls : ℕ → keep-subject-lts.Claims
 keep-subject-calls t = (entry-reads.Asked, entry-reads.Learnt, apply-below t, apply.Post, answer-of-reads.Asked, answer-of-reads.Learnt, done-reads.Asked, done-reads.Learnt)
 
 abbrev pub apply-loop-calls : ℕ → apply-loop-lts.Claims
-apply-loop-calls t = (no-units-reads.Asked, no-units-reads.Learnt, no-nesting-reads.Asked, no-nesting-reads.Learnt, kind-reads.Asked, kind-reads.Learnt, entry-reads.Asked, entry-reads.Learnt, apply-below t, apply.Post, answer-of-reads.Asked, answer-of-reads.Learnt, cong-below t, cong.Post, count-reads.Asked, count-reads.Learnt, failure-reads.Asked, failure-reads.Learnt, one-below t, one.Post, visits-to-failure-reads.Asked, visits-to-failure-reads.Learnt, mask-of-reads.Asked, mask-of-reads.Learnt, apply-first-below t, apply-first.Post, restore-reads.Asked, restore-reads.Learnt, done-reads.Asked, done-reads.Learnt, rule-below t, rule.Post)
+apply-loop-calls t = (no-units-reads.Asked, no-units-reads.Learnt, no-nesting-reads.Asked, no-nesting-reads.Learnt, kind-reads.Asked, kind-reads.Learnt, entry-reads.Asked, entry-reads.Learnt, begin-seq-below t, begin-seq.Post, answer-of-reads.Asked, answer-of-reads.Learnt, cong-below t, cong.Post, count-reads.Asked, count-reads.Learnt, failure-reads.Asked, failure-reads.Learnt, one-below t, one.Post, visits-to-failure-reads.Asked, visits-to-failure-reads.Learnt, mask-of-reads.Asked, mask-of-reads.Learnt, apply-first-below t, apply-first.Post, restore-reads.Asked, restore-reads.Learnt, done-reads.Asked, done-reads.Learnt, rule-below t, rule.Post)
 
 abbrev pub apply-calls : ℕ → apply-lts.Claims
 apply-calls t = (kind-reads.Asked, kind-reads.Learnt, apply-loop-below t, apply-loop.Post, no-units-reads.Asked, no-units-reads.Learnt, no-nesting-reads.Asked, no-nesting-reads.Learnt, count-reads.Asked, count-reads.Learnt, walk-below t, walk.Post)
 
 abbrev pub apply-first-calls : ℕ → apply-first-lts.Claims
-apply-first-calls t = (kind-reads.Asked, kind-reads.Learnt, apply-loop-below t, apply-loop.Post, no-units-reads.Asked, no-units-reads.Learnt, no-nesting-reads.Asked, no-nesting-reads.Learnt, cong-below t, cong.Post)
+apply-first-calls t = (kind-reads.Asked, kind-reads.Learnt, apply-loop-below t, apply-loop.Post, no-units-reads.Asked, no-units-reads.Learnt, no-nesting-reads.Asked, no-nesting-reads.Learnt, scope-below t, scope.Post, cong-below t, cong.Post)
+
+abbrev pub begin-seq-calls : ℕ → begin-seq-lts.Claims
+begin-seq-calls t = (kind-reads.Asked, kind-reads.Learnt, apply-below t, apply.Post, no-units-reads.Asked, no-units-reads.Learnt, no-nesting-reads.Asked, no-nesting-reads.Learnt, entry-reads.Asked, entry-reads.Learnt, match-node-reads.Asked, match-node-reads.Learnt)
 
 abbrev pub apply-in-scope-calls : ℕ → apply-in-scope-lts.Claims
 apply-in-scope-calls t = (kind-reads.Asked, kind-reads.Learnt, apply-loop-below t, apply-loop.Post, no-units-reads.Asked, no-units-reads.Learnt, no-nesting-reads.Asked, no-nesting-reads.Learnt, scope-below t, scope.Post)

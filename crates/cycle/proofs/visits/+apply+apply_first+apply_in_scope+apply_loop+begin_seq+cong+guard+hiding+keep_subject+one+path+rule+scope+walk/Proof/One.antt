@@ -8,8 +8,8 @@ use Prim.Native.Nat.{ℕ, _-_}
 use borrow.Author.Needs.{needs}
 use native.Mathlib.Omega.{arith}
 use Rattle.cycle.proofs.visits.one.Reads as one
-use Rattle.cycle.proofs.visits.+apply+apply_first+apply_in_scope+apply_loop+cong+guard+hiding+keep_subject+one+path+rule+scope+walk.Lts-one as one-lts
-use Rattle.cycle.proofs.visits.+apply+apply_first+apply_in_scope+apply_loop+cong+guard+hiding+keep_subject+one+path+rule+scope+walk.Proof.Common.{one-at, one-calls}
+use Rattle.cycle.proofs.visits.+apply+apply_first+apply_in_scope+apply_loop+begin_seq+cong+guard+hiding+keep_subject+one+path+rule+scope+walk.Lts-one as one-lts
+use Rattle.cycle.proofs.visits.+apply+apply_first+apply_in_scope+apply_loop+begin_seq+cong+guard+hiding+keep_subject+one+path+rule+scope+walk.Proof.Common.{one-at, one-calls}
 
 abbrev pub one-Inv-loop : one-lts.InvT-loop
 one-Inv-loop table store₀ st₀ e s deep t u₀ n mark mask ahead op i₀ store st u i = Trying table store₀ st₀ deep e s n store st u i
