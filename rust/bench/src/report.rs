@@ -137,6 +137,10 @@ fn least(tasks: &[Measured], engine: usize) -> (&str, f64) {
     found
 }
 
+fn mean(tasks: &[Measured], engine: usize) -> f64 {
+    tasks.iter().map(|task| task.ratio(engine)).sum::<f64>() / tasks.len() as f64
+}
+
 fn ratio_of(tasks: &[Measured], name: &str, engine: usize) -> f64 {
     tasks
         .iter()
@@ -341,17 +345,21 @@ pub fn page(all: &All, machine: &Machine) -> String {
     line!(page);
     let ahead = all.tasks.iter().filter(|task| task.ratio(1) >= 1.0).count();
     let (name, ratio) = least(&all.tasks, 1);
+    let (slowest, lowest) = least(&all.tasks, 2);
     line!(
         page,
         "The proved engine is at or ahead of the plain one on {} of {} tasks; its least ratio is \
-         {:.2}, on the task {}. It reaches {:.2} of the optimised one on the pruner and {:.2} on the \
-         traversal; the aim is 0.80 on both. On the full-size pruner it reaches {:.2}.",
+         {:.2}, on the task {}. It reaches {:.2} of the optimised one in the mean, where the aim is 1.0; \
+         {:.2} at least, on the task {}, where it is 0.8; {:.2} on the pruner and {:.2} on the full-size \
+         pruner, where it is 0.9.",
         ahead,
         all.tasks.len(),
         ratio,
         name,
+        mean(&all.tasks, 2),
+        lowest,
+        slowest,
         ratio_of(&all.tasks, "pruner", 2),
-        ratio_of(&all.tasks, "traversal", 2),
         ratio_of(&all.tasks, "full-size pruner", 2)
     );
     line!(page);
