@@ -27,61 +27,57 @@ guard-returns t c =
 pub guard-kind-requires : (t : ℕ) → guard-lts.Need-kind-requires (guard-calls t) (guard-at t) guard.Post
 guard-kind-requires t c κs = (c .before .before .before .before .before .before .before .before .before .before .before .before .before .before .before .before .pre .1 .0) .inside
 
+-- ---- where TEST and NOT part: the operand has ended, and what was saved is back
+
+abbrev Parting : ℕ → Type 0
+Parting t = guard-lts.After-kind (guard-calls t) (guard-at t) guard.Post
+
+module _ {t : ℕ} (c : Parting t) where
+  abbrev ended : guard-lts.After-yes (guard-calls t) (guard-at t) guard.Post
+  ended = c .before .before .before .before
+
+  abbrev attempted : guard-lts.After-attempt-of (guard-calls t) (guard-at t) guard.Post
+  attempted = ended .before .before
+
+  abbrev applied : guard-lts.After-apply (guard-calls t) (guard-at t) guard.Post
+  applied = attempted .before .before .before
+
+  abbrev fetched : guard-lts.After-entry (guard-calls t) (guard-at t) guard.Post
+  fetched = applied .before
+
+  abbrev saved : guard-lts.After-mask-of (guard-calls t) (guard-at t) guard.Post
+  saved = fetched .before .before .before
+
+  abbrev start : guard-lts.Start (guard-calls t) (guard-at t) guard.Post
+  start = saved .before .before .before .before
+
 pub guard-returns-2 : (t : ℕ) → guard-lts.Need-returns-2 (guard-calls t) (guard-at t) guard.Post
 guard-returns-2 t c =
-    let at-if2 = c .before in
-    let at-if1 = at-if2 .before in
-    let at-kind = at-if1 .before in
-    let at-restore = at-kind .before in
-    let at-yes = at-restore .before .before .before in
-    let at-attempt-of = at-yes .before .before in
-    let at-apply = at-attempt-of .before .before .before in
-    let at-entry = at-apply .before in
-    let at-mask-of = at-entry .before .before .before in
-    let start = at-mask-of .before .before .before .before in
-    rw (at-restore .restore .ensures, at-mask-of .mask-of .ensures) (gives-test _ (start .pre .1 .0) (at-entry .entry .ensures) (at-apply .apply .ensures) (at-attempt-of .attempt-of .ensures) (start .pre .1 .1) (at-yes .yes .given .1) (at-kind .kind .ensures) (at-if1 .if1 .taken) (at-if2 .if2 .taken) (c .done .ensures))
+    let k = c .before .before .before in
+    rw (k .before .restore .ensures, saved k .mask-of .ensures)
+    (gives-test _ (start k .pre .1 .0) (fetched k .entry .ensures) (applied k .apply .ensures) (attempted k .attempt-of .ensures) (start k .pre .1 .1)
+    (ended k .yes .given .1) (k .kind .ensures) (c .before .before .if1 .taken) (c .before .if2 .taken) (c .done .ensures))
 
 pub guard-returns-3 : (t : ℕ) → guard-lts.Need-returns-3 (guard-calls t) (guard-at t) guard.Post
 guard-returns-3 t c =
-    let at-if2 = c .before in
-    let at-if1 = at-if2 .before in
-    let at-kind = at-if1 .before in
-    let at-restore = at-kind .before in
-    let at-yes = at-restore .before .before .before in
-    let at-attempt-of = at-yes .before .before in
-    let at-apply = at-attempt-of .before .before .before in
-    let at-entry = at-apply .before in
-    let at-mask-of = at-entry .before .before .before in
-    let start = at-mask-of .before .before .before .before in
-    rw (at-restore .restore .ensures, at-mask-of .mask-of .ensures) (gives-test-failed _ (start .pre .1 .0) (at-entry .entry .ensures) (at-apply .apply .ensures) (at-attempt-of .attempt-of .ensures) (start .pre .1 .1) (at-yes .yes .given .1) (at-kind .kind .ensures) (at-if1 .if1 .taken) (at-if2 .if2 .left) (c .failure .ensures))
+    let k = c .before .before .before in
+    rw (k .before .restore .ensures, saved k .mask-of .ensures)
+    (gives-test-failed _ (start k .pre .1 .0) (fetched k .entry .ensures) (applied k .apply .ensures) (attempted k .attempt-of .ensures) (start k .pre .1 .1)
+    (ended k .yes .given .1) (k .kind .ensures) (c .before .before .if1 .taken) (c .before .if2 .left) (c .failure .ensures))
 
 pub guard-returns-4 : (t : ℕ) → guard-lts.Need-returns-4 (guard-calls t) (guard-at t) guard.Post
 guard-returns-4 t c =
-    let at-if3 = c .before in
-    let at-if1 = at-if3 .before in
-    let at-kind = at-if1 .before in
-    let at-restore = at-kind .before in
-    let at-yes = at-restore .before .before .before in
-    let at-attempt-of = at-yes .before .before in
-    let at-apply = at-attempt-of .before .before .before in
-    let at-entry = at-apply .before in
-    let at-mask-of = at-entry .before .before .before in
-    let start = at-mask-of .before .before .before .before in
-    rw (at-restore .restore .ensures, at-mask-of .mask-of .ensures) (gives-not-failed _ (start .pre .1 .0) (at-entry .entry .ensures) (at-apply .apply .ensures) (at-attempt-of .attempt-of .ensures) (start .pre .1 .1) (at-yes .yes .given .1) (at-kind .kind .ensures) (at-if1 .if1 .left) (at-if3 .if3 .taken) (c .failure2 .ensures))
+    let k = c .before .before .before in
+    rw (k .before .restore .ensures, saved k .mask-of .ensures)
+    (gives-not-failed _ (start k .pre .1 .0) (fetched k .entry .ensures) (applied k .apply .ensures) (attempted k .attempt-of .ensures) (start k .pre .1 .1)
+    (ended k .yes .given .1) (k .kind .ensures) (c .before .before .if1 .left) (c .before .if3 .taken) (c .failure2 .ensures))
 
 pub guard-returns-5 : (t : ℕ) → guard-lts.Need-returns-5 (guard-calls t) (guard-at t) guard.Post
 guard-returns-5 t c =
-    let at-if3 = c .before in
-    let at-if1 = at-if3 .before in
-    let at-kind = at-if1 .before in
-    let at-restore = at-kind .before in
-    let at-yes = at-restore .before .before .before in
-    let at-attempt-of = at-yes .before .before in
-    let at-apply = at-attempt-of .before .before .before in
-    let at-entry = at-apply .before in
-    let at-mask-of = at-entry .before .before .before in
-    let start = at-mask-of .before .before .before .before in
-    rw (at-restore .restore .ensures, at-mask-of .mask-of .ensures) (gives-not _ (start .pre .1 .0) (at-entry .entry .ensures) (at-apply .apply .ensures) (at-attempt-of .attempt-of .ensures) (start .pre .1 .1) (at-yes .yes .given .1) (at-kind .kind .ensures) (at-if1 .if1 .left) (at-if3 .if3 .left) (c .done2 .ensures))
+    let k = c .before .before .before in
+    rw (k .before .restore .ensures, saved k .mask-of .ensures)
+    (gives-not _ (start k .pre .1 .0) (fetched k .entry .ensures) (applied k .apply .ensures) (attempted k .attempt-of .ensures) (start k .pre .1 .1)
+    (ended k .yes .given .1) (k .kind .ensures) (c .before .before .if1 .left) (c .before .if3 .left) (c .done2 .ensures))
 
 pub guard-closed : {M : Type 1} (t : ℕ) → guard-lts.Closed (guard-calls t) (guard-at t) guard.Post M
 guard-closed t =
