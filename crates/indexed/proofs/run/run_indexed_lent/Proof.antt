@@ -262,10 +262,9 @@ cast-nodes c =
 build-requires : tie.Need-build-requires
 build-requires c κs =
     let p = c .before .before .before .before .before in
-    let s = start-passed p in
-    (
+    let s = start-passed p in (
       rw (c .before .before .before .clear-from .ensures)
-      (held-empty (given s) (s .args .lent .now) (s .args .words) (own (p .before)) (nodes p) (good p) refl (own-is (p .before)) refl (long p)),
+          (held-empty (given s) (s .args .lent .now) (s .args .words) (own (p .before)) (nodes p) (good p) refl (own-is (p .before)) refl (long p)),
       mark-inside (given s) (s .args .lent .now) (s .args .words) (own (p .before)) (nodes p) (good p) refl (own-is (p .before)) refl (long p),
     )
 

@@ -246,19 +246,21 @@ returns-2 c =
 cast-nodes : tie.Need-cast-nodes Inv-loop μ-loop
 cast-nodes c =
     let s = start-wanted c in
-    omega (arith, nodes-few (firstCall (given s)) (s .args .lent .now) (s .args .words) (own (c .before .before)) (nodes c) (first c) refl
-    (own-is (c .before .before)) refl (long (c .before)))
+    omega (
+      arith,
+      nodes-few (firstCall (given s)) (s .args .lent .now) (s .args .words) (own (c .before .before)) (nodes c) (first c) refl
+          (own-is (c .before .before)) refl (long (c .before)),
+    )
 
 build-requires : tie.Need-build-requires Inv-loop μ-loop
 build-requires c κs =
     let p = c .before .before .before .before .before in
-    let s = start-wanted p in
-    (
+    let s = start-wanted p in (
       rw (c .before .before .before .clear-from .ensures)
-      (held-empty (firstCall (given s)) (s .args .lent .now) (s .args .words) (own (p .before .before)) (nodes p) (first p) refl
-      (own-is (p .before .before)) refl (long (p .before))),
+          (held-empty (firstCall (given s)) (s .args .lent .now) (s .args .words) (own (p .before .before)) (nodes p) (first p) refl
+          (own-is (p .before .before)) refl (long (p .before))),
       mark-inside (firstCall (given s)) (s .args .lent .now) (s .args .words) (own (p .before .before)) (nodes p) (first p) refl
-      (own-is (p .before .before)) refl (long (p .before)),
+          (own-is (p .before .before)) refl (long (p .before)),
     )
 
 load-requires : tie.Need-load-requires Inv-loop μ-loop
@@ -302,14 +304,24 @@ run-accepted-requires c κs =
 mul-put-five : tie.Need-mul-put-five Inv-loop μ-loop
 mul-put-five c =
     let t = c .before .before .before .before .before .before .before .before .before .before in
-    omega (arith, c .before .before .before .before .before .before .before .before .before .loop-test .taken, so-far t .going .long,
-    each (wanted (built-at t) .before) .results, start-turn t .good .1 .1 .1 .1 .1 .1 .1 .1 .0 .0)
+    omega (
+      arith,
+      c .before .before .before .before .before .before .before .before .before .loop-test .taken,
+      so-far t .going .long,
+      each (wanted (built-at t) .before) .results,
+      start-turn t .good .1 .1 .1 .1 .1 .1 .1 .1 .0 .0,
+    )
 
 put-five-requires : tie.Need-put-five-requires Inv-loop μ-loop
 put-five-requires c κs =
     let t = c .before .before .before .before .before .before .before .before .before .before in
-    omega (arith, c .before .before .before .before .before .before .before .before .before .loop-test .taken, so-far t .going .long,
-    each (wanted (built-at t) .before) .results, start-turn t .good .1 .1 .1 .1 .1 .1 .1 .1 .0 .0)
+    omega (
+      arith,
+      c .before .before .before .before .before .before .before .before .before .loop-test .taken,
+      so-far t .going .long,
+      each (wanted (built-at t) .before) .results,
+      start-turn t .good .1 .1 .1 .1 .1 .1 .1 .1 .0 .0,
+    )
 
 add-j : tie.Need-add-j Inv-loop μ-loop
 add-j c =
@@ -360,16 +372,16 @@ returns-3 c =
     let G = so-far t in
     let out = c .before .before .before .before .loop-test .left in
     let store =
-        ap (take (s .args .words)) (c .before .before .clear-from2 .ensures)
-        ∙ store-end (firstCall (given s)) (s .args .lent .now) (s .args .words) (own (p .before)) (nodes (wanted b)) (first (wanted b)) refl
-        (own-is (p .before)) refl (long p) (indexed-words b) (words-are b) _ _ _ (G .wide) (G .fits) in
+    ap (take (s .args .words)) (c .before .before .clear-from2 .ensures)
+    ∙ store-end (firstCall (given s)) (s .args .lent .now) (s .args .words) (own (p .before)) (nodes (wanted b)) (first (wanted b)) refl
+    (own-is (p .before)) refl (long p) (indexed-words b) (words-are b) _ _ _ (G .wide) (G .fits) in
     let index =
-        ap (drop (s .args .words)) (c .before .before .clear-from2 .ensures)
-        ∙ index-end (firstCall (given s)) (s .args .lent .now) (s .args .words) (own (p .before)) (nodes (wanted b)) (first (wanted b)) refl
-        (own-is (p .before)) refl (long p) (indexed-words b) (words-are b) _ _ _ (G .wide) (G .fits) in
+    ap (drop (s .args .words)) (c .before .before .clear-from2 .ensures)
+    ∙ index-end (firstCall (given s)) (s .args .lent .now) (s .args .words) (own (p .before)) (nodes (wanted b)) (first (wanted b)) refl
+    (own-is (p .before)) refl (long p) (indexed-words b) (words-are b) _ _ _ (G .wide) (G .fits) in
     let last =
-        indexed-going-last ours (each p) (spare s) (long p) _ _ _ _ (G .going) (omega (arith, G .going .few, out))
-        (omega (arith, wanted b .if2 .left, G .going .few, out)) in
+    indexed-going-last ours (each p) (spare s) (long p) _ _ _ _ (G .going) (omega (arith, G .going .few, out))
+    (omega (arith, wanted b .if2 .left, G .going .few, out)) in
     (λ z. indexedManyAtReturn (checked 0 0) (t .loop .results) (store z) (index z))
     ∙ (λ z. let u = sym last z in indexedManyAtReturn (checked 0 0) (u .results) (u .store) (u .index))
     ∙ indexed-many-ran ours (signed s) (given s) (spare s) _ (refusal-is (p .before)) (p .if1 .left)

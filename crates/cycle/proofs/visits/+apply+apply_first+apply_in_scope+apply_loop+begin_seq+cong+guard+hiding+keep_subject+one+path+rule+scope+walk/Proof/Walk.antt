@@ -1,5 +1,10 @@
 use Rattle.cycle.proofs.Walker.{Going, going-stored, going-first, going-off, going-stops, going-yes, going-no, going-fits, going-long, going-small, going-ends, ahead-ready, ahead-gives, ahead-short, placed, four-still, whole-made}
 use Rattle.cycle.proofs.Rowing.{ready-stored}
+use Rattle.meaning.specs.Rules.{apply}
+use Rattle.leaves.specs.Answers.{nodeIn, unitsIn, packed}
+use Rattle.leaves.specs.Record.{held, standing}
+use Rattle.leaves.specs.Visits.{visit, countOf, Gives}
+use Rattle.cycle.specs.Cycle.{operandFor}
 use mathlib.Core.List.{_∷_}
 use mathlib.Core.Logic.{⊎-elim}
 use lib.ListN.{length, set}
@@ -17,6 +22,82 @@ walk-Inv-loop table store₀ st₀ e s deep t u₀ kind n name ahead first won�
 abbrev pub walk-μ-loop : walk-lts.MeasureT-loop
 walk-μ-loop table store₀ st₀ e s deep t u₀ kind n name ahead first won₀ a₀ b₀ more₀ i₀ store st u won a b more i = n - i
 
+-- ---- the places that the proof speaks of, each after those before it
+
+abbrev Start : ℕ → Type 0
+Start t = walk-lts.Start (walk-calls t) (walk-at t) walk.Post walk-Inv-loop walk-μ-loop
+
+abbrev Turning : ℕ → Type 0
+Turning t = walk-lts.At-loop (walk-calls t) (walk-at t) walk.Post walk-Inv-loop walk-μ-loop
+
+abbrev Entered : ℕ → Type 0
+Entered t = walk-lts.In-loop (walk-calls t) (walk-at t) walk.Post walk-Inv-loop walk-μ-loop
+
+abbrev Fetched : ℕ → Type 0
+Fetched t = walk-lts.After-node-word2 (walk-calls t) (walk-at t) walk.Post walk-Inv-loop walk-μ-loop
+
+abbrev Attempted : ℕ → Type 0
+Attempted t = walk-lts.After-attempt-of (walk-calls t) (walk-at t) walk.Post walk-Inv-loop walk-μ-loop
+
+-- ---- what is known at each
+
+-- before each child, and after the last one
+module _ {t : ℕ} (c : Turning t) where
+  abbrev kinded : walk-lts.After-kind (walk-calls t) (walk-at t) walk.Post walk-Inv-loop walk-μ-loop
+  kinded = c .before .before .before .before .before .before .before
+
+  abbrev counted : walk-lts.After-count (walk-calls t) (walk-at t) walk.Post walk-Inv-loop walk-μ-loop
+  counted = c .before .before .before .before .before
+
+  abbrev start : Start t
+  start = kinded .before .before
+
+-- there is a child i
+module _ {t : ℕ} (c : Entered t) where
+  child : c .before .loop .i < countOf (start (c .before) .args .store .now) (nodeIn (start (c .before) .args .s))
+  child = omega (arith, counted (c .before) .count .ensures, c .loop-test .taken)
+
+-- all children are visited
+module _ {t : ℕ} (c : walk-lts.After-loop (walk-calls t) (walk-at t) walk.Post walk-Inv-loop walk-μ-loop) where
+  all : countOf (start (c .before) .args .store .now) (nodeIn (start (c .before) .args .s)) ≤ c .before .loop .i
+  all = omega (arith, counted (c .before) .count .ensures, c .loop-test .left)
+
+-- child i is in hand
+module _ {t : ℕ} (c : Fetched t) where
+  abbrev entered : Entered t
+  entered = c .before .before .before
+
+  abbrev turning : Turning t
+  turning = entered .before
+
+-- its visit has been made, with those that only lead on to it
+module _ {t : ℕ} (c : Attempted t) where
+  abbrev applied : walk-lts.After-apply (walk-calls t) (walk-at t) walk.Post walk-Inv-loop walk-μ-loop
+  applied = c .before .before .before
+
+  abbrev saved : walk-lts.After-saved-mask (walk-calls t) (walk-at t) walk.Post walk-Inv-loop walk-μ-loop
+  saved = applied .before .before .before .before .before
+
+  abbrev fetched : Fetched t
+  fetched = applied .before .before .before .before .before .before .before .before .before
+
+  abbrev at-turn : Turning t
+  at-turn = turning fetched
+
+  gives :
+      let a = start at-turn .args in
+      let l = at-turn .loop in
+      Gives (visit (a .table .now) (a .deep) (apply (operandFor (a .table .now) (a .e) (kinded at-turn .kind .result) (l .i))
+      (nodeIn (packed (fetched .node-word2 .result) (l .left))) (held (l .st))) (l .store) (standing (l .st))
+      (unitsIn (packed (fetched .node-word2 .result) (l .left)))) (l .st) (applied .apply .result) (applied .apply .last .1 .1 .0) (applied .apply .last .1 .0)
+  gives =
+      ahead-gives (start at-turn .pre .1 .0) (start at-turn .pre .1 .1) (at-turn .loop .inv .0) (child (entered fetched)) _ _
+      (at-turn .before .before .visits-ahead .ensures) (kinded at-turn .kind .ensures) (at-turn .before .entry-ahead .ensures)
+      (applied .before .before .operand .ensures) (fetched .node-word2 .ensures) (applied .before .done .ensures)
+      (omega (arith, fetched .before .before .if1 .left)) (applied .apply .ensures)
+
+-- ---- the needs
+
 pub walk-kind-requires : (t : ℕ) → walk-lts.Need-kind-requires (walk-calls t) (walk-at t) walk.Post walk-Inv-loop walk-μ-loop
 walk-kind-requires t c κs = (c .before .pre .1 .0) .inside
 
@@ -27,161 +108,133 @@ pub walk-node-word-requires : (t : ℕ) → walk-lts.Need-node-word-requires (wa
 walk-node-word-requires t c κs = (ready-stored (c .before .before .before .before .before .pre .1 .0), omega arith)
 
 pub walk-visits-ahead-requires : (t : ℕ) → walk-lts.Need-visits-ahead-requires (walk-calls t) (walk-at t) walk.Post walk-Inv-loop walk-μ-loop
-walk-visits-ahead-requires t c κs = ((c .before .before .before .before .before .before .pre .1 .0) .hints, (c .before .before .before .before .before .before .pre .1 .0) .inside)
+walk-visits-ahead-requires t c κs =
+    let s = c .before .before .before .before .before .before in
+    ((s .pre .1 .0) .hints, (s .pre .1 .0) .inside)
 
 pub walk-entry-ahead-requires : (t : ℕ) → walk-lts.Need-entry-ahead-requires (walk-calls t) (walk-at t) walk.Post walk-Inv-loop walk-μ-loop
 walk-entry-ahead-requires t c κs = (c .before .before .before .before .before .before .before .pre .1 .0) .inside
 
 pub walk-loop-holds : (t : ℕ) → walk-lts.Need-loop-holds (walk-calls t) (walk-at t) walk.Post walk-Inv-loop walk-μ-loop
-walk-loop-holds t c = (going-first _ (c .before .before .before .before .before .before .before .before .pre .1 .0) (c .before .before .node-word .ensures) (c .before .before .before .before .count .ensures) refl, refl)
+walk-loop-holds t c =
+    let s = c .before .before .before .before .before .before .before .before in
+    (going-first _ (s .pre .1 .0) (c .before .before .node-word .ensures) (c .before .before .before .before .count .ensures) refl, refl)
 
 pub walk-same-length : (t : ℕ) → walk-lts.Need-same-length (walk-calls t) (walk-at t) walk.Post walk-Inv-loop walk-μ-loop
 walk-same-length t c = (c .before .before .before .loop .inv .0) .kept .long
 
 pub walk-returns : (t : ℕ) → walk-lts.Need-returns (walk-calls t) (walk-at t) walk.Post walk-Inv-loop walk-μ-loop
 walk-returns t c =
-    let at-if1 = c .before in
-    let at-loop-test = at-if1 .before in
-    let at-loop = at-loop-test .before in
-    let at-entry-ahead = at-loop .before in
-    let at-visits-ahead = at-entry-ahead .before in
-    let at-count = at-visits-ahead .before .before .before in
-    let at-kind = at-count .before .before in
-    let start = at-kind .before .before in
-    ahead-short (start .pre .1 .0) (start .pre .1 .1) (at-loop .loop .inv .0) (omega (arith, at-count .count .ensures, at-loop-test .loop-test .taken)) _ _ (at-visits-ahead .visits-ahead .ensures) (at-kind .kind .ensures) (at-entry-ahead .entry-ahead .ensures) refl (at-if1 .if1 .taken) (c .no-units .ensures)
+    let n = c .before .before in
+    let l = n .before in
+    ahead-short (start l .pre .1 .0) (start l .pre .1 .1) (l .loop .inv .0) (child n) _ _ (l .before .before .visits-ahead .ensures)
+    (kinded l .kind .ensures) (l .before .entry-ahead .ensures) refl (c .before .if1 .taken) (c .no-units .ensures)
 
 pub walk-add-node-word : (t : ℕ) → walk-lts.Need-add-node-word (walk-calls t) (walk-at t) walk.Post walk-Inv-loop walk-μ-loop
-walk-add-node-word t c = omega (arith, c .before .before .before .before .before .before .before .before .count .ensures, c .before .before .loop-test .taken)
+walk-add-node-word t c = omega (arith, child (c .before .before))
 
 pub walk-node-word-requires-2 : (t : ℕ) → walk-lts.Need-node-word-requires-2 (walk-calls t) (walk-at t) walk.Post walk-Inv-loop walk-μ-loop
-walk-node-word-requires-2 t c κs = (going-stored (c .before .before .before .before .before .before .before .before .before .before .before .before .pre .1 .0) (c .before .before .before .loop .inv .0), omega (arith, c .before .before .before .before .before .before .before .before .count .ensures, c .before .before .loop-test .taken))
+walk-node-word-requires-2 t c κs =
+    let n = c .before .before in
+    (going-stored (start (n .before) .pre .1 .0) (n .before .loop .inv .0), omega (arith, child n))
 
 pub walk-operand-requires : (t : ℕ) → walk-lts.Need-operand-requires (walk-calls t) (walk-at t) walk.Post walk-Inv-loop walk-μ-loop
 walk-operand-requires t c κs =
-    let at-loop-test = c .before .before .before .before .before .before .before .before .before in
-    let at-count = at-loop-test .before .before .before .before .before .before in
-    let start = at-count .before .before .before .before in
-    ((start .pre .1 .0) .inside, omega (arith, at-count .count .ensures, at-loop-test .loop-test .taken))
+    let n = entered (c .before .before .before .before .before .before) in
+    ((start (n .before) .pre .1 .0) .inside, omega (arith, child n))
 
 pub walk-sub-apply : (t : ℕ) → walk-lts.Need-sub-apply (walk-calls t) (walk-at t) walk.Post walk-Inv-loop walk-μ-loop
 walk-sub-apply t c = c .before .before .before .before .before .before .before .before .before .before .before .before .before .before .visits-ahead .ensures .few
 
 pub walk-apply-requires : (t : ℕ) → walk-lts.Need-apply-requires (walk-calls t) (walk-at t) walk.Post walk-Inv-loop walk-μ-loop
 walk-apply-requires t c κs =
-    let at-operand = c .before in
-    let at-node-word2 = at-operand .before .before .before .before .before .before .before in
-    let at-loop-test = at-node-word2 .before .before .before in
-    let at-loop = at-loop-test .before in
-    let at-entry-ahead = at-loop .before in
-    let at-visits-ahead = at-entry-ahead .before in
-    let at-count = at-visits-ahead .before .before .before in
-    let at-kind = at-count .before .before in
-    let start = at-kind .before .before in
-    (omega arith, ahead-ready (start .pre .1 .0) (start .pre .1 .1) (at-loop .loop .inv .0) (omega (arith, at-count .count .ensures, at-loop-test .loop-test .taken)) _ _ (at-visits-ahead .visits-ahead .ensures) (at-kind .kind .ensures) (at-entry-ahead .entry-ahead .ensures) (at-operand .operand .ensures) (at-node-word2 .node-word2 .ensures) (c .done .ensures))
+    let f = c .before .before .before .before .before .before .before .before in
+    let l = turning f in (
+      omega (arith, start l .pre .0),
+      ahead-ready (start l .pre .1 .0) (start l .pre .1 .1) (l .loop .inv .0) (child (entered f)) _ _ (l .before .before .visits-ahead .ensures)
+          (kinded l .kind .ensures) (l .before .entry-ahead .ensures) (c .before .operand .ensures) (f .node-word2 .ensures) (c .done .ensures),
+    )
 
 pub walk-same-length-2 : (t : ℕ) → walk-lts.Need-same-length-2 (walk-calls t) (walk-at t) walk.Post walk-Inv-loop walk-μ-loop
-walk-same-length-2 t c = c .before .before .before .before .before .apply .kept .1 .0 ∙ (c .before .before .before .before .before .before .before .before .before .before .before .before .before .before .before .before .before .before .loop .inv .0) .kept .long
+walk-same-length-2 t c =
+    let r = c .before .before in
+    applied r .apply .kept .1 .0 ∙ (at-turn r .loop .inv .0) .kept .long
 
 pub walk-returns-2 : (t : ℕ) → walk-lts.Need-returns-2 (walk-calls t) (walk-at t) walk.Post walk-Inv-loop walk-μ-loop
 walk-returns-2 t c =
-    let at-attempt-of = c .before .before in
-    let at-apply = at-attempt-of .before .before .before in
-    let at-done = at-apply .before in
-    let at-operand = at-done .before in
-    let at-node-word2 = at-operand .before .before .before .before .before .before .before in
-    let at-if1 = at-node-word2 .before .before in
-    let at-loop-test = at-if1 .before in
-    let at-loop = at-loop-test .before in
-    let at-entry-ahead = at-loop .before in
-    let at-visits-ahead = at-entry-ahead .before in
-    let at-count = at-visits-ahead .before .before .before in
-    let at-kind = at-count .before .before in
-    let start = at-kind .before .before in
-    going-off (start .pre .1 .0) (start .pre .1 .1) (at-loop .loop .inv .0) (omega (arith, at-count .count .ensures, at-loop-test .loop-test .taken)) refl (at-kind .kind .ensures) (at-node-word2 .node-word2 .ensures) refl (ahead-gives (start .pre .1 .0) (start .pre .1 .1) (at-loop .loop .inv .0) (omega (arith, at-count .count .ensures, at-loop-test .loop-test .taken)) _ _ (at-visits-ahead .visits-ahead .ensures) (at-kind .kind .ensures) (at-entry-ahead .entry-ahead .ensures) (at-operand .operand .ensures) (at-node-word2 .node-word2 .ensures) (at-done .done .ensures) (omega (arith, at-if1 .if1 .left)) (at-apply .apply .ensures)) (at-attempt-of .attempt-of .ensures) (c .enum-told .given .1)
+    let r = c .before .before in
+    let l = at-turn r in
+    going-off (start l .pre .1 .0) (start l .pre .1 .1) (l .loop .inv .0) (child (entered (fetched r))) refl (kinded l .kind .ensures)
+    (fetched r .node-word2 .ensures) refl (gives r) (r .attempt-of .ensures) (c .enum-told .given .1)
 
 pub walk-same-length-3 : (t : ℕ) → walk-lts.Need-same-length-3 (walk-calls t) (walk-at t) walk.Post walk-Inv-loop walk-μ-loop
 walk-same-length-3 t c =
-    let at-apply = c .before .before .before .before .before .before .before .before in
-    let at-loop = at-apply .before .before .before .before .before .before .before .before .before .before .before .before .before in
-    at-apply .apply .kept .1 .0 ∙ (at-loop .loop .inv .0) .kept .long
+    let r = c .before .before .before .before .before in
+    applied r .apply .kept .1 .0 ∙ (at-turn r .loop .inv .0) .kept .long
 
 pub walk-returns-3 : (t : ℕ) → walk-lts.Need-returns-3 (walk-calls t) (walk-at t) walk.Post walk-Inv-loop walk-μ-loop
 walk-returns-3 t c =
-    let at-if2 = c .before in
-    let at-yes = at-if2 .before .before in
-    let at-attempt-of = at-yes .before .before in
-    let at-apply = at-attempt-of .before .before .before in
-    let at-done = at-apply .before in
-    let at-operand = at-done .before in
-    let at-node-word2 = at-operand .before .before .before .before .before .before .before in
-    let at-if1 = at-node-word2 .before .before in
-    let at-loop-test = at-if1 .before in
-    let at-loop = at-loop-test .before in
-    let at-entry-ahead = at-loop .before in
-    let at-visits-ahead = at-entry-ahead .before in
-    let at-count = at-visits-ahead .before .before .before in
-    let at-kind = at-count .before .before in
-    let start = at-kind .before .before in
-    going-stops (start .pre .1 .0) (start .pre .1 .1) (at-loop .loop .inv .0) (omega (arith, at-count .count .ensures, at-loop-test .loop-test .taken)) refl (at-kind .kind .ensures) (at-node-word2 .node-word2 .ensures) refl (ahead-gives (start .pre .1 .0) (start .pre .1 .1) (at-loop .loop .inv .0) (omega (arith, at-count .count .ensures, at-loop-test .loop-test .taken)) _ _ (at-visits-ahead .visits-ahead .ensures) (at-kind .kind .ensures) (at-entry-ahead .entry-ahead .ensures) (at-operand .operand .ensures) (at-node-word2 .node-word2 .ensures) (at-done .done .ensures) (omega (arith, at-if1 .if1 .left)) (at-apply .apply .ensures)) (at-attempt-of .attempt-of .ensures) (at-yes .yes .given .1) (at-kind .kind .ensures) (c .if3 .taken) (at-if2 .if2 .left)
+    let y = c .before .before .before in
+    let r = y .before .before in
+    let l = at-turn r in
+    going-stops (start l .pre .1 .0) (start l .pre .1 .1) (l .loop .inv .0) (child (entered (fetched r))) refl (kinded l .kind .ensures)
+    (fetched r .node-word2 .ensures) refl (gives r) (r .attempt-of .ensures) (y .yes .given .1) (kinded l .kind .ensures) (c .if3 .taken)
+    (c .before .if2 .left)
 
 pub walk-others-at-requires : (t : ℕ) → walk-lts.Need-others-at-requires (walk-calls t) (walk-at t) walk.Post walk-Inv-loop walk-μ-loop
 walk-others-at-requires t c κs =
-    let at-loop-test = c .before .before .before .before .before .before .before .before .before .before .before .before .before .before .before .before .before .before .before .before .before in
-    let at-count = at-loop-test .before .before .before .before .before .before in
-    omega (arith, at-count .count .ensures, at-loop-test .loop-test .taken)
+    let n = entered (fetched (c .before .before .before .before .before .before)) in
+    omega (arith, child n)
 
 pub walk-add-i : (t : ℕ) → walk-lts.Need-add-i (walk-calls t) (walk-at t) walk.Post walk-Inv-loop walk-μ-loop
 walk-add-i t c =
-    let at-loop-test = c .before .before .before .before .before .before .before .before .before .before .before .before .before .before .before .before .before .before .before .before .before .before in
-    let at-count = at-loop-test .before .before .before .before .before .before in
-    omega (arith, at-count .count .ensures, at-loop-test .loop-test .taken)
+    let n = entered (fetched (c .before .before .before .before .before .before .before)) in
+    omega (arith, child n)
 
 pub walk-loop-less : (t : ℕ) → walk-lts.Need-loop-less (walk-calls t) (walk-at t) walk.Post walk-Inv-loop walk-μ-loop
-walk-loop-less t c = omega (arith, c .before .before .before .before .before .before .before .before .before .before .before .before .before .before .before .before .before .before .before .before .before .before .loop-test .taken)
+walk-loop-less t c = omega (arith, entered (fetched (c .before .before .before .before .before .before .before)) .loop-test .taken)
 
 pub walk-loop-again : (t : ℕ) → walk-lts.Need-loop-again (walk-calls t) (walk-at t) walk.Post walk-Inv-loop walk-μ-loop
 walk-loop-again t c =
-    let at-child2 = c .before in
-    let at-child = at-child2 .before in
-    let at-if2 = at-child .before in
-    let at-yes = at-if2 .before .before in
-    let at-attempt-of = at-yes .before .before in
-    let at-apply = at-attempt-of .before .before .before in
-    let at-done = at-apply .before in
-    let at-operand = at-done .before in
-    let at-saved-mask = at-operand .before .before .before in
-    let at-saved-mark = at-saved-mask .before .before in
-    let at-node-word2 = at-saved-mark .before .before in
-    let at-if1 = at-node-word2 .before .before in
-    let at-loop-test = at-if1 .before in
-    let at-loop = at-loop-test .before in
-    let at-entry-ahead = at-loop .before in
-    let at-visits-ahead = at-entry-ahead .before in
-    let at-count = at-visits-ahead .before .before .before in
-    let at-kind = at-count .before .before in
-    let start = at-kind .before .before in
-    (⊎-elim (λ j. going-yes (start .pre .1 .0) (start .pre .1 .1) (at-loop .loop .inv .0) (omega (arith, at-count .count .ensures, at-loop-test .loop-test .taken)) refl (at-kind .kind .ensures) (at-node-word2 .node-word2 .ensures) refl (ahead-gives (start .pre .1 .0) (start .pre .1 .1) (at-loop .loop .inv .0) (omega (arith, at-count .count .ensures, at-loop-test .loop-test .taken)) _ _ (at-visits-ahead .visits-ahead .ensures) (at-kind .kind .ensures) (at-entry-ahead .entry-ahead .ensures) (at-operand .operand .ensures) (at-node-word2 .node-word2 .ensures) (at-done .done .ensures) (omega (arith, at-if1 .if1 .left)) (at-apply .apply .ensures)) (at-attempt-of .attempt-of .ensures) (at-yes .yes .given .1) (j .0 .taken) (j .1) (j .2) (placed (at-loop .loop .i) _ _ _ (at-loop .loop .a) (at-loop .loop .b) (at-loop .loop .others) (at-child .child-at .ensures) (at-child2 .child-at2 .ensures) (c .others-at .ensures) (j .3))) (λ j. going-no (start .pre .1 .0) (start .pre .1 .1) (at-loop .loop .inv .0) (omega (arith, at-count .count .ensures, at-loop-test .loop-test .taken)) refl (at-kind .kind .ensures) (at-node-word2 .node-word2 .ensures) refl (ahead-gives (start .pre .1 .0) (start .pre .1 .1) (at-loop .loop .inv .0) (omega (arith, at-count .count .ensures, at-loop-test .loop-test .taken)) _ _ (at-visits-ahead .visits-ahead .ensures) (at-kind .kind .ensures) (at-entry-ahead .entry-ahead .ensures) (at-operand .operand .ensures) (at-node-word2 .node-word2 .ensures) (at-done .done .ensures) (omega (arith, at-if1 .if1 .left)) (at-apply .apply .ensures)) (at-attempt-of .attempt-of .ensures) (at-yes .yes .given .1) (j .0 .left) (at-kind .kind .ensures) (j .1 .left) (at-saved-mark .saved-mark .ensures) (at-saved-mask .saved-mask .ensures) (j .4 ∙ j .3 .ensures) (j .5) (placed (at-loop .loop .i) _ _ _ (at-loop .loop .a) (at-loop .loop .b) (at-loop .loop .others) (at-child .child-at .ensures) (at-child2 .child-at2 .ensures) (c .others-at .ensures) (j .6))) (at-if2 .if2 .came), four-still (at-loop .loop .others) (at-loop .loop .i) (at-if2 .if2 .y) (at-loop .loop .inv .1) (c .others-at .ensures))
+    let two = c .before in
+    let one = two .before in
+    let joined = one .before in
+    let y = joined .before .before in
+    let r = y .before .before in
+    let f = fetched r in
+    let l = turning f in (
+      ⊎-elim
+          (λ j.
+          going-yes (start l .pre .1 .0) (start l .pre .1 .1) (l .loop .inv .0) (child (entered f)) refl (kinded l .kind .ensures) (f .node-word2 .ensures)
+          refl (gives r) (r .attempt-of .ensures) (y .yes .given .1) (j .0 .taken) (j .1) (j .2)
+          (placed (l .loop .i) _ _ _ (l .loop .a) (l .loop .b) (l .loop .others) (one .child-at .ensures) (two .child-at2 .ensures) (c .others-at .ensures) (j .3)))
+          (λ j.
+          going-no (start l .pre .1 .0) (start l .pre .1 .1) (l .loop .inv .0) (child (entered f)) refl (kinded l .kind .ensures) (f .node-word2 .ensures)
+          refl (gives r) (r .attempt-of .ensures) (y .yes .given .1) (j .0 .left) (kinded l .kind .ensures) (j .1 .left)
+          (saved r .before .before .saved-mark .ensures) (saved r .saved-mask .ensures) (j .4 ∙ j .3 .ensures) (j .5)
+          (placed (l .loop .i) _ _ _ (l .loop .a) (l .loop .b) (l .loop .others) (one .child-at .ensures) (two .child-at2 .ensures) (c .others-at .ensures) (j .6)))
+          (joined .if2 .came),
+      four-still (l .loop .others) (l .loop .i) (joined .if2 .y) (l .loop .inv .1) (c .others-at .ensures),
+    )
 
 pub walk-finish-requires : (t : ℕ) → walk-lts.Need-finish-requires (walk-calls t) (walk-at t) walk.Post walk-Inv-loop walk-μ-loop
 walk-finish-requires t c κs =
-    let at-loop-test = c .before .before in
-    let at-loop = at-loop-test .before in
-    let at-count = at-loop .before .before .before .before .before in
-    let start = at-count .before .before .before .before in
-    (going-fits (start .pre .1 .0) (start .pre .1 .1) (at-loop .loop .inv .0) (omega (arith, at-count .count .ensures, at-loop-test .loop-test .left)), going-long (start .pre .1 .0) (start .pre .1 .1) (at-loop .loop .inv .0) (omega (arith, at-count .count .ensures, at-loop-test .loop-test .left)), going-small (start .pre .1 .0) (start .pre .1 .1) (at-loop .loop .inv .0) (omega (arith, at-count .count .ensures, at-loop-test .loop-test .left)))
+    let l = c .before .before .before in (
+      going-fits (start l .pre .1 .0) (start l .pre .1 .1) (l .loop .inv .0) (all (c .before .before)),
+      going-long (start l .pre .1 .0) (start l .pre .1 .1) (l .loop .inv .0) (all (c .before .before)),
+      going-small (start l .pre .1 .0) (start l .pre .1 .1) (l .loop .inv .0) (all (c .before .before)),
+    )
 
 pub walk-same-length-4 : (t : ℕ) → walk-lts.Need-same-length-4 (walk-calls t) (walk-at t) walk.Post walk-Inv-loop walk-μ-loop
 walk-same-length-4 t c = c .before .before .finish .kept .0 ∙ (c .before .before .before .before .before .before .loop .inv .0) .kept .long
 
 pub walk-returns-4 : (t : ℕ) → walk-lts.Need-returns-4 (walk-calls t) (walk-at t) walk.Post walk-Inv-loop walk-μ-loop
 walk-returns-4 t c =
-    let at-finish = c .before .before in
-    let at-loop-test = at-finish .before .before .before in
-    let at-loop = at-loop-test .before in
-    let at-count = at-loop .before .before .before .before .before in
-    let at-kind = at-count .before .before in
-    let start = at-kind .before .before in
-    going-ends (start .pre .1 .0) (start .pre .1 .1) (at-loop .loop .inv .0) (omega (arith, at-count .count .ensures, at-loop-test .loop-test .left)) (at-kind .kind .ensures) (at-count .count .ensures) (whole-made _ _ _ _ _ _ _ _ _ _ _ _ _ _ (at-loop .loop .inv .1) (at-finish .finish .ensures))
+    let f = c .before .before in
+    let l = f .before .before .before .before in
+    going-ends (start l .pre .1 .0) (start l .pre .1 .1) (l .loop .inv .0)
+    (all (f .before .before .before)) (kinded l .kind .ensures) (counted l .count .ensures)
+    (whole-made _ _ _ _ _ _ _ _ _ _ _ _ _ _ (l .loop .inv .1) (f .finish .ensures))
 
 pub walk-closed : {M : Type 1} (t : ℕ) → walk-lts.Closed (walk-calls t) (walk-at t) walk.Post M
 walk-closed t =
