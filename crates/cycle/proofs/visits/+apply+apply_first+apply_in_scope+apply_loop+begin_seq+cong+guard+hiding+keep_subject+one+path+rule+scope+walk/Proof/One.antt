@@ -4,7 +4,7 @@ use mathlib.Core.Path.{refl, _∙_}
 use Rattle.cycle.proofs.Descending.{Trying, stored-one, one-begins, ready-one, gives-one-short, gives-one-off, fits-one, gives-one, one-again, gives-one-none}
 use Rattle.leaves.proofs.Storing.{steady-stored}
 use Rattle.cycle.proofs.Rowing.{ready-stored}
-use Prim.Native.Nat.{ℕ, _-_}
+use Prim.Native.Nat.{ℕ, _-_, _≤_}
 use borrow.Author.Needs.{needs}
 use native.Mathlib.Omega.{arith}
 use Rattle.cycle.proofs.visits.one.Reads as one
@@ -17,117 +17,159 @@ one-Inv-loop table store₀ st₀ e s deep t u₀ n mark mask ahead op i₀ stor
 abbrev pub one-μ-loop : one-lts.MeasureT-loop
 one-μ-loop table store₀ st₀ e s deep t u₀ n mark mask ahead op i₀ store st u i = n - i
 
+-- ---- the places that the proof speaks of, each after those before it
+
+abbrev Start : ℕ → Type 0
+Start t = one-lts.Start (one-calls t) (one-at t) one.Post one-Inv-loop one-μ-loop
+
+abbrev Turning : ℕ → Type 0
+Turning t = one-lts.At-loop (one-calls t) (one-at t) one.Post one-Inv-loop one-μ-loop
+
+abbrev Entered : ℕ → Type 0
+Entered t = one-lts.Else1 (one-calls t) (one-at t) one.Post one-Inv-loop one-μ-loop
+
+abbrev Attempted : ℕ → Type 0
+Attempted t = one-lts.After-attempt-of (one-calls t) (one-at t) one.Post one-Inv-loop one-μ-loop
+
+abbrev Ended : ℕ → Type 0
+Ended t = one-lts.After-known-told (one-calls t) (one-at t) one.Post one-Inv-loop one-μ-loop
+
+-- before each child, and after the last one
+module _ {t : ℕ} (c : Turning t) where
+  abbrev ahead : one-lts.After-visits-ahead (one-calls t) (one-at t) one.Post one-Inv-loop one-μ-loop
+  ahead = c .before .before
+
+  abbrev start : Start t
+  start = ahead .before .before .before .before .before .before .before
+
+-- there is a child, and units for the visits that only lead on to it
+module _ {t : ℕ} (c : Entered t) where
+  abbrev turning : Turning t
+  turning = c .before .before
+
+-- the visit of the child has been made
+module _ {t : ℕ} (c : Attempted t) where
+  abbrev applied : one-lts.After-apply-loop (one-calls t) (one-at t) one.Post one-Inv-loop one-μ-loop
+  applied = c .before .before .before
+
+  abbrev fetched : one-lts.After-node-word (one-calls t) (one-at t) one.Post one-Inv-loop one-μ-loop
+  fetched = applied .before .before
+
+  abbrev entered : Entered t
+  entered = fetched .before .before .before .before
+
+  abbrev at-turn : Turning t
+  at-turn = turning entered
+
+  enough : ahead at-turn .visits-ahead .result ≤ at-turn .loop .left
+  enough = omega (arith, entered .if1 .left)
+
+-- it ended, as it told
+module _ {t : ℕ} (c : Ended t) where
+  abbrev attempted : Attempted t
+  attempted = c .before .before .before
+
+-- ---- the needs
+
 pub one-count-requires : (t : ℕ) → one-lts.Need-count-requires (one-calls t) (one-at t) one.Post one-Inv-loop one-μ-loop
 one-count-requires t c κs = ready-stored (c .before .before .pre .1 .0)
 
 pub one-visits-ahead-requires : (t : ℕ) → one-lts.Need-visits-ahead-requires (one-calls t) (one-at t) one.Post one-Inv-loop one-μ-loop
-one-visits-ahead-requires t c κs = let start = c .before .before .before .before .before .before in ((start .pre .1 .0) .hints, (start .pre .1 .0) .inside)
+one-visits-ahead-requires t c κs =
+    let s = c .before .before .before .before .before .before in
+    ((s .pre .1 .0) .hints, (s .pre .1 .0) .inside)
 
 pub one-entry-ahead-requires : (t : ℕ) → one-lts.Need-entry-ahead-requires (one-calls t) (one-at t) one.Post one-Inv-loop one-μ-loop
 one-entry-ahead-requires t c κs = (c .before .before .before .before .before .before .before .pre .1 .0) .inside
 
 pub one-loop-holds : (t : ℕ) → one-lts.Need-loop-holds (one-calls t) (one-at t) one.Post one-Inv-loop one-μ-loop
-one-loop-holds t c = one-begins _ (c .before .before .before .before .before .before .before .before .pre .1 .0) (c .before .before .before .before .before .before .before .before .pre .1 .1) (c .before .before .before .before .before .count .ensures)
+one-loop-holds t c =
+    let s = c .before .before .before .before .before .before .before .before in
+    one-begins _ (s .pre .1 .0) (s .pre .1 .1) (c .before .before .before .before .before .count .ensures)
 
 pub one-returns : (t : ℕ) → one-lts.Need-returns (one-calls t) (one-at t) one.Post one-Inv-loop one-μ-loop
 one-returns t c =
-    let at-if1 = c .before in
-    let at-loop-test = at-if1 .before in
-    let at-loop = at-loop-test .before in
-    let at-entry-ahead = at-loop .before in
-    let at-visits-ahead = at-entry-ahead .before in
-    let start = at-visits-ahead .before .before .before .before .before .before .before in
-    gives-one-short _ (start .pre .1 .0) (at-loop .loop .inv) (at-loop-test .loop-test .taken) (start .pre .1 .1) (at-visits-ahead .visits-ahead .ensures) (at-entry-ahead .entry-ahead .ensures) refl (at-if1 .if1 .taken) (c .no-units .ensures)
+    let l = c .before .before .before in
+    gives-one-short _ (start l .pre .1 .0) (l .loop .inv) (c .before .before .loop-test .taken) (start l .pre .1 .1) (ahead l .visits-ahead .ensures)
+    (l .before .entry-ahead .ensures) refl (c .before .if1 .taken) (c .no-units .ensures)
 
 pub one-node-word-requires : (t : ℕ) → one-lts.Need-node-word-requires (one-calls t) (one-at t) one.Post one-Inv-loop one-μ-loop
-one-node-word-requires t c κs = (steady-stored (c .before .before .before .before .before .loop .inv .steady) _ (c .before .before .before .before .before .before .before .before .before .before .before .before .before .before .pre .1 .0 .subject), omega (arith, c .before .before .before .before .before .loop .inv .count, c .before .before .before .before .loop-test .taken))
+one-node-word-requires t c κs =
+    let n = c .before .before .before .before in
+    let l = n .before in
+    (steady-stored (l .loop .inv .steady) _ (start l .pre .1 .0 .subject), omega (arith, l .loop .inv .count, n .loop-test .taken))
 
 pub one-sub-apply-loop : (t : ℕ) → one-lts.Need-sub-apply-loop (one-calls t) (one-at t) one.Post one-Inv-loop one-μ-loop
 one-sub-apply-loop t c = c .before .before .before .before .before .before .before .before .before .visits-ahead .ensures .few
 
 pub one-apply-loop-requires : (t : ℕ) → one-lts.Need-apply-loop-requires (one-calls t) (one-at t) one.Post one-Inv-loop one-μ-loop
 one-apply-loop-requires t c κs =
-    let at-node-word = c .before in
-    let at-if1 = at-node-word .before .before .before .before in
-    let at-loop-test = at-if1 .before in
-    let at-loop = at-loop-test .before in
-    let at-entry-ahead = at-loop .before in
-    let at-visits-ahead = at-entry-ahead .before in
-    let start = at-visits-ahead .before .before .before .before .before .before .before in
-    (omega arith, ready-one (start .args .deep) (start .pre .1 .0) (at-loop .loop .inv) (at-loop-test .loop-test .taken) (start .pre .1 .1) (at-visits-ahead .visits-ahead .ensures) (at-entry-ahead .entry-ahead .ensures) (at-node-word .node-word .ensures) (omega (arith, at-if1 .if1 .left)) (c .done .ensures))
+    let n = c .before .before .before .before .before in
+    let l = turning n in (
+      omega (arith, start l .pre .0),
+      ready-one (start l .args .deep) (start l .pre .1 .0) (l .loop .inv) (n .before .loop-test .taken) (start l .pre .1 .1) (ahead l .visits-ahead .ensures)
+          (l .before .entry-ahead .ensures) (c .before .node-word .ensures) (omega (arith, n .if1 .left)) (c .done .ensures),
+    )
 
 pub one-returns-2 : (t : ℕ) → one-lts.Need-returns-2 (one-calls t) (one-at t) one.Post one-Inv-loop one-μ-loop
 one-returns-2 t c =
-    let at-attempt-of = c .before .before in
-    let at-apply-loop = at-attempt-of .before .before .before in
-    let at-done = at-apply-loop .before in
-    let at-node-word = at-done .before in
-    let at-if1 = at-node-word .before .before .before .before in
-    let at-loop-test = at-if1 .before in
-    let at-loop = at-loop-test .before in
-    let at-entry-ahead = at-loop .before in
-    let at-visits-ahead = at-entry-ahead .before in
-    let start = at-visits-ahead .before .before .before .before .before .before .before in
-    gives-one-off _ (start .pre .1 .0) (at-loop .loop .inv) (at-loop-test .loop-test .taken) (start .pre .1 .1) (at-visits-ahead .visits-ahead .ensures) (at-entry-ahead .entry-ahead .ensures) (at-node-word .node-word .ensures) (omega (arith, at-if1 .if1 .left)) (at-done .done .ensures) (at-apply-loop .apply-loop .ensures) (at-attempt-of .attempt-of .ensures) (c .enum-told .given .1)
+    let r = c .before .before in
+    let l = at-turn r in
+    gives-one-off _ (start l .pre .1 .0) (l .loop .inv) (entered r .before .loop-test .taken) (start l .pre .1 .1) (ahead l .visits-ahead .ensures)
+    (l .before .entry-ahead .ensures) (fetched r .node-word .ensures) (enough r) (applied r .before .done .ensures) (applied r .apply-loop .ensures)
+    (r .attempt-of .ensures) (c .enum-told .given .1)
 
 pub one-row-requires : (t : ℕ) → one-lts.Need-row-requires (one-calls t) (one-at t) one.Post one-Inv-loop one-μ-loop
-one-row-requires t c κs = stored-one (c .before .before .before .before .before .before .before .before .before .before .before .before .before .before .before .before .before .before .before .before .before .before .before .before .before .args .deep) (c .before .before .before .before .before .before .before .before .before .before .before .before .before .before .before .before .before .before .before .before .before .before .before .before .before .pre .1 .0) (c .before .before .before .before .before .before .before .before .before .before .before .before .before .before .before .before .loop .inv) (c .before .before .before .before .before .before .before .before .before .before .before .before .before .before .before .loop-test .taken) (c .before .before .before .before .before .before .before .before .before .before .before .before .before .before .before .before .before .before .before .before .before .before .before .before .before .pre .1 .1) (c .before .before .before .before .before .before .before .before .before .before .before .before .before .before .before .before .before .before .visits-ahead .ensures) (c .before .before .before .before .before .before .before .before .before .before .before .before .before .before .before .before .before .entry-ahead .ensures) (c .before .before .before .before .before .before .before .before .before .before .node-word .ensures) (omega (arith, c .before .before .before .before .before .before .before .before .before .before .before .before .before .before .if1 .left)) (c .before .before .before .before .before .before .before .before .before .done .ensures) (c .before .before .before .before .before .before .before .before .apply-loop .ensures) (c .before .before .before .before .before .attempt-of .ensures) (c .before .before .before .yes .given .1) (c .before .if2 .taken)
+one-row-requires t c κs =
+    let d = c .before .before in
+    let r = attempted d in
+    let l = at-turn r in
+    stored-one (start l .args .deep) (start l .pre .1 .0) (l .loop .inv) (entered r .before .loop-test .taken) (start l .pre .1 .1)
+    (ahead l .visits-ahead .ensures) (l .before .entry-ahead .ensures) (fetched r .node-word .ensures) (enough r) (applied r .before .done .ensures)
+    (applied r .apply-loop .ensures) (r .attempt-of .ensures) (d .before .yes .given .1) (c .before .if2 .taken)
 
 pub one-node-requires : (t : ℕ) → one-lts.Need-node-requires (one-calls t) (one-at t) one.Post one-Inv-loop one-μ-loop
 one-node-requires t c κs =
-    let at-if2 = c .before .before .before .before in
-    let at-yes = at-if2 .before .before in
-    let at-attempt-of = at-yes .before .before in
-    let at-apply-loop = at-attempt-of .before .before .before in
-    let at-done = at-apply-loop .before in
-    let at-node-word = at-done .before in
-    let at-if1 = at-node-word .before .before .before .before in
-    let at-loop-test = at-if1 .before in
-    let at-loop = at-loop-test .before in
-    let at-entry-ahead = at-loop .before in
-    let at-visits-ahead = at-entry-ahead .before in
-    let start = at-visits-ahead .before .before .before .before .before .before .before in
-    (fits-one (start .args .deep) (start .pre .1 .0) (at-loop .loop .inv) (at-loop-test .loop-test .taken) (start .pre .1 .1) (at-visits-ahead .visits-ahead .ensures) (at-entry-ahead .entry-ahead .ensures) (at-node-word .node-word .ensures) (omega (arith, at-if1 .if1 .left)) (at-done .done .ensures) (at-apply-loop .apply-loop .ensures) (at-attempt-of .attempt-of .ensures) (at-yes .yes .given .1) (at-if2 .if2 .taken), at-apply-loop .apply-loop .ensures .frame .long ∙ at-loop .loop .inv .wide ∙ start .pre .1 .0 .long)
+    let did = c .before .before .before .before in
+    let d = did .before in
+    let r = attempted d in
+    let l = at-turn r in (
+      fits-one (start l .args .deep) (start l .pre .1 .0) (l .loop .inv) (entered r .before .loop-test .taken) (start l .pre .1 .1)
+          (ahead l .visits-ahead .ensures) (l .before .entry-ahead .ensures) (fetched r .node-word .ensures) (enough r) (applied r .before .done .ensures)
+          (applied r .apply-loop .ensures) (r .attempt-of .ensures) (d .before .yes .given .1) (did .if2 .taken),
+      applied r .apply-loop .ensures .frame .long ∙ l .loop .inv .wide ∙ start l .pre .1 .0 .long,
+    )
 
 pub one-returns-3 : (t : ℕ) → one-lts.Need-returns-3 (one-calls t) (one-at t) one.Post one-Inv-loop one-μ-loop
 one-returns-3 t c =
-    let at-node = c .before .before in
-    let at-row = at-node .before .before .before in
-    let at-if2 = at-row .before .before in
-    let at-yes = at-if2 .before .before in
-    let at-attempt-of = at-yes .before .before in
-    let at-apply-loop = at-attempt-of .before .before .before in
-    let at-done = at-apply-loop .before in
-    let at-node-word = at-done .before in
-    let at-if1 = at-node-word .before .before .before .before in
-    let at-loop-test = at-if1 .before in
-    let at-loop = at-loop-test .before in
-    let at-entry-ahead = at-loop .before in
-    let at-visits-ahead = at-entry-ahead .before in
-    let start = at-visits-ahead .before .before .before .before .before .before .before in
-    gives-one _ (start .pre .1 .0) (at-loop .loop .inv) (at-loop-test .loop-test .taken) (start .pre .1 .1) (at-visits-ahead .visits-ahead .ensures) (at-entry-ahead .entry-ahead .ensures) (at-node-word .node-word .ensures) (omega (arith, at-if1 .if1 .left)) (at-done .done .ensures) (at-apply-loop .apply-loop .ensures) (at-attempt-of .attempt-of .ensures) (at-yes .yes .given .1) (at-if2 .if2 .taken) (at-row .row .ensures) (at-node .node .ensures)
+    let made = c .before .before in
+    let row = made .before .before .before in
+    let did = row .before .before in
+    let d = did .before in
+    let r = attempted d in
+    let l = at-turn r in
+    gives-one _ (start l .pre .1 .0) (l .loop .inv) (entered r .before .loop-test .taken) (start l .pre .1 .1) (ahead l .visits-ahead .ensures)
+    (l .before .entry-ahead .ensures) (fetched r .node-word .ensures) (enough r) (applied r .before .done .ensures) (applied r .apply-loop .ensures)
+    (r .attempt-of .ensures) (d .before .yes .given .1) (did .if2 .taken) (row .row .ensures) (made .node .ensures)
 
 pub one-loop-less : (t : ℕ) → one-lts.Need-loop-less (one-calls t) (one-at t) one.Post one-Inv-loop one-μ-loop
-one-loop-less t c = omega (arith, c .before .before .before .before .before .before .before .before .before .before .before .before .before .before .before .before .loop-test .taken)
+one-loop-less t c = omega (arith, entered (attempted (c .before .before .before)) .before .loop-test .taken)
 
 pub one-loop-again : (t : ℕ) → one-lts.Need-loop-again (one-calls t) (one-at t) one.Post one-Inv-loop one-μ-loop
 one-loop-again t c =
-    let at-if2 = c .before .before in
-    let at-yes = at-if2 .before .before in
-    let at-attempt-of = at-yes .before .before in
-    let at-apply-loop = at-attempt-of .before .before .before in
-    let at-done = at-apply-loop .before in
-    let at-node-word = at-done .before in
-    let at-if1 = at-node-word .before .before .before .before in
-    let at-loop-test = at-if1 .before in
-    let at-loop = at-loop-test .before in
-    let at-entry-ahead = at-loop .before in
-    let at-visits-ahead = at-entry-ahead .before in
-    let start = at-visits-ahead .before .before .before .before .before .before .before in
-    rw (c .restore .ensures, at-visits-ahead .before .mask-of .ensures) (one-again _ (start .pre .1 .0) (at-loop .loop .inv) (at-loop-test .loop-test .taken) (start .pre .1 .1) (at-visits-ahead .visits-ahead .ensures) (at-entry-ahead .entry-ahead .ensures) (at-node-word .node-word .ensures) (omega (arith, at-if1 .if1 .left)) (at-done .done .ensures) (at-apply-loop .apply-loop .ensures) (at-attempt-of .attempt-of .ensures) (at-yes .yes .given .1) (at-if2 .if2 .left))
+    let not = c .before .before in
+    let d = not .before in
+    let r = attempted d in
+    let l = at-turn r in
+    rw (c .restore .ensures, ahead l .before .mask-of .ensures)
+    (one-again _ (start l .pre .1 .0) (l .loop .inv) (entered r .before .loop-test .taken) (start l .pre .1 .1) (ahead l .visits-ahead .ensures)
+    (l .before .entry-ahead .ensures) (fetched r .node-word .ensures) (enough r) (applied r .before .done .ensures) (applied r .apply-loop .ensures)
+    (r .attempt-of .ensures) (d .before .yes .given .1) (not .if2 .left))
 
 pub one-returns-4 : (t : ℕ) → one-lts.Need-returns-4 (one-calls t) (one-at t) one.Post one-Inv-loop one-μ-loop
-one-returns-4 t c = gives-one-none _ (c .before .before .before .before .before .before .before .before .before .before .before .pre .1 .0) (c .before .before .loop .inv) (c .before .loop-test .left) (c .failure .ensures)
+one-returns-4 t c =
+    let l = c .before .before in
+    gives-one-none _ (start l .pre .1 .0) (l .loop .inv) (c .before .loop-test .left) (c .failure .ensures)
 
 pub one-closed : {M : Type 1} (t : ℕ) → one-lts.Closed (one-calls t) (one-at t) one.Post M
 one-closed t =
