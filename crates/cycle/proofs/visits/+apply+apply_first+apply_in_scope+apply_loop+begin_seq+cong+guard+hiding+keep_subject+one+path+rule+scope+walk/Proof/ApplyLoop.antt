@@ -18,6 +18,27 @@ apply-loop-Inv-loop table store₀ st₀ start given deep e₀ s₀ d₀ store s
 abbrev pub apply-loop-μ-loop : apply-loop-lts.MeasureT-loop
 apply-loop-μ-loop table store₀ st₀ start given deep e₀ s₀ d₀ store st e s d = d
 
+-- ---- the places that the proof speaks of
+
+abbrev Kinded : ℕ → Type 0
+Kinded t = apply-loop-lts.After-kind (apply-loop-calls t) (apply-loop-at t) apply-loop.Post apply-loop-Inv-loop apply-loop-μ-loop
+
+-- there are units and nesting for the visit, and its kind is read
+module _ {t : ℕ} (c : Kinded t) where
+  abbrev nested : apply-loop-lts.Else2 (apply-loop-calls t) (apply-loop-at t) apply-loop.Post apply-loop-Inv-loop apply-loop-μ-loop
+  nested = c .before
+
+  abbrev paid : apply-loop-lts.Else1 (apply-loop-calls t) (apply-loop-at t) apply-loop.Post apply-loop-Inv-loop apply-loop-μ-loop
+  paid = nested .before
+
+  abbrev turn : apply-loop-lts.At-loop (apply-loop-calls t) (apply-loop-at t) apply-loop.Post apply-loop-Inv-loop apply-loop-μ-loop
+  turn = paid .before
+
+  abbrev start : apply-loop-lts.Start (apply-loop-calls t) (apply-loop-at t) apply-loop.Post apply-loop-Inv-loop apply-loop-μ-loop
+  start = turn .before .before
+
+-- ---- the needs
+
 pub apply-loop-loop-holds : (t : ℕ) → apply-loop-lts.Need-loop-holds (apply-loop-calls t) (apply-loop-at t) apply-loop.Post apply-loop-Inv-loop apply-loop-μ-loop
 apply-loop-loop-holds t c = first-turn _ (c .before .pre .1) (c .before .fits .given .fits)
 
@@ -48,12 +69,8 @@ apply-loop-entry-requires t c κs = ((c .before .before .before .before .before 
 pub apply-loop-begin-seq-requires : (t : ℕ) → apply-loop-lts.Need-begin-seq-requires (apply-loop-calls t) (apply-loop-at t) apply-loop.Post apply-loop-Inv-loop apply-loop-μ-loop
 apply-loop-begin-seq-requires t c κs =
     let at-match = c .before .before .before in
-    let at-kind = at-match .before in
-    let at-if2 = at-kind .before in
-    let at-if1 = at-if2 .before in
-    let at-loop = at-if1 .before in
-    let start = at-loop .before .before in
-    (omega (arith, (at-loop .loop .inv) .deeper, pos _ (at-if2 .if2 .left), start .pre .0), ready-next (at-loop .loop .inv) (at-if1 .if1 .left) (at-if2 .if2 .left) (λ z. omega (arith, at-kind .kind .ensures, at-match .match .keys1, z)) 0 _ (omega arith) (c .entry .ensures))
+    let k = at-match .before in
+    (omega (arith, (turn k .loop .inv) .deeper, pos _ (nested k .if2 .left), start k .pre .0), ready-next (turn k .loop .inv) (paid k .if1 .left) (nested k .if2 .left) (λ z. omega (arith, k .kind .ensures, at-match .match .keys1, z)) 0 _ (omega arith) (c .entry .ensures))
 
 pub apply-loop-same-length-3 : (t : ℕ) → apply-loop-lts.Need-same-length-3 (apply-loop-calls t) (apply-loop-at t) apply-loop.Post apply-loop-Inv-loop apply-loop-μ-loop
 apply-loop-same-length-3 t c = c .before .before .before .before .begin-seq .kept .1 .0 ∙ (c .before .before .before .before .before .before .before .before .before .before .before .before .loop .inv) .long
@@ -64,11 +81,8 @@ apply-loop-returns-3 t c =
     let at-begin-seq = at-answer-of .before .before .before in
     let at-entry = at-begin-seq .before in
     let at-match = at-entry .before .before .before in
-    let at-kind = at-match .before in
-    let at-if2 = at-kind .before in
-    let at-if1 = at-if2 .before in
-    let at-loop = at-if1 .before in
-    seq-returns (at-loop .loop .inv) (at-if1 .if1 .left) (at-if2 .if2 .left) (at-entry .entry .ensures) (at-begin-seq .begin-seq .ensures) (at-answer-of .answer-of .ensures) refl (sym (at-kind .kind .ensures) ∙ at-match .match .keys1) (c .match2 .keys2)
+    let k = at-match .before in
+    seq-returns (turn k .loop .inv) (paid k .if1 .left) (nested k .if2 .left) (at-entry .entry .ensures) (at-begin-seq .begin-seq .ensures) (at-answer-of .answer-of .ensures) refl (sym (k .kind .ensures) ∙ at-match .match .keys1) (c .match2 .keys2)
 
 pub apply-loop-entry-requires-2 : (t : ℕ) → apply-loop-lts.Need-entry-requires-2 (apply-loop-calls t) (apply-loop-at t) apply-loop.Post apply-loop-Inv-loop apply-loop-μ-loop
 apply-loop-entry-requires-2 t c κs = ((c .before .before .before .before .before .before .before .before .before .before .before .before .before .loop .inv) .ready .inside, omega arith)
@@ -83,21 +97,14 @@ apply-loop-loop-again t c =
     let at-begin-seq = at-answer-of .before .before .before in
     let at-entry = at-begin-seq .before in
     let at-match = at-entry .before .before .before in
-    let at-kind = at-match .before in
-    let at-if2 = at-kind .before in
-    let at-if1 = at-if2 .before in
-    let at-loop = at-if1 .before in
-    seq-turn (at-loop .loop .inv) (at-if1 .if1 .left) (at-if2 .if2 .left) (at-entry .entry .ensures) (at-begin-seq .begin-seq .ensures) (at-answer-of .answer-of .ensures) (c .entry2 .ensures) (sym (at-kind .kind .ensures) ∙ at-match .match .keys1) (at-enum-told .enum-told .given .1) (at-begin-seq .begin-seq .kept .1 .0)
+    let k = at-match .before in
+    seq-turn (turn k .loop .inv) (paid k .if1 .left) (nested k .if2 .left) (at-entry .entry .ensures) (at-begin-seq .begin-seq .ensures) (at-answer-of .answer-of .ensures) (c .entry2 .ensures) (sym (k .kind .ensures) ∙ at-match .match .keys1) (at-enum-told .enum-told .given .1) (at-begin-seq .begin-seq .kept .1 .0)
 
 pub apply-loop-cong-requires : (t : ℕ) → apply-loop-lts.Need-cong-requires (apply-loop-calls t) (apply-loop-at t) apply-loop.Post apply-loop-Inv-loop apply-loop-μ-loop
 apply-loop-cong-requires t c κs =
     let at-match = c .before .before in
-    let at-kind = at-match .before in
-    let at-if2 = at-kind .before in
-    let at-if1 = at-if2 .before in
-    let at-loop = at-if1 .before in
-    let start = at-loop .before .before in
-    (omega (arith, (at-loop .loop .inv) .deeper, pos _ (at-if2 .if2 .left), start .pre .0), (ready-same (at-loop .loop .inv) (at-if1 .if1 .left) (at-if2 .if2 .left), sym (at-kind .kind .ensures) ∙ at-match .match .keys2))
+    let k = at-match .before in
+    (omega (arith, (turn k .loop .inv) .deeper, pos _ (nested k .if2 .left), start k .pre .0), (ready-same (turn k .loop .inv) (paid k .if1 .left) (nested k .if2 .left), sym (k .kind .ensures) ∙ at-match .match .keys2))
 
 pub apply-loop-same-length-4 : (t : ℕ) → apply-loop-lts.Need-same-length-4 (apply-loop-calls t) (apply-loop-at t) apply-loop.Post apply-loop-Inv-loop apply-loop-μ-loop
 apply-loop-same-length-4 t c = c .before .before .cong .kept .1 .0 ∙ (c .before .before .before .before .before .before .before .before .before .loop .inv) .long
@@ -141,9 +148,8 @@ apply-loop-visits-to-failure-requires t c κs =
     let at-if5 = c .before .before in
     let at-if4 = at-if5 .before in
     let at-match = at-if4 .before in
-    let at-kind = at-match .before in
-    let at-loop = at-kind .before .before .before in
-    ((at-loop .loop .inv) .ready .hints, (at-loop .loop .inv) .ready .inside, operand-below _ ((at-loop .loop .inv) .ready .entries) _ 2 ((at-loop .loop .inv) .ready .inside) (no-scope (of-two _ _ 5 (at-kind .kind .ensures) (five-up _ (at-match .match .rest .0 .0 .1) (at-if4 .if4 .left)) (at-if5 .if5 .taken)) (omega arith) (omega arith)) (omega arith), (of-two _ _ 5 (at-kind .kind .ensures) (five-up _ (at-match .match .rest .0 .0 .1) (at-if4 .if4 .left)) (at-if5 .if5 .taken)), rw (same-node _ (c .before .before .before .before .before .before .before .if1 .left)) (ready-stored ((at-loop .loop .inv) .ready)))
+    let k = at-match .before in
+    ((turn k .loop .inv) .ready .hints, (turn k .loop .inv) .ready .inside, operand-below _ ((turn k .loop .inv) .ready .entries) _ 2 ((turn k .loop .inv) .ready .inside) (no-scope (of-two _ _ 5 (k .kind .ensures) (five-up _ (at-match .match .rest .0 .0 .1) (at-if4 .if4 .left)) (at-if5 .if5 .taken)) (omega arith) (omega arith)) (omega arith), (of-two _ _ 5 (k .kind .ensures) (five-up _ (at-match .match .rest .0 .0 .1) (at-if4 .if4 .left)) (at-if5 .if5 .taken)), rw (same-node _ (c .before .before .before .before .before .before .before .if1 .left)) (ready-stored ((turn k .loop .inv) .ready)))
 
 pub apply-loop-entry-requires-4 : (t : ℕ) → apply-loop-lts.Need-entry-requires-4 (apply-loop-calls t) (apply-loop-at t) apply-loop.Post apply-loop-Inv-loop apply-loop-μ-loop
 apply-loop-entry-requires-4 t c κs = ((c .before .before .before .before .before .before .before .before .before .before .loop .inv) .ready .inside, omega arith)
@@ -165,11 +171,8 @@ apply-loop-loop-again-2 t c =
     let at-if5 = at-visits-to-failure .before .before .before in
     let at-if4 = at-if5 .before in
     let at-match = at-if4 .before in
-    let at-kind = at-match .before in
-    let at-if2 = at-kind .before in
-    let at-if1 = at-if2 .before in
-    let at-loop = at-if1 .before in
-    skip-turn (at-loop .loop .inv) (at-if1 .if1 .left) (at-if2 .if2 .left) refl (at-visits-to-failure .visits-to-failure .ensures) (at-if6 .if6 .taken) (of-two _ _ 5 (at-kind .kind .ensures) (five-up _ (at-match .match .rest .0 .0 .1) (at-if4 .if4 .left)) (at-if5 .if5 .taken)) (at-entry4 .entry4 .ensures) (c .entry5 .ensures)
+    let k = at-match .before in
+    skip-turn (turn k .loop .inv) (paid k .if1 .left) (nested k .if2 .left) refl (at-visits-to-failure .visits-to-failure .ensures) (at-if6 .if6 .taken) (of-two _ _ 5 (k .kind .ensures) (five-up _ (at-match .match .rest .0 .0 .1) (at-if4 .if4 .left)) (at-if5 .if5 .taken)) (at-entry4 .entry4 .ensures) (c .entry5 .ensures)
 
 pub apply-loop-apply-first-requires : (t : ℕ) → apply-loop-lts.Need-apply-first-requires (apply-loop-calls t) (apply-loop-at t) apply-loop.Post apply-loop-Inv-loop apply-loop-μ-loop
 apply-loop-apply-first-requires t c κs =
@@ -177,12 +180,8 @@ apply-loop-apply-first-requires t c κs =
     let at-if5 = at-entry3 .before in
     let at-if4 = at-if5 .before in
     let at-match = at-if4 .before in
-    let at-kind = at-match .before in
-    let at-if2 = at-kind .before in
-    let at-if1 = at-if2 .before in
-    let at-loop = at-if1 .before in
-    let start = at-loop .before .before in
-    (omega (arith, (at-loop .loop .inv) .deeper, pos _ (at-if2 .if2 .left), start .pre .0), ready-next (at-loop .loop .inv) (at-if1 .if1 .left) (at-if2 .if2 .left) (no-scope (of-two _ _ 5 (at-kind .kind .ensures) (five-up _ (at-match .match .rest .0 .0 .1) (at-if4 .if4 .left)) (at-if5 .if5 .taken)) (omega arith) (omega arith)) 0 _ (omega arith) (at-entry3 .entry3 .ensures))
+    let k = at-match .before in
+    (omega (arith, (turn k .loop .inv) .deeper, pos _ (nested k .if2 .left), start k .pre .0), ready-next (turn k .loop .inv) (paid k .if1 .left) (nested k .if2 .left) (no-scope (of-two _ _ 5 (k .kind .ensures) (five-up _ (at-match .match .rest .0 .0 .1) (at-if4 .if4 .left)) (at-if5 .if5 .taken)) (omega arith) (omega arith)) 0 _ (omega arith) (at-entry3 .entry3 .ensures))
 
 pub apply-loop-same-length-7 : (t : ℕ) → apply-loop-lts.Need-same-length-7 (apply-loop-calls t) (apply-loop-at t) apply-loop.Post apply-loop-Inv-loop apply-loop-μ-loop
 apply-loop-same-length-7 t c = c .before .before .before .before .apply-first .kept .1 .0 ∙ (c .before .before .before .before .before .before .before .before .before .before .before .before .before .before .before .before .before .before .before .before .loop .inv) .long
@@ -195,11 +194,8 @@ apply-loop-returns-7 t c =
     let at-if5 = at-entry3 .before in
     let at-if4 = at-if5 .before in
     let at-match = at-if4 .before in
-    let at-kind = at-match .before in
-    let at-if2 = at-kind .before in
-    let at-if1 = at-if2 .before in
-    let at-loop = at-if1 .before in
-    left-returns (at-loop .loop .inv) (at-if1 .if1 .left) (at-if2 .if2 .left) (at-entry3 .entry3 .ensures) (at-apply-first .apply-first .ensures) (at-answer-of2 .answer-of2 .ensures) (of-two _ _ 5 (at-kind .kind .ensures) (five-up _ (at-match .match .rest .0 .0 .1) (at-if4 .if4 .left)) (at-if5 .if5 .taken)) refl (c .match3 .keys2)
+    let k = at-match .before in
+    left-returns (turn k .loop .inv) (paid k .if1 .left) (nested k .if2 .left) (at-entry3 .entry3 .ensures) (at-apply-first .apply-first .ensures) (at-answer-of2 .answer-of2 .ensures) (of-two _ _ 5 (k .kind .ensures) (five-up _ (at-match .match .rest .0 .0 .1) (at-if4 .if4 .left)) (at-if5 .if5 .taken)) refl (c .match3 .keys2)
 
 pub apply-loop-cast-done : (t : ℕ) → apply-loop-lts.Need-cast-done (apply-loop-calls t) (apply-loop-at t) apply-loop.Post apply-loop-Inv-loop apply-loop-μ-loop
 apply-loop-cast-done t c =
@@ -225,11 +221,8 @@ apply-loop-loop-again-3 t c =
     let at-if5 = at-entry3 .before in
     let at-if4 = at-if5 .before in
     let at-match = at-if4 .before in
-    let at-kind = at-match .before in
-    let at-if2 = at-kind .before in
-    let at-if1 = at-if2 .before in
-    let at-loop = at-if1 .before in
-    rw (at-restore .restore .ensures, at-apply-first .before .before .before .mask-of .ensures) (left-turn (at-loop .loop .inv) (at-if1 .if1 .left) (at-if2 .if2 .left) (at-entry3 .entry3 .ensures) (at-apply-first .apply-first .ensures) (at-answer-of2 .answer-of2 .ensures) (of-two _ _ 5 (at-kind .kind .ensures) (five-up _ (at-match .match .rest .0 .0 .1) (at-if4 .if4 .left)) (at-if5 .if5 .taken)) (c .entry6 .ensures) (at-rest .rest .given .1) (at-done .done .ensures) (at-apply-first .apply-first .kept .1 .0))
+    let k = at-match .before in
+    rw (at-restore .restore .ensures, at-apply-first .before .before .before .mask-of .ensures) (left-turn (turn k .loop .inv) (paid k .if1 .left) (nested k .if2 .left) (at-entry3 .entry3 .ensures) (at-apply-first .apply-first .ensures) (at-answer-of2 .answer-of2 .ensures) (of-two _ _ 5 (k .kind .ensures) (five-up _ (at-match .match .rest .0 .0 .1) (at-if4 .if4 .left)) (at-if5 .if5 .taken)) (c .entry6 .ensures) (at-rest .rest .given .1) (at-done .done .ensures) (at-apply-first .apply-first .kept .1 .0))
 
 pub apply-loop-entry-requires-7 : (t : ℕ) → apply-loop-lts.Need-entry-requires-7 (apply-loop-calls t) (apply-loop-at t) apply-loop.Post apply-loop-Inv-loop apply-loop-μ-loop
 apply-loop-entry-requires-7 t c κs = ((c .before .before .before .before .before .before .before .loop .inv) .ready .inside, omega arith)
@@ -241,22 +234,15 @@ pub apply-loop-loop-again-4 : (t : ℕ) → apply-loop-lts.Need-loop-again-4 (ap
 apply-loop-loop-again-4 t c =
     let at-if7 = c .before in
     let at-if5 = at-if7 .before in
-    let at-kind = at-if5 .before .before .before in
-    let at-if2 = at-kind .before in
-    let at-if1 = at-if2 .before in
-    let at-loop = at-if1 .before in
-    rec-turn (at-loop .loop .inv) (at-if1 .if1 .left) (at-if2 .if2 .left) _ (c .entry7 .ensures) (of-two _ _ 7 (at-kind .kind .ensures) (at-if5 .if5 .left) (at-if7 .if7 .taken))
+    let k = at-if5 .before .before .before in
+    rec-turn (turn k .loop .inv) (paid k .if1 .left) (nested k .if2 .left) _ (c .entry7 .ensures) (of-two _ _ 7 (k .kind .ensures) (at-if5 .if5 .left) (at-if7 .if7 .taken))
 
 pub apply-loop-rule-requires : (t : ℕ) → apply-loop-lts.Need-rule-requires (apply-loop-calls t) (apply-loop-at t) apply-loop.Post apply-loop-Inv-loop apply-loop-μ-loop
 apply-loop-rule-requires t c κs =
     let at-if4 = c .before .before in
     let at-match = at-if4 .before in
-    let at-kind = at-match .before in
-    let at-if2 = at-kind .before in
-    let at-if1 = at-if2 .before in
-    let at-loop = at-if1 .before in
-    let start = at-loop .before .before in
-    (omega (arith, (at-loop .loop .inv) .deeper, pos _ (at-if2 .if2 .left), start .pre .0), (ready-same (at-loop .loop .inv) (at-if1 .if1 .left) (at-if2 .if2 .left), last-kind _ _ (at-kind .kind .ensures) (at-match .match .rest .0 .0 .1) (at-match .match .rest .0 .1) (at-match .match .rest .1) (⊎-elim (λ w. inl (w .taken)) (λ w. inr (w .2 .left)) (at-if4 .if4 .came))))
+    let k = at-match .before in
+    (omega (arith, (turn k .loop .inv) .deeper, pos _ (nested k .if2 .left), start k .pre .0), (ready-same (turn k .loop .inv) (paid k .if1 .left) (nested k .if2 .left), last-kind _ _ (k .kind .ensures) (at-match .match .rest .0 .0 .1) (at-match .match .rest .0 .1) (at-match .match .rest .1) (⊎-elim (λ w. inl (w .taken)) (λ w. inr (w .2 .left)) (at-if4 .if4 .came))))
 
 pub apply-loop-same-length-8 : (t : ℕ) → apply-loop-lts.Need-same-length-8 (apply-loop-calls t) (apply-loop-at t) apply-loop.Post apply-loop-Inv-loop apply-loop-μ-loop
 apply-loop-same-length-8 t c = c .before .before .rule .kept .1 .0 ∙ (c .before .before .before .before .before .before .before .before .before .before .loop .inv) .long
