@@ -38,9 +38,7 @@
 //! writer: `LABEL ANSWER PLACE LENGTH`, the buffer's WORDS. START is the entry.
 
 use crate::checks::{UNFINISHED, WIDTH};
-use crate::counts::run_counted;
-use crate::engine::{run_lent, Lent};
-use crate::many::run_many;
+use crate::engine::Lent;
 use crate::rules::{translate, write_rule};
 use crate::steps::{start_run, step_run};
 use crate::text::{field, label, show_slice, RunCase};
@@ -277,17 +275,7 @@ impl CallCase {
             signature: signature.as_deref(),
             index: index.as_deref_mut(),
         };
-        let outcome = run_lent(
-            &run.table,
-            &mut run.store,
-            &mut run.bindings,
-            run.mark,
-            run.start,
-            run.subject,
-            run.units,
-            lent,
-            &mut (),
-        );
+        let outcome = run.run_lent(lent);
         let mut line = format!("{} {}", run.label, outcome);
         show_slice(&mut line, &run.bindings);
         for words in [Some(run.store), index].iter().flatten() {
@@ -308,17 +296,7 @@ impl CallCase {
             signature: signature.as_deref(),
             index: index.as_deref_mut(),
         };
-        let (answer, place) = run_many(
-            &run.table,
-            &mut run.store,
-            &run.bindings,
-            run.mark,
-            run.start,
-            &subjects,
-            run.units,
-            &mut results,
-            lent,
-        );
+        let (answer, place) = run.run_many(&subjects, &mut results, lent);
         let mut line = format!("{} {} {}", run.label, answer, place);
         show_slice(&mut line, &run.bindings);
         for words in [Some(run.store), Some(results), index].iter().flatten() {
@@ -338,17 +316,7 @@ impl CallCase {
             signature: signature.as_deref(),
             index: index.as_deref_mut(),
         };
-        let end = run_counted(
-            &run.table,
-            &mut run.store,
-            &mut run.bindings,
-            run.mark,
-            run.start,
-            run.subject,
-            run.units,
-            lent,
-            &mut counts,
-        );
+        let end = run.run_counted(lent, &mut counts);
         let mut line = format!(
             "{} {} {} {}",
             run.label, end.outcome, end.patterns, end.pairs

@@ -2,12 +2,10 @@
 
 use crate::calls::{Call, CallCase, COUNTED, INDEX, RESULTS, SIGNATURE, SUBJECTS};
 use crate::checks::{kind, ran, BAD_TEXT, DONE, FAILED, NO_ROOM, UNBOUND, UNFINISHED};
-use crate::counts::run_counted;
 use crate::engine::{run_lent, run_watched, Lent, Watcher};
 use crate::free::free_variables;
 use crate::generate::{free_case, job_text, run_case};
 use crate::job::job;
-use crate::many::run_many;
 use crate::refusals::COUNTS;
 use std::collections::BTreeMap;
 use std::fmt::Write;
@@ -541,17 +539,7 @@ fn count_tallies(case: &CallCase, tallies: &mut Tallies) {
         signature: signature.as_deref(),
         index: index.as_deref_mut(),
     };
-    let end = run_counted(
-        &run.table,
-        &mut run.store,
-        &mut run.bindings,
-        run.mark,
-        run.start,
-        run.subject,
-        run.units,
-        lent,
-        &mut after,
-    );
+    let end = run.run_counted(lent, &mut after);
     if !ran(end.outcome.answer) {
         return;
     }
@@ -692,17 +680,7 @@ fn count_subjects(case: &CallCase, sizes: &mut BTreeMap<&str, u64>, each: &mut A
         signature: signature.as_deref(),
         index: index.as_deref_mut(),
     };
-    let (answer, _) = run_many(
-        &run.table,
-        &mut run.store,
-        &run.bindings,
-        run.mark,
-        run.start,
-        &subjects,
-        run.units,
-        &mut results,
-        lent,
-    );
+    let (answer, _) = run.run_many(&subjects, &mut results, lent);
     if answer == DONE {
         *sizes.entry(span(subjects.len() as u32)).or_default() += 1;
         for five in results.chunks(5) {

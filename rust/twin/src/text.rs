@@ -16,8 +16,10 @@
 //! Jobs: `# LENGTH`, a line feed, then exactly so many bytes; answers likewise.
 
 use crate::checks::WIDTH;
-use crate::engine::run;
+use crate::counts::{run_counted, Counted};
+use crate::engine::{run, run_lent, Lent, Outcome};
 use crate::free::free_variables;
+use crate::many::run_many;
 use std::fmt::Write;
 use std::str::{FromStr, SplitWhitespace};
 
@@ -49,6 +51,54 @@ pub struct RunCase {
     pub units: u32,
     /// The name of the case.
     pub label: String,
+}
+
+impl RunCase {
+    /// Makes the run of this input, with what is lent beside it.
+    pub fn run_lent(&mut self, lent: Lent) -> Outcome {
+        run_lent(
+            &self.table,
+            &mut self.store,
+            &mut self.bindings,
+            self.mark,
+            self.start,
+            self.subject,
+            self.units,
+            lent,
+            &mut (),
+        )
+    }
+
+    /// Makes the counted run of this input, with what is lent beside it.
+    pub fn run_counted(&mut self, lent: Lent, counts: &mut [u64]) -> Counted {
+        run_counted(
+            &self.table,
+            &mut self.store,
+            &mut self.bindings,
+            self.mark,
+            self.start,
+            self.subject,
+            self.units,
+            lent,
+            counts,
+        )
+    }
+
+    /// Makes the call over many subjects, in place of this input's own, with
+    /// what is lent beside it.
+    pub fn run_many(&mut self, subjects: &[u32], results: &mut [u32], lent: Lent) -> (u32, u32) {
+        run_many(
+            &self.table,
+            &mut self.store,
+            &self.bindings,
+            self.mark,
+            self.start,
+            subjects,
+            self.units,
+            results,
+            lent,
+        )
+    }
 }
 
 /// The store that a line's patches are applied to.

@@ -5,7 +5,7 @@ use common::*;
 use twin::calls::{CallCase, COUNTED, INDEX, SIGNATURE};
 use twin::checks::ran;
 use twin::generate::counted_case;
-use twin::{run_counted, run_lent, with_big_stack, Counted, Lent};
+use twin::{run_counted, with_big_stack, Counted, Lent};
 
 /// The greatest word that may be lent.
 const MOST: u64 = 18_446_744_069_414_584_320;
@@ -285,17 +285,7 @@ fn generated_laws() {
                 signature: signature.as_deref(),
                 index: index.as_deref_mut(),
             };
-            let end = run_counted(
-                &run.table,
-                &mut run.store,
-                &mut run.bindings,
-                run.mark,
-                run.start,
-                run.subject,
-                run.units,
-                lent,
-                &mut counts,
-            );
+            let end = run.run_counted(lent, &mut counts);
             seen[end.outcome.answer as usize] += 1;
             if !ran(end.outcome.answer) {
                 assert_eq!(counts, before, "{}", label);
@@ -324,17 +314,7 @@ fn generated_laws() {
                 signature: signature.as_deref(),
                 index: index.as_deref_mut(),
             };
-            let outcome = run_lent(
-                &other.table,
-                &mut other.store,
-                &mut other.bindings,
-                other.mark,
-                other.start,
-                other.subject,
-                other.units,
-                lent,
-                &mut (),
-            );
+            let outcome = other.run_lent(lent);
             assert_eq!(end.outcome, outcome, "{}", label);
             assert_eq!(run.store, other.store, "{}", label);
             assert_eq!(run.bindings, other.bindings, "{}", label);

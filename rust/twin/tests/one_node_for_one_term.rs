@@ -370,17 +370,7 @@ fn generated_runs_beside_the_plain_store() {
                     signature: signature.as_deref(),
                     index: if shared { Some(&mut index) } else { None },
                 };
-                let outcome = run_lent(
-                    &run.table,
-                    &mut run.store,
-                    &mut run.bindings,
-                    run.mark,
-                    run.start,
-                    run.subject,
-                    run.units,
-                    lent,
-                    &mut (),
-                );
+                let outcome = run.run_lent(lent);
                 ends.push((outcome, run.store, run.bindings));
             }
             let label = &case.run.label;

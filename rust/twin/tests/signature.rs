@@ -207,17 +207,7 @@ fn generated_every_node_of_a_done_run_obeys() {
                 signature: Some(&signature),
                 ..Lent::default()
             };
-            let outcome = run_lent(
-                &run.table,
-                &mut run.store,
-                &mut run.bindings,
-                run.mark,
-                run.start,
-                run.subject,
-                run.units,
-                lent,
-                &mut (),
-            );
+            let outcome = run.run_lent(lent);
             match outcome.answer {
                 10 | 11 => {
                     assert_eq!(before.0, run.store, "{}", run.label);

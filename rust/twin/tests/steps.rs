@@ -4,7 +4,7 @@ mod common;
 use common::*;
 use twin::calls::{CallCase, SIGNATURE, STEPS, WORK};
 use twin::generate::stepped_case;
-use twin::{run_lent, start_run, step_run, with_big_stack, Lent, Outcome};
+use twin::{start_run, step_run, with_big_stack, Lent, Outcome};
 
 /// The words that a work list must have: 80 a level, 4,096 levels.
 const WORK_WORDS: usize = 327_680;
@@ -296,17 +296,7 @@ fn generated_any_step_counts_give_the_first_engine() {
                 signature: signature.as_deref(),
                 index: None,
             };
-            let expected = run_lent(
-                &plain.table,
-                &mut plain.store,
-                &mut plain.bindings,
-                plain.mark,
-                plain.start,
-                plain.subject,
-                plain.units,
-                lent,
-                &mut (),
-            );
+            let expected = plain.run_lent(lent);
             let before = memory.clone();
             let (mark, start, subject, units) = (
                 case.run.mark,
