@@ -1,5 +1,5 @@
-"""The cases that the program vectors executes: for each a tag, its bytes, and what must be written. crates/vectors/src says
-what they mean.
+"""The cases that the program vectors executes: for each a tag, its bytes, and what must be written. crates/vectors/src/main.rt
+and crates/cases/src/memory.rt say what they mean.
 """
 from model import MOST, SCOPE
 

@@ -1,66 +1,180 @@
-// A run with counts, of 64 bits each: two numbers of a case, the upper half and the lower, are one count.
-use crate::memory::Given;
-use crate::numbers::number;
-use crate::show::show_counted;
-use crate::show::show_label;
+// A run with counts.
+use cases::counts::make_counts;
+use cases::memory::Given;
+use cases::numbers::number;
+use cases::show::show_counted;
+use cases::show::show_label;
 use counting::run_counted;
 use counting::run_counted_signed;
 use counting::run_indexed_counted;
 use counting::run_indexed_counted_signed;
 
-// A count of the text, and the place after it.
-struct Count {
-    value: u64,
-    next: usize,
+// A run with counts.
+fn run_plain(
+    given: Given,
+    table: &[u32],
+    store: &mut [u32],
+    bindings: &mut [u32],
+    counts: &mut [u64],
+) {
+    let r = run_counted(
+        table,
+        store,
+        bindings,
+        given.mark,
+        given.start,
+        given.subject,
+        given.units,
+        counts,
+    );
+    show_counted(
+        r.ended,
+        r.seen.patterns,
+        r.seen.pairs,
+        store,
+        bindings,
+        counts,
+    );
 }
 
-// The word of two halves.
-fn joined(high: u32, low: u32) -> u64 {
-    (high as u64) * 4294967296 + low as u64
+// The same with the index that stands behind the store's first words.
+fn run_shared(
+    given: Given,
+    own: usize,
+    table: &[u32],
+    store: &mut [u32],
+    bindings: &mut [u32],
+    counts: &mut [u64],
+) {
+    let r = run_indexed_counted(
+        table,
+        store,
+        own,
+        bindings,
+        given.mark,
+        given.start,
+        given.subject,
+        given.units,
+        counts,
+    );
+    show_counted(
+        r.ended,
+        r.seen.patterns,
+        r.seen.pairs,
+        store,
+        bindings,
+        counts,
+    );
 }
 
-// The count at `start`.
-fn count_at(text: &[u8], start: usize) -> Count {
-    let high = number(text, start);
-    let low = number(text, high.next);
-    Count {
-        value: joined(high.value, low.value),
-        next: low.next,
+// A run with counts and a signature.
+fn run_signed(
+    given: Given,
+    table: &[u32],
+    store: &mut [u32],
+    bindings: &mut [u32],
+    counts: &mut [u64],
+    signature: &[u32],
+) {
+    let r = run_counted_signed(
+        table,
+        store,
+        bindings,
+        given.mark,
+        given.start,
+        given.subject,
+        given.units,
+        counts,
+        signature,
+    );
+    show_counted(
+        r.ended,
+        r.seen.patterns,
+        r.seen.pairs,
+        store,
+        bindings,
+        counts,
+    );
+}
+
+// The same with the index that stands behind the store's first words.
+fn run_shared_signed(
+    given: Given,
+    own: usize,
+    table: &[u32],
+    store: &mut [u32],
+    bindings: &mut [u32],
+    counts: &mut [u64],
+    signature: &[u32],
+) {
+    let r = run_indexed_counted_signed(
+        table,
+        store,
+        own,
+        bindings,
+        given.mark,
+        given.start,
+        given.subject,
+        given.units,
+        counts,
+        signature,
+    );
+    show_counted(
+        r.ended,
+        r.seen.patterns,
+        r.seen.pairs,
+        store,
+        bindings,
+        counts,
+    );
+}
+
+// The run of a tag with a signature.
+fn run_obeying(
+    tag: u8,
+    given: Given,
+    own: usize,
+    table: &[u32],
+    store: &mut [u32],
+    bindings: &mut [u32],
+    counts: &mut [u64],
+    signature: &[u32],
+) {
+    if tag == b'x' {
+        run_signed(given, table, store, bindings, counts, signature);
+    } else {
+        run_shared_signed(given, own, table, store, bindings, counts, signature);
     }
 }
 
-// Sets every count.
-fn fill_counts(counts: &mut [u64], word: u64) {
-    let mut i: usize = 0;
-    while i < counts.len() {
-        counts[i] = word;
-        i += 1;
+// The same with the signature that stands behind the first `at` words, which are the table: whether there are so many.
+fn run_behind(
+    tag: u8,
+    given: Given,
+    own: usize,
+    words: &[u32],
+    store: &mut [u32],
+    bindings: &mut [u32],
+    counts: &mut [u64],
+) -> bool {
+    let at = given.argument as usize;
+    if words.len() < at {
+        return false;
     }
+    run_obeying(
+        tag,
+        given,
+        own,
+        &words[..at],
+        store,
+        bindings,
+        counts,
+        &words[at..],
+    );
+    true
 }
 
-// Sets count k, if there is one.
-fn set_count(counts: &mut [u64], k: u32, word: u64) {
-    if (k as usize) < counts.len() {
-        counts[k as usize] = word;
-    }
-}
-
-// Sets each count that the text names, and gives the place after the last.
-fn patch_counts(text: &[u8], start: usize, many: u32, counts: &mut [u64]) -> usize {
-    let mut at = start;
-    let mut i: u32 = 0;
-    while i < many {
-        let place = number(text, at);
-        let count = count_at(text, place.next);
-        set_count(counts, place.value, count.value);
-        at = count.next;
-        i += 1;
-    }
-    at
-}
-
-// The run of a tag, with the signature that stands behind the table's first words and the index that stands behind the store's: whether there
-// are so many.
+// The run of a tag.
 fn run_tag(
     tag: u8,
     given: Given,
@@ -70,60 +184,15 @@ fn run_tag(
     bindings: &mut [u32],
     counts: &mut [u64],
 ) -> bool {
-    let n = given.words;
-    let at = n[9] as usize;
     if tag == b'v' {
-        let plain = run_counted(words, store, bindings, n[3], n[4], n[5], n[6], counts);
-        show_counted(plain.ended, plain.seen, store, bindings, counts);
+        run_plain(given, words, store, bindings, counts);
         return true;
     }
     if tag == b'y' {
-        let shared = run_indexed_counted(
-            words,
-            store,
-            own,
-            bindings,
-            n[3],
-            n[4],
-            n[5],
-            n[6],
-            counts,
-        );
-        show_counted(shared.ended, shared.seen, store, bindings, counts);
+        run_shared(given, own, words, store, bindings, counts);
         return true;
     }
-    if words.len() < at {
-        return false;
-    }
-    if tag == b'x' {
-        let signed = run_counted_signed(
-            &words[..at],
-            store,
-            bindings,
-            n[3],
-            n[4],
-            n[5],
-            n[6],
-            counts,
-            &words[at..],
-        );
-        show_counted(signed.ended, signed.seen, store, bindings, counts);
-        return true;
-    }
-    let both = run_indexed_counted_signed(
-        &words[..at],
-        store,
-        own,
-        bindings,
-        n[3],
-        n[4],
-        n[5],
-        n[6],
-        counts,
-        &words[at..],
-    );
-    show_counted(both.ended, both.seen, store, bindings, counts);
-    true
+    run_behind(tag, given, own, words, store, bindings, counts)
 }
 
 // The same with the counts that the text from `start` on asks for, the label behind them printed first.
@@ -138,10 +207,7 @@ fn call_lent(
     bindings: &mut [u32],
     counts: &mut [u64],
 ) -> bool {
-    let each = count_at(text, start);
-    let others = number(text, each.next);
-    fill_counts(counts, each.value);
-    let label = patch_counts(text, others.next, others.value, counts);
+    let label = make_counts(text, start, counts);
     show_label(text, label);
     run_tag(tag, given, own, table, store, bindings, counts)
 }

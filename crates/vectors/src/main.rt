@@ -6,53 +6,17 @@
 //     p  start_run and step_run     q  start_run_signed and step_run
 //     v  run_counted     x  run_counted_signed    y  run_indexed_counted    z  run_indexed_counted_signed
 //
-// The bytes of `j` are a job's text. Those of the others say which memory is lent (memory.rt), and end in a label. A further
-// call takes a tag and a function in requests.rt, and tools/cases.py writes its cases.
-ghost use Prim.Native.Nat.{_+_, _≤_};
-ghost use lib.ListN.{length};
+// The bytes of `j` are a job's text. Those of the others say which memory is lent (memory.rt of the crate cases), and end in a
+// label. A further call takes a tag and a function in plain_cases, and tools/cases writes its cases.
+use cases::input::next_byte;
+use cases::input::read_line;
+use cases::numbers::number;
 use libc::STDIN_FILENO;
 use libc::STDOUT_FILENO;
-use numbers::number;
 use requests::answer_case;
 
 mod counted;
-mod memory;
-mod numbers;
 mod requests;
-mod show;
-mod steps;
-
-fn wide(b: u8) -> u32 {
-    b as u32
-}
-
-// The next byte of standard input; 256 where there is none.
-fn next_byte() -> u32 {
-    let mut one = [0u8; 1];
-    if io::read_full(STDIN_FILENO, &mut one) == 0 {
-        return 256;
-    }
-    wide(one[0])
-}
-
-// Reads a line, without its line feed: how long it is, 0 at the end of the input.
-fn read_line(line: &mut [u8]) -> usize
-    ensures { λ r. ⌜ r ≤ length (now (line .entry)) ⌝ }
-{
-    let mut n: usize = 0;
-    while n < line.len() {
-        let b = next_byte();
-        if b == 10 {
-            return n;
-        }
-        if 255 < b {
-            return n;
-        }
-        line[n] = b as u8;
-        n += 1;
-    }
-    n
-}
 
 // Says that the input is broken.
 fn broken() -> bool {

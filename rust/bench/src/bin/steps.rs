@@ -81,7 +81,7 @@ fn measure() {
     println!("| geometric mean | | {} |", means.join(" | "));
 }
 
-/// The words of a stored run, as crates/vectors/src/memory.rt says: the table, the
+/// The words of a stored run, as crates/cases/src/memory.rt says: the table, the
 /// store, the bindings, and mark, start, subject and units.
 fn stored_run(body: &str) -> ([Vec<u32>; 3], [u32; 4]) {
     let mut numbers = body.split(' ').map(|word| word.parse::<u32>());

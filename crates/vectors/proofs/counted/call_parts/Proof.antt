@@ -1,4 +1,4 @@
--- `vectors::counted::call_parts` is safe: the part that is lent has the length asked for. Assumes nothing.
+-- `vectors::counted::call_parts` is safe: a part that is lent has the length asked for. Assumes nothing.
 use mathlib.Core.Path.{sym}
 use borrow.Author.Needs.{needs}
 use lib.Seq.{length-take-le}

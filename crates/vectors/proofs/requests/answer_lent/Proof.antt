@@ -1,4 +1,4 @@
--- `vectors::requests::answer_lent` is safe: the parts that are lent have the lengths asked for. Assumes nothing.
+-- `vectors::requests::answer_lent` is safe: a part that is lent has the length asked for. Assumes nothing.
 use mathlib.Core.Path.{sym}
 use borrow.Author.Needs.{needs}
 use lib.Seq.{length-take-le}
@@ -19,7 +19,6 @@ answer-lent-spec =
     tie.close
     (tie.spec
     (λ c κs. search needs) (λ c. search needs) (λ c. search needs) (λ c. search needs) (λ c. search needs)
-    (λ c. search needs) (λ c. search needs) (λ c. search needs) (λ c. search needs) (λ c. search needs)
-    (λ c. search needs) slice-aggregate-answer-words (λ c. search needs) slice-aggregate-answer-words-2 (λ c. search needs)
-    slice-aggregate-answer-words-3 (λ c κs. search needs) (λ c. search needs) (λ c. search needs) (λ c. search needs)
-    (λ c. search needs))
+    (λ c. search needs) (λ c. search needs) (λ c. search needs) slice-aggregate-answer-words (λ c. search needs)
+    slice-aggregate-answer-words-2 (λ c. search needs) slice-aggregate-answer-words-3 (λ c κs. search needs)
+    (λ c. search needs) (λ c. search needs) (λ c. search needs) (λ c. search needs))
