@@ -70,10 +70,10 @@ def specs():
         found |= pairs((ROOT / path).read_text(), r"\b(checked|found) (\d+) ")
     found |= pairs((ROOT / "crates/checks/specs/Plain.antt").read_text(), r"\b(of-\w+) : .*Faulty(?:By)? (\d+)")
     found |= pairs((ROOT / "crates/whole_job/specs/Whole.antt").read_text(), r"\b(answered) (\d+) ")
-    found |= pairs((ROOT / "crates/rules/specs/Check.antt").read_text(), r"\b(told) used (\d+) ")
-    bound = (ROOT / "crates/rules/specs/Bound.antt").read_text()
+    found |= pairs((ROOT / "crates/check_rules/specs/Check.antt").read_text(), r"\b(told) used (\d+) ")
+    bound = (ROOT / "crates/check_rules/specs/Bound.antt").read_text()
     found |= {("variablesAnswer", int(n)) for n in re.findall(r"(?m)^variablesAnswer r = .* (\d+)\) else (\d+)$", bound)[0]}
-    found |= pairs((ROOT / "crates/rules/specs/Line.antt").read_text(), r"(?m)^(ruleAnswer) f r = .* else (\d+)\) else ")
+    found |= pairs((ROOT / "crates/check_rules/specs/Line.antt").read_text(), r"(?m)^(ruleAnswer) f r = .* else (\d+)\) else ")
     found |= pairs((ROOT / "crates/write_rules/specs/Written.antt").read_text(), r"\b(wrote) (\d+) 0 0\b")
     found |= pairs((ROOT / "crates/stepping/specs/Stepping.antt").read_text(), r"\b(numbers) (\d+) 0 ")
     # nothing is refused; and the writer's 5 and the 2 of a run in steps are the run's numbers

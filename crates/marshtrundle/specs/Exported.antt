@@ -8,7 +8,7 @@ use Rattle.free.specs.declared.FreeVariables.{FreeVariables}
 use Rattle.calls.specs.declared.Outcome.{Outcome}
 use Rattle.counting.specs.declared.Counted.{Counted}
 use Rattle.counting.specs.declared.Seen.{Seen}
-use Rattle.rules.specs.declared.check.Translated.{Translated}
+use Rattle.check_rules.specs.declared.check.Translated.{Translated}
 use Rattle.write_rules.specs.declared.rule.Written.{Written}
 
 -- answer and place

@@ -5,7 +5,7 @@ use cases::memory::put_words;
 use cases::show::show_label;
 use cases::show::show_number;
 use cases::show::show_slice;
-use rules::check::Translated;
+use check_rules::check::Translated;
 use translate::translate::translate;
 use write_rules::rule::Written;
 use write_rules::rule::write_rule;

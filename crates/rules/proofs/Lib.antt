@@ -15,13 +15,3 @@ pub mod Told
 pub mod Terms
 pub mod Conditions
 pub mod Shaping
-pub mod Binding
-pub mod Early
-pub mod Judging
-pub mod Keys
-pub mod Passing
-pub mod Ranging
-pub mod Calling
-pub mod Checking
-pub mod Answering
-pub mod Accepting

@@ -7,10 +7,4 @@ pub mod Held
 pub mod Scan
 pub mod Condition
 pub mod Shape
-pub mod Bound
-pub mod Tree
-pub mod Far
-pub mod Line
-pub mod Check
-pub mod Answer
 pub mod Promises

@@ -3,7 +3,7 @@ use mathlib.Core.Path.{_≡_}
 use mathlib.Core.Bool.{true}
 use mathlib.Core.Logic.{_↔_}
 use mathlib.Core.List.{List, [], _∷_, _++_}
-use Prim.Native.Nat.{ℕ, suc, _+_, _≤_, _<_}
+use Prim.Native.Nat.{ℕ, suc, _≤_, _<_}
 use lib.ListN.{length, take}
 use Rattle.meaning.specs.Term.{Term}
 use Rattle.meaning.specs.Table.{Table, table, MATCH, BUILD, SCOPE, PCON}
@@ -12,16 +12,10 @@ use Rattle.meaning.specs.Rules.{apply, does}
 use Rattle.meaning.specs.Derivation.{Out, done, terms, Der}
 use Rattle.meaning.specs.Beginning.{Begun, at-unbound}
 use Rattle.meaning.specs.Free.{In, operandsOf, Closed}
-use Rattle.rules.specs.Rule.{Condition, Rule, ruleVariables, bound}
+use Rattle.rules.specs.Rule.{Condition, Rule, bound}
 use Rattle.rules.specs.Meaning.{ruleDo}
 use Rattle.rules.specs.Entries.{ruleEntries, Has, Rows}
 use Rattle.rules.specs.Text.{Fields, ruleFields, rulesText, PlainRule, PlainRules, read, badField, ruleFrom, rules, meant}
-use Rattle.words.specs.Words.{rows}
-use Rattle.rules.specs.Shape.{ruleSize}
-use Rattle.rules.specs.Bound.{allBelow}
-use Rattle.rules.specs.Check.{told}
-use Rattle.rules.specs.Answer.{usedChecked, ClosedRec, RulesChecked}
-use Rattle.rules.specs.declared.check.Translated.{Translated}
 
 -- c is one of the conditions
 pub data Among (c : Condition) : List Condition → Type 0 where
@@ -107,40 +101,3 @@ pub record Extends (T T′ : Table) (u : ℕ) : Type 0 where
 -- what has no free variables among the entries in use has none when entries are added
 abbrev pub Closed-stays : Type 0
 Closed-stays = (T T′ : Table) (u : ℕ) → Extends T T′ u → (x : ℕ) → x < u → Closed T x → Closed T′ x
-
--- what 19, 20 and 22 ask of a rule, over a table t with u entries in use
-pub record Allowed (t : List ℕ) (u : ℕ) (r : Rule) : Type 0 where
-  pub bound-before : bound r ≡ true
-  pub in-range : allBelow (ruleVariables r) ≡ true
-  pub called : (c : Condition) → Among c (r .conditions) → ClosedRec t u (c .callee)
-
-pub data AllAllowed (t : List ℕ) (u : ℕ) : List Rule → Type 0 where
-  none-left : AllAllowed t u []
-  and-more : {r : Rule} {rs : List Rule} → Allowed t u r → AllAllowed t u rs → AllAllowed t u (r ∷ rs)
-
--- the entries of rules
-unfoldable pub entriesOf : List Rule → ℕ
-entriesOf [] = 0
-entriesOf (r ∷ rs) = ruleSize r + entriesOf rs
-
--- the text is that of rules which may all be added
-pub record Accepted (t : List ℕ) (u : ℕ) (s : List ℕ) : Type 0 where
-  pub its : List Rule
-  pub text : s ≡ rulesText its
-  pub plain : PlainRules its
-  pub allowed : AllAllowed t u its
-  pub room : u + entriesOf its ≤ rows t
-
--- answer 0 is given exactly where the entries in use are good and the text is that of rules which may all be added
-abbrev pub Accepts : Type 0
-Accepts = (t : List ℕ) (u : ℕ) (s : List ℕ) (r : Translated) → RulesChecked t u s r → r .answer ≡ 0 ↔ (usedChecked t u .answer ≡ 0) × Accepted t u s
-
--- and then the entries of the rules come to those in use
-abbrev pub AcceptsNumbers : Type 0
-AcceptsNumbers =
-    (t : List ℕ) (u : ℕ) (s : List ℕ) (r : Translated) → RulesChecked t u s r → usedChecked t u .answer ≡ 0 → (a : Accepted t u s)
-    → r ≡ told (u + entriesOf (a .its)) 0 0 0
-
--- two outcomes for one table and one text agree in all numbers
-abbrev pub Agree : Type 0
-Agree = (t : List ℕ) (u : ℕ) (s : List ℕ) (r r′ : Translated) → RulesChecked t u s r → RulesChecked t u s r′ → r ≡ r′

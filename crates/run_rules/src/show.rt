@@ -1,12 +1,12 @@
 // The answer as text on standard output. Each function says whether all was written.
 ghost use Rattle.io.specs.Counts.{Counts};
+use check_rules::check::Translated;
 use checks::entries::kind_of;
 use checks::entries::mask;
 use checks::entries::operand_count;
 use checks::kinds::SCOPE;
 use checks::kinds::operands_from;
 use libc::STDOUT_FILENO;
-use rules::check::Translated;
 use words::word;
 use write_rules::rule::write_rule;
 

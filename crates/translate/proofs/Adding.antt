@@ -11,11 +11,11 @@ use Rattle.rules.specs.Text.{ReadRule, rule, ruleOf}
 use Rattle.rules.specs.Entries.{Entry, maskOf, ruleCode, codeSize, codeEntries, ruleEntries, Rows}
 use Rattle.rules.specs.Scan.{fieldsFrom}
 use Rattle.rules.specs.Shape.{shapeOf, ruleSize}
-use Rattle.rules.specs.Bound.{window, allBelow, marksFrom, RuleLine}
+use Rattle.check_rules.specs.Bound.{window, allBelow, marksFrom, RuleLine}
 use Rattle.rules.specs.declared.shape.Shape.{Shape}
 use Rattle.rules.proofs.Sizes.{length-code}
-use Rattle.rules.proofs.Calling.{rule-line}
-use Rattle.rules.proofs.Early.{its-rule}
+use Rattle.check_rules.proofs.Calling.{rule-line}
+use Rattle.check_rules.proofs.Early.{its-rule}
 use Rattle.translate.specs.Added.{putEntries, Placed, LineFits, LineIn}
 use Rattle.translate.specs.Bare.{scopePut, bareBody, Fits, PlacedIn}
 use Rattle.translate.specs.Links.{stepsTable}

@@ -11,10 +11,10 @@ use Rattle.rules.specs.Text.{patFields, conditionsFields, ruleFields, PlainCond
 use Rattle.rules.specs.Entries.{Entry}
 use Rattle.rules.specs.Scan.{fieldsFrom}
 use Rattle.rules.specs.Condition.{afterIt, ConditionAt}
-use Rattle.rules.specs.Bound.{RuleLine}
+use Rattle.check_rules.specs.Bound.{RuleLine}
 use Rattle.rules.specs.declared.condition.Found.{Found}
 use Rattle.rules.proofs.Scanning.{fields-past}
-use Rattle.rules.proofs.Early.{First, first-of, no-conditions, its-rule, right-text, conditions-text, conditions-inside}
+use Rattle.check_rules.proofs.Early.{First, first-of, no-conditions, its-rule, right-text, conditions-text, conditions-inside}
 use Rattle.translate.specs.Added.{putEntries, Placed}
 use Rattle.translate.specs.Bare.{barePat, bareOf, bodyOpened, buildPut, bareCondition, bareConditions, bareBody, bareFound, itsConditions, Fits, PlacedIn}
 use Rattle.translate.proofs.Placing.{put-append, placed-more, bare-term, bare-condition}

@@ -17,7 +17,7 @@ use Rattle.rules.specs.Rule.{Rule}
 use Rattle.rules.specs.Text.{ReadRule, rule, badField, ruleOf, Meant, rules, badAt, before, orBadAt, unended, lastPart, readLines, meant}
 use Rattle.rules.specs.Entries.{Entry, ruleEntries}
 use Rattle.rules.specs.Shape.{ruleSize}
-use Rattle.rules.specs.Promises.{Allowed, AllAllowed, none-left, and-more, entriesOf, Accepted}
+use Rattle.check_rules.specs.Promises.{Allowed, AllAllowed, none-left, and-more, entriesOf, Accepted}
 use Rattle.rules.proofs.Sizes.{length-code}
 use Rattle.rules.proofs.Texts.{before-rules, text-is-rules}
 use Rattle.translate.specs.Added.{putEntries, rulesEntries, withRules, Placed, LineFits, LineIn}

@@ -18,10 +18,10 @@ use Rattle.rules.specs.Rule.{Rule, variables, member, conditionsVariables, rule
 use Rattle.rules.specs.Text.{Fields, ruleFields, PlainRule}
 use Rattle.rules.specs.Entries.{maskOf}
 use Rattle.rules.specs.Scan.{width, fieldsFrom}
-use Rattle.rules.specs.Bound.{window, allBelow, marksFrom, RuleLine}
+use Rattle.check_rules.specs.Bound.{window, allBelow, marksFrom, RuleLine}
 use Rattle.rules.proofs.Terms.{width-from}
-use Rattle.rules.proofs.Binding.{variablesIn, member-append, marks-has}
-use Rattle.rules.proofs.Judging.{in-rule, or-comm}
+use Rattle.check_rules.proofs.Binding.{variablesIn, member-append, marks-has}
+use Rattle.check_rules.proofs.Judging.{in-rule, or-comm}
 
 has-mask : (vs : List ℕ) (w : ℕ) → has (maskOf vs) w ≡ member w vs
 unfolding maskOf member

@@ -17,7 +17,7 @@ use Rattle.translate.specs.Added.{putEntries, Placed}
 use Rattle.translate.specs.Bare.{scopePut, barePat, barePats, bareOf, bareCount, conditionOpened, callPut, bareCondition, bareFound}
 use Rattle.rules.specs.declared.condition.Found.{Found}
 use Rattle.rules.proofs.Reading.{head-variable, head-constructor, count-number}
-use Rattle.rules.proofs.Early.{First}
+use Rattle.check_rules.proofs.Early.{First}
 
 -- ---- one after the other
 

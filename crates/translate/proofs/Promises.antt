@@ -26,18 +26,19 @@ use Rattle.rules.specs.Rule.{Condition, Rule}
 use Rattle.rules.specs.Text.{PlainRule, PlainRules, no-rules, next-rule, Meant, rules, badAt, meant}
 use Rattle.rules.specs.Entries.{Entry, codeSize, codeEntries, ruleCode, ruleEntries, rowOf, Rows}
 use Rattle.rules.specs.Shape.{ruleSize}
-use Rattle.rules.specs.Check.{told}
-use Rattle.rules.specs.Answer.{inUse, usedChecked, RulesChecked}
-use Rattle.rules.specs.Promises.{Among, ClosedCalls, Allowed, AllAllowed, none-left, and-more, entriesOf, Accepted, Extends}
-use Rattle.rules.specs.declared.check.Translated.{Translated}
+use Rattle.check_rules.specs.Check.{told}
+use Rattle.check_rules.specs.Answer.{inUse, usedChecked, RulesChecked}
+use Rattle.rules.specs.Promises.{Among, ClosedCalls, Extends}
+use Rattle.check_rules.specs.Promises.{Allowed, AllAllowed, none-left, and-more, entriesOf, Accepted}
+use Rattle.check_rules.specs.declared.check.Translated.{Translated}
 use Rattle.rules.proofs.Sizes.{length-code}
 use Rattle.rules.proofs.Words.{rows-append, rows-has}
 use Rattle.rules.proofs.Added.{closed-stays}
 use Rattle.rules.proofs.Behaviour.{rule-derives, rule-unbound, rule-bound, rule-keeps}
 use Rattle.rules.proofs.Texts.{text-is-rules}
-use Rattle.rules.proofs.Answering.{used-sizes, used-good, used-words}
-use Rattle.rules.proofs.Accepting as accepting
-use Rattle.rules.proofs.Accepting.{accepts, acceptsNumbers}
+use Rattle.check_rules.proofs.Answering.{used-sizes, used-good, used-words}
+use Rattle.check_rules.proofs.Accepting as accepting
+use Rattle.check_rules.proofs.Accepting.{accepts, acceptsNumbers}
 use Rattle.translate.specs.Added.{putEntries, rulesEntries, withRules, Translating}
 use Rattle.translate.specs.Promises.{Agree, Kept, Keeps, Faultless, Begins, first, later, Behaves, Rules-behave}
 use Rattle.translate.proofs.Written.{Eights, no-entry, next-entry, eights-append, length-put, put-other, put-rows}

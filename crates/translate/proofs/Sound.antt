@@ -19,7 +19,7 @@ use Rattle.checks.proofs.Good.{argument-word, operands-word, operand-word, oper
 use Rattle.meaning.specs.Table.{SEQ, CALL, MATCH, BUILD, SCOPE, WHERE, PVAR, PCON}
 use Rattle.rules.specs.Rule.{Pat, Pats, var, con, none, more, Condition, Rule, count, variables, variablesAll, conditionsVariables, ruleVariables}
 use Rattle.rules.specs.Text.{Plain, plain-var, plain-con, Plains, plain-none, plain-more, PlainConditions, plain-end, plain-next, PlainRule}
-use Rattle.rules.specs.Bound.{allBelow}
+use Rattle.check_rules.specs.Bound.{allBelow}
 use Rattle.rules.specs.Entries
 use Rattle.rules.specs.Entries.{Code, scope, seq, where-of, call, maskOf, conditionCode, conditionsCode, ruleCode, Entry, strategy, pattern, size, sizes, places, patEntries, patsEntries}
 use Rattle.rules.specs.Entries.{codeSize, codeEntries, ruleEntries, eight, rowOf, Row, Rows}

@@ -10,9 +10,9 @@ use Rattle.rules.specs.Rule.{Rule, ruleVariables}
 use Rattle.rules.specs.Text.{ReadRule, rule, badField, Meant, rules, badAt, meant}
 use Rattle.rules.specs.Entries.{Entry, rowOf, ruleEntries}
 use Rattle.rules.specs.Shape.{ruleSize}
-use Rattle.rules.specs.Bound.{allBelow}
-use Rattle.rules.specs.Answer.{RulesChecked}
-use Rattle.rules.specs.declared.check.Translated.{Translated}
+use Rattle.check_rules.specs.Bound.{allBelow}
+use Rattle.check_rules.specs.Answer.{RulesChecked}
+use Rattle.check_rules.specs.declared.check.Translated.{Translated}
 
 -- the table with entries from e on
 unfoldable pub putEntries : List ℕ → ℕ → List Entry → List ℕ

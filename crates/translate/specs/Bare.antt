@@ -10,7 +10,7 @@ use Rattle.rules.specs.Rule.{Pat, Pats, var, con, none as no-pats, more as more
 use Rattle.rules.specs.Text.{Fields, Head, variable, constructor, neither, headOf, upToSix, ReadRule, rule, badField}
 use Rattle.rules.specs.Entries.{Entry, strategy, pattern}
 use Rattle.rules.specs.Scan.{fieldsFrom}
-use Rattle.rules.specs.Bound.{RuleLine}
+use Rattle.check_rules.specs.Bound.{RuleLine}
 use Rattle.rules.specs.declared.condition.Found.{Found}
 use Rattle.translate.specs.Added.{Placed}
 

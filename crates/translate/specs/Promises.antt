@@ -14,9 +14,9 @@ use Rattle.rules.specs.Rule.{Rule}
 use Rattle.rules.specs.Meaning.{ruleDo}
 use Rattle.rules.specs.Text.{rules, meant}
 use Rattle.rules.specs.Shape.{ruleSize}
-use Rattle.rules.specs.Answer.{inUse, usedChecked}
+use Rattle.check_rules.specs.Answer.{inUse, usedChecked}
 use Rattle.rules.specs.Promises.{Inside}
-use Rattle.rules.specs.declared.check.Translated.{Translated}
+use Rattle.check_rules.specs.declared.check.Translated.{Translated}
 use Rattle.translate.specs.Added.{Translating}
 
 -- two outcomes for one table and one text agree in all numbers and in every word of the table

@@ -4,12 +4,12 @@ ghost use Prim.Native.Nat.{_≤_};
 ghost use lib.ListN.{length};
 ghost use Rattle.words.specs.Words.{rows};
 ghost use Rattle.rules.specs.Text.{ruleOf, meant};
-ghost use Rattle.rules.specs.Promises.{Accepted};
+ghost use Rattle.check_rules.specs.Promises.{Accepted};
 ghost use Rattle.translate.specs.Added.{withRules, LineFits, LineIn};
 use crate::heads::put_body;
 use crate::heads::put_scope;
 use crate::link::link;
-use rules::bound::marks;
+use check_rules::bound::marks;
 use rules::shape::shape_of;
 use text::reader::line_from;
 

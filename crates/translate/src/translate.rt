@@ -2,8 +2,8 @@
 ghost use mathlib.Core.Path.{_≡_};
 ghost use Rattle.translate.specs.Added.{Translating};
 use crate::lines::put_lines;
-use rules::answer::check_rules;
-use rules::check::Translated;
+use check_rules::answer::check_rules;
+use check_rules::check::Translated;
 
 // The rules of a text, added to a table whose first `used` entries are in use.
 pub fn translate(table: &mut [u32], used: u32, text: &[u8]) -> Translated

@@ -11,8 +11,8 @@ use Rattle.text.specs.Text.{joined, joinedAfter}
 use Rattle.rules.specs.Rule.{Rule}
 use Rattle.rules.specs.Text.{Fields, ruleFields, fieldsText, ruleText, rule, ruleOf}
 use Rattle.checks.specs.declared.Checked.{Checked}
-use Rattle.rules.specs.Answer.{usedChecked}
-use Rattle.rules.proofs.Answering.{used-sizes}
+use Rattle.check_rules.specs.Answer.{usedChecked}
+use Rattle.check_rules.proofs.Answering.{used-sizes}
 use Rattle.rules.proofs.Texts.{line-read, line-wrote, fields-line, rule-some}
 use Rattle.write_rules.specs.Written.{RuleAt, wrote, RuleWritten, entries, none, short, line}
 use Rattle.write_rules.specs.Lines.{ended, HasLine, IsRule, yes, no}

@@ -16,14 +16,14 @@ use Rattle.rules.specs.Rule.{Rule}
 use Rattle.rules.specs.Text.{PlainRule, ReadRule, rule, badField, ruleOf}
 use Rattle.rules.specs.Entries.{Entry, codeSize, ruleCode, ruleEntries, rowOf, Rows}
 use Rattle.rules.specs.Shape.{ruleSize}
-use Rattle.rules.specs.Line.{callable, ruleAnswer, lineOf}
-use Rattle.rules.specs.Answer.{usedChecked, Callable, MasksOf}
-use Rattle.rules.specs.Promises.{Allowed}
-use Rattle.rules.specs.declared.line.Line.{Line}
+use Rattle.check_rules.specs.Line.{callable, ruleAnswer, lineOf}
+use Rattle.check_rules.specs.Answer.{usedChecked, Callable, MasksOf}
+use Rattle.check_rules.specs.Promises.{Allowed}
+use Rattle.check_rules.specs.declared.line.Line.{Line}
 use Rattle.rules.proofs.Sizes.{length-code}
 use Rattle.rules.proofs.Texts.{line-wrote}
-use Rattle.rules.proofs.Answering.{used-sizes, masks-callable}
-use Rattle.rules.proofs.Accepting.{answer-allowed, allowed-answer}
+use Rattle.check_rules.proofs.Answering.{used-sizes, masks-callable}
+use Rattle.check_rules.proofs.Accepting.{answer-allowed, allowed-answer}
 use Rattle.translate.specs.Added.{putEntries, Placed, LineFits, LineIn}
 use Rattle.translate.proofs.Written.{put-rows}
 use Rattle.translate.proofs.Preorder.{rows-first, rows-same}

@@ -15,11 +15,11 @@ use Rattle.rules.specs.Rule.{Pat, Pats, var, con, none as no-pats, more as more
 use Rattle.rules.specs.Text.{ruleText, rulesText, Plain, plain-var, plain-con, Plains, plain-none, plain-more, PlainRules, no-rules, next-rule, Meant, rules, meant}
 use Rattle.rules.specs.Entries.{Entry, pattern, size, sizes, places, patEntries, patsEntries, ruleEntries, Rows}
 use Rattle.rules.specs.Shape.{ruleSize}
-use Rattle.rules.specs.Answer.{usedChecked}
-use Rattle.rules.specs.declared.check.Translated.{Translated}
+use Rattle.check_rules.specs.Answer.{usedChecked}
+use Rattle.check_rules.specs.declared.check.Translated.{Translated}
 use Rattle.rules.proofs.Sizes.{length-pat, length-places}
 use Rattle.rules.proofs.Words.{rows-append}
-use Rattle.rules.proofs.Answering.{used-sizes}
+use Rattle.check_rules.proofs.Answering.{used-sizes}
 use Rattle.rules.proofs.Texts.{text-is-rules}
 use Rattle.translate.specs.Added.{putEntries, rulesEntries, withRules, Translating}
 use Rattle.translate.specs.Promises.{Begins}

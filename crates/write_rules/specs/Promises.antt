@@ -5,7 +5,7 @@ use Prim.Native.Nat.{ℕ, _≤_}
 use lib.ListN.{length, take}
 use Rattle.rules.specs.Rule.{Rule}
 use Rattle.rules.specs.Text.{ruleText, rulesText, rules, meant}
-use Rattle.rules.specs.declared.check.Translated.{Translated}
+use Rattle.check_rules.specs.declared.check.Translated.{Translated}
 use Rattle.translate.specs.Added.{withRules, Translating}
 use Rattle.translate.specs.Promises.{Begins}
 use Rattle.write_rules.specs.Written.{RuleAt, RuleWritten}

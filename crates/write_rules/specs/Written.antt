@@ -9,8 +9,8 @@ use Rattle.rules.specs.Rule.{Rule}
 use Rattle.rules.specs.Text.{ruleText, PlainRule}
 use Rattle.rules.specs.Entries.{ruleEntries, Rows}
 use Rattle.rules.specs.Shape.{ruleSize}
-use Rattle.rules.specs.Answer.{usedChecked}
-use Rattle.rules.specs.Promises.{Allowed}
+use Rattle.check_rules.specs.Answer.{usedChecked}
+use Rattle.check_rules.specs.Promises.{Allowed}
 use Rattle.write_rules.specs.declared.rule.Written.{Written}
 
 -- the entries from e on are those of a rule that the translator would take, all in use

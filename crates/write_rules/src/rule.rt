@@ -4,13 +4,13 @@ ghost use mathlib.Core.Path.{_≡_};
 ghost use mathlib.Core.List.{_∷_, _++_};
 ghost use Prim.Native.Nat.{_+_, _*_, _≤_, _<_};
 ghost use lib.ListN.{length, getD, drop};
-ghost use Rattle.rules.specs.Answer.{usedChecked};
+ghost use Rattle.check_rules.specs.Answer.{usedChecked};
 ghost use Rattle.write_rules.specs.Written.{RuleWritten, wrote};
 ghost use Rattle.write_rules.specs.Lines.{HasLine, SameWords, IsRule};
 use crate::line::write_line;
-use rules::answer::check_used;
-use rules::answer::fill_masks;
-use rules::line::check_line;
+use check_rules::answer::check_used;
+use check_rules::answer::fill_masks;
+use check_rules::line::check_line;
 use translate::lines::put_line;
 
 // The answer, the entry that it is about, and how many bytes were written.

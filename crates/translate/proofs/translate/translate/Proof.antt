@@ -1,7 +1,7 @@
 -- `translate::translate::translate` meets its contract: what may be added is known before a word is written. Assumes nothing.
 use mathlib.Core.Path.{refl}
-use Rattle.rules.proofs.Answering.{used-sizes}
-use Rattle.rules.proofs.Accepting.{accepts}
+use Rattle.check_rules.proofs.Answering.{used-sizes}
+use Rattle.check_rules.proofs.Accepting.{accepts}
 use borrow.Author.Needs.{needs}
 use Rattle.translate.proofs.translate.translate.Statement.{statement}
 use Rattle.translate.proofs.translate.translate.Tie as tie
