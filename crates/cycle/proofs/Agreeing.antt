@@ -10,15 +10,15 @@ use Rattle.checks.specs.Good.{kindOf, operandCount, argumentOf, constructorOf, 
 use Rattle.meaning.specs.Table.{operands}
 use Rattle.meaning.specs.Rules.{agree, when}
 use Rattle.meaning.specs.Store.{children}
-use Rattle.leaves.specs.Answers.{nodeIn, unitsIn, failedWord}
-use Rattle.leaves.specs.Record.{markOf, notesOf, standing, held}
+use Rattle.state.specs.Answers.{nodeIn, unitsIn, failedWord}
+use Rattle.state.specs.Record.{markOf, notesOf, standing, held}
 use borrow.Author.Tests.{not-true, not-false}
 use Rattle.leaves.proofs.Patterns.{agreed-count}
-use Rattle.leaves.specs.Visits.{plan, ruled, countOf, agreeing, Entries, Gives}
+use Rattle.state.specs.Visits.{plan, ruled, countOf, agreeing, Entries, Gives}
 use Rattle.cycle.specs.Cycle.{Counted, walked, Ready}
-use Rattle.leaves.proofs.AnswerWords.{gave-failed}
+use Rattle.state.proofs.AnswerWords.{gave-failed}
 use Rattle.leaves.proofs.Children.{part-length}
-use Rattle.leaves.proofs.Holding.{further, framed-refl}
+use Rattle.state.proofs.Holding.{further, framed-refl}
 use Rattle.leaves.proofs.Walking.{failing}
 use Rattle.cycle.proofs.Ruling.{ruled-cong}
 

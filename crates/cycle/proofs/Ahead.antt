@@ -12,7 +12,7 @@ use Rattle.words.specs.Tests.{if_then_else_}
 use Rattle.checks.specs.Good.{kindOf}
 use Rattle.meaning.specs.Bindings.{Bindings}
 use Rattle.meaning.specs.Rules.{apply}
-use Rattle.leaves.specs.Visits.{visit, Entries}
+use Rattle.state.specs.Visits.{visit, Entries}
 use Rattle.leaves.proofs.Patterns.{operand-below}
 use Rattle.cycle.specs.Cycle.{Hinted, Leads, VisitsAhead, entryAhead, operandFor}
 

@@ -16,23 +16,23 @@ use Rattle.meaning.specs.Plan.{keep, fail, ask}
 use Rattle.meaning.specs.Rules.{apply, Do, nth, put, given, again, oneOf}
 use Rattle.meaning.specs.Store.{children}
 use Rattle.meaning.specs.Demands.{Kept, Leaves}
-use Rattle.leaves.specs.declared.answers.Answer.{Answer}
-use Rattle.leaves.specs.declared.answers.Answer.the-variants.{Done, Failed, Cut}
-use Rattle.leaves.specs.declared.answers.Attempt.{Attempt}
-use Rattle.leaves.specs.declared.answers.Attempt.the-variants.{Ended, Cut as Off}
-use Rattle.leaves.specs.Answers.{packed, nodeIn, unitsIn, unitsWord, failedWord, answerOf, attemptOf}
+use Rattle.state.specs.declared.answers.Answer.{Answer}
+use Rattle.state.specs.declared.answers.Answer.the-variants.{Done, Failed, Cut}
+use Rattle.state.specs.declared.answers.Attempt.{Attempt}
+use Rattle.state.specs.declared.answers.Attempt.the-variants.{Ended, Cut as Off}
+use Rattle.state.specs.Answers.{packed, nodeIn, unitsIn, unitsWord, failedWord, answerOf, attemptOf}
 use Rattle.meaning.specs.Limits.{at}
-use Rattle.leaves.specs.Noted.{Standing}
-use Rattle.leaves.specs.Record.{recordLong, markOf, notesOf, standing, held, back, Framed}
-use Rattle.leaves.specs.Visits.{visit, plan, ruled, out, countOf, rowAt, noded, Entries, Steady, Stored, Gives}
+use Rattle.state.specs.Noted.{Standing}
+use Rattle.state.specs.Record.{recordLong, markOf, notesOf, standing, held, back, Framed}
+use Rattle.state.specs.Visits.{visit, plan, ruled, out, countOf, rowAt, noded, Entries, Steady, Stored, Gives}
 use Rattle.cycle.specs.Cycle.{Leads, VisitsAhead, entryAhead, Ready}
-use Rattle.leaves.proofs.AnswerWords.{node-packed, units-packed, gave-failed, failed-few, attempt-done, attempt-failed, attempt-cut, out-units}
-use Rattle.leaves.proofs.Asking.{Tagged, goes-on, caught, cut-off, not-done}
+use Rattle.state.proofs.AnswerWords.{node-packed, units-packed, gave-failed, failed-few, attempt-done, attempt-failed, attempt-cut, out-units}
+use Rattle.state.proofs.Asking.{Tagged, goes-on, caught, cut-off, not-done}
 use Rattle.leaves.proofs.Keeping.{LeavesFitting, apply-leaves, steady-kept, leaves-done, leaves-failed}
 use Rattle.index.specs.Run.{Fits}
 use Rattle.leaves.proofs.Patterns.{operand-below}
-use Rattle.leaves.proofs.Storing.{steady-stored, kept-stored}
-use Rattle.leaves.proofs.Holding.{further, held-back, mark-back, notes-back, framed-back, length-back, framed-refl, framed-trans}
+use Rattle.state.proofs.Storing.{steady-stored, kept-stored}
+use Rattle.state.proofs.Holding.{further, held-back, mark-back, notes-back, framed-back, length-back, framed-refl, framed-trans}
 use Rattle.leaves.proofs.Children.{six-at, part-length, part-next, part-end}
 use Rattle.leaves.proofs.Walking.{failing}
 use Rattle.cycle.proofs.Ruling.{ruled-path, ruled-one}

@@ -14,10 +14,10 @@ use Rattle.meaning.specs.Bindings.{Bindings, unbound, masked}
 use Rattle.meaning.specs.Plan.{keep, ret, fail, ask}
 use Rattle.meaning.specs.Rules.{apply, Do}
 use Rattle.meaning.specs.Limits.{lost}
-use Rattle.leaves.specs.Noted.{Standing, missedAt, leftOf}
-use Rattle.leaves.specs.Visits.{plan, ruled, agreeing, Entries}
+use Rattle.state.specs.Noted.{Standing, missedAt, leftOf}
+use Rattle.state.specs.Visits.{plan, ruled, agreeing, Entries}
 use Rattle.cycle.specs.Cycle.{Hinted, VisitsToFailure}
-use Rattle.leaves.proofs.Asking.{ask-failed}
+use Rattle.state.proofs.Asking.{ask-failed}
 use Rattle.leaves.proofs.Walking.{failing}
 use Rattle.leaves.proofs.Kind.{applied}
 use Rattle.leaves.proofs.Patterns.{operand-below}

@@ -11,23 +11,23 @@ use Rattle.checks.specs.Good.{kindOf}
 use Rattle.meaning.specs.Bindings.{Bindings}
 use Rattle.meaning.specs.Rules.{apply}
 use Rattle.meaning.specs.Limits.{lost, at}
-use Rattle.leaves.specs.Noted.{Ran, leftOf}
+use Rattle.state.specs.Noted.{Ran, leftOf}
 use Rattle.meaning.specs.Demands.{Kept, Leaves}
 use denote.Enum.Declared.{tagOf}
-use Rattle.leaves.proofs.answers.Answer.{the-type}
-use Rattle.leaves.specs.declared.answers.Answer.{Answer}
-use Rattle.leaves.specs.declared.answers.Answer.the-variants.{Done, Failed, Cut}
-use Rattle.leaves.specs.Answers.{packed, nodeIn, unitsIn, unitsWord, nestingWord, failedWord, answerOf}
-use Rattle.leaves.specs.Record.{recordLong, markOf, notesOf, standing, missing, held, back, Framed}
-use Rattle.leaves.specs.Visits.{visit, ruled, out, countOf, Entries, Steady, Gives}
+use Rattle.state.proofs.answers.Answer.{the-type}
+use Rattle.state.specs.declared.answers.Answer.{Answer}
+use Rattle.state.specs.declared.answers.Answer.the-variants.{Done, Failed, Cut}
+use Rattle.state.specs.Answers.{packed, nodeIn, unitsIn, unitsWord, nestingWord, failedWord, answerOf}
+use Rattle.state.specs.Record.{recordLong, markOf, notesOf, standing, missing, held, back, Framed}
+use Rattle.state.specs.Visits.{visit, ruled, out, countOf, Entries, Steady, Gives}
 use Rattle.cycle.specs.Cycle.{Ready, Last, VisitsToFailure}
-use Rattle.leaves.proofs.AnswerWords.{answer-failed, out-failed, node-packed, units-packed, done-node, done-units, failed-few}
-use Rattle.leaves.proofs.Asking.{Tagged}
+use Rattle.state.proofs.AnswerWords.{answer-failed, out-failed, node-packed, units-packed, done-node, done-units, failed-few}
+use Rattle.state.proofs.Asking.{Tagged}
 use Rattle.leaves.proofs.Kind.{applied}
 use Rattle.leaves.proofs.Keeping.{LeavesFitting, steady-missing, apply-leaves, steady-kept, steady-after, leaves-done, leaves-failed, node-small}
 use Rattle.index.specs.Run.{noting}
 use Rattle.leaves.proofs.Patterns.{operand-below}
-use Rattle.leaves.proofs.Holding.{further, held-back, mark-back, notes-back, length-back, held-missing, mark-missing, notes-missing, framed-missing, framed-back, framed-refl, framed-trans}
+use Rattle.state.proofs.Holding.{further, held-back, mark-back, notes-back, length-back, held-missing, mark-missing, notes-missing, framed-missing, framed-back, framed-refl, framed-trans}
 use Rattle.leaves.proofs.Limited.{units-out, nesting-out}
 use Rattle.cycle.proofs.Ruling.{ready-operand, ruled-rec, ruled-call}
 use Rattle.cycle.proofs.Returning.{gives-itself}

@@ -12,16 +12,16 @@ use Rattle.meaning.specs.Bindings.{Bindings, unbound, masked}
 use Rattle.meaning.specs.Plan.{keep, drop, ret, fail, ask}
 use Rattle.meaning.specs.Rules.{Visit, apply, Do}
 use Rattle.meaning.specs.Limits.{ended, lost, cut, runPlan}
-use Rattle.leaves.specs.Noted.{Standing, backTo, on, stored, Ran, leftOf}
-use Rattle.leaves.specs.declared.answers.Answer.{Answer}
-use Rattle.leaves.specs.declared.answers.Answer.the-variants.{Done, Failed, Cut}
-use Rattle.leaves.specs.declared.answers.Attempt.{Attempt}
-use Rattle.leaves.specs.declared.answers.Attempt.the-variants.{Ended, Cut as Off}
-use Rattle.leaves.specs.Answers.{packed, nodeIn, unitsIn, failedWord, answerOf, attemptOf}
-use Rattle.leaves.specs.Record.{markOf, notesOf, standing, held, back, Framed}
-use Rattle.leaves.specs.Visits.{visit, plan, ruled, out, Steady}
-use Rattle.leaves.proofs.AnswerWords.{gave, gave-failed, done-units, failed-few, attempt-done, attempt-failed, attempt-cut}
-use Rattle.leaves.proofs.Asking.{Tagged, goes-on, goes-back, caught, cut-off, not-done, not-failed, last}
+use Rattle.state.specs.Noted.{Standing, backTo, on, stored, Ran, leftOf}
+use Rattle.state.specs.declared.answers.Answer.{Answer}
+use Rattle.state.specs.declared.answers.Answer.the-variants.{Done, Failed, Cut}
+use Rattle.state.specs.declared.answers.Attempt.{Attempt}
+use Rattle.state.specs.declared.answers.Attempt.the-variants.{Ended, Cut as Off}
+use Rattle.state.specs.Answers.{packed, nodeIn, unitsIn, failedWord, answerOf, attemptOf}
+use Rattle.state.specs.Record.{markOf, notesOf, standing, held, back, Framed}
+use Rattle.state.specs.Visits.{visit, plan, ruled, out, Steady}
+use Rattle.state.proofs.AnswerWords.{gave, gave-failed, done-units, failed-few, attempt-done, attempt-failed, attempt-cut}
+use Rattle.state.proofs.Asking.{Tagged, goes-on, goes-back, caught, cut-off, not-done, not-failed, last}
 use Rattle.cycle.proofs.Ruling.{ruled-test, ruled-not, ruled-where, ruled-seq, ruled-choice, ruled-left}
 
 -- plans at their end

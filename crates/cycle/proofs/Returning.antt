@@ -8,24 +8,24 @@ use lib.ListN.{length}
 use Rattle.words.specs.Words.{wordAt}
 use Rattle.checks.specs.Good.{kindOf}
 use Rattle.meaning.specs.Rules.{apply}
-use Rattle.leaves.specs.declared.answers.Answer.{Answer}
-use Rattle.leaves.specs.declared.answers.Answer.the-variants.{Done, Failed, Cut}
-use Rattle.leaves.specs.declared.answers.Attempt.{Attempt}
-use Rattle.leaves.specs.declared.answers.Attempt.the-variants.{Ended, Cut as Off}
-use Rattle.leaves.specs.Answers.{packed, nodeIn, unitsIn, failedWord, answerOf, attemptOf}
-use Rattle.leaves.specs.Record.{recordLong, markOf, notesOf, standing, held, back, Framed}
+use Rattle.state.specs.declared.answers.Answer.{Answer}
+use Rattle.state.specs.declared.answers.Answer.the-variants.{Done, Failed, Cut}
+use Rattle.state.specs.declared.answers.Attempt.{Attempt}
+use Rattle.state.specs.declared.answers.Attempt.the-variants.{Ended, Cut as Off}
+use Rattle.state.specs.Answers.{packed, nodeIn, unitsIn, failedWord, answerOf, attemptOf}
+use Rattle.state.specs.Record.{recordLong, markOf, notesOf, standing, held, back, Framed}
 use Rattle.meaning.specs.Limits.{lost}
-use Rattle.leaves.specs.Noted.{Ran, leftOf}
+use Rattle.state.specs.Noted.{Ran, leftOf}
 use native.Mathlib.Omega.{arith}
-use Rattle.leaves.specs.Visits.{visit, ruled, countOf, noded, Pattern, Gives}
+use Rattle.state.specs.Visits.{visit, ruled, countOf, noded, Pattern, Gives}
 use Rattle.cycle.specs.Cycle.{finished, Ready, Last}
 use borrow.Author.Tests.{ne-eqb}
-use Rattle.leaves.proofs.AnswerWords.{packed-again, gave, gave-failed}
+use Rattle.state.proofs.AnswerWords.{packed-again, gave, gave-failed}
 use Rattle.cycle.proofs.Ruling.{ruled-id, ruled-fail, ruled-above, ruled-all}
-use Rattle.leaves.proofs.Asking.{Tagged}
+use Rattle.state.proofs.Asking.{Tagged}
 use Rattle.cycle.proofs.Walker.{childless}
 use Rattle.leaves.proofs.Keeping.{node-small}
-use Rattle.leaves.proofs.Holding.{further, held-back, mark-back, notes-back, framed-back, length-back, framed-refl}
+use Rattle.state.proofs.Holding.{further, held-back, mark-back, notes-back, framed-back, length-back, framed-refl}
 use Rattle.cycle.proofs.Operators.{other, where-stops, where-done, guard-off, test-done, not-did, test-failed, not-failed-then}
 
 -- the first operand x of entry e ran on the operator's own state, and gave `got`

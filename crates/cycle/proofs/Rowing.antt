@@ -18,11 +18,11 @@ use Rattle.meaning.specs.Store.{children, row}
 use Rattle.meaning.specs.Demands.{Kept}
 use Rattle.meaning.proofs.Checked.{Node, node-of-good}
 use Rattle.meaning.proofs.Words.{kept-word}
-use Rattle.leaves.specs.Noted.{Standing}
-use Rattle.leaves.specs.Record.{markOf, notesOf, standing, held}
-use Rattle.leaves.specs.Visits.{plan, countOf, rowAt, noded, Steady, Stored}
-use Rattle.leaves.specs.Answers.{nodeIn}
-use Rattle.leaves.proofs.Storing.{steady-stored}
+use Rattle.state.specs.Noted.{Standing}
+use Rattle.state.specs.Record.{markOf, notesOf, standing, held}
+use Rattle.state.specs.Visits.{plan, countOf, rowAt, noded, Steady, Stored}
+use Rattle.state.specs.Answers.{nodeIn}
+use Rattle.state.proofs.Storing.{steady-stored}
 use Rattle.cycle.specs.Cycle.{Ready}
 use Rattle.leaves.proofs.Children.{six-at, part-length}
 

@@ -15,13 +15,13 @@ use Rattle.meaning.specs.Plan.{keep, drop, ret, fail, look, make, ask}
 use Rattle.meaning.specs.Rules.{Visit, apply, match, build, Do, strategy, nth, put, zip, agree, when, given, again, walk, oneOf, someOf}
 use Rattle.meaning.specs.Limits.{ended, lost, runPlan}
 use Rattle.meaning.specs.Store.{children}
-use Rattle.leaves.specs.Noted.{Standing, on, stored, Ran, leftOf}
-use Rattle.leaves.specs.Answers.{nodeIn, unitsIn}
-use Rattle.leaves.specs.Record.{markOf, notesOf, standing, held}
-use Rattle.leaves.specs.Visits.{visit, plan, ruled, Entries, Steady, Matchable}
+use Rattle.state.specs.Noted.{Standing, on, stored, Ran, leftOf}
+use Rattle.state.specs.Answers.{nodeIn, unitsIn}
+use Rattle.state.specs.Record.{markOf, notesOf, standing, held}
+use Rattle.state.specs.Visits.{visit, plan, ruled, Entries, Steady, Matchable}
 use Rattle.cycle.specs.Cycle.{visits, walked, Ready}
 use Rattle.leaves.proofs.Kind.{kind-is, rule-is}
-use Rattle.leaves.proofs.Asking.{last}
+use Rattle.state.proofs.Asking.{last}
 use Rattle.leaves.proofs.Patterns.{operand-below}
 
 -- an operand is an entry, and is visited on a node below the mark

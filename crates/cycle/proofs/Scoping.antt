@@ -16,20 +16,20 @@ use Rattle.checks.specs.Good.{kindOf, maskBy}
 use Rattle.meaning.specs.Bindings.{Bindings, has, unbound, masked}
 use Rattle.meaning.specs.Plan.{keep, ret, fail, ask}
 use Rattle.meaning.specs.Rules.{Visit, apply}
-use Rattle.leaves.specs.declared.answers.Answer.{Answer}
-use Rattle.leaves.specs.declared.answers.Answer.the-variants.{Done, Failed, Cut}
-use Rattle.leaves.specs.Answers.{nodeIn, unitsIn, answerOf}
+use Rattle.state.specs.declared.answers.Answer.{Answer}
+use Rattle.state.specs.declared.answers.Answer.the-variants.{Done, Failed, Cut}
+use Rattle.state.specs.Answers.{nodeIn, unitsIn, answerOf}
 use Rattle.meaning.specs.Limits.{lost, cut, at}
-use Rattle.leaves.specs.Noted.{Standing, leftOf}
-use Rattle.leaves.specs.Record.{recordLong, markOf, notesOf, standing, maskOf, held, hidden, keptWords, putBack}
-use Rattle.leaves.specs.Visits.{limitOf, visit, plan, ruled, meaning, out, Steady, Gives}
+use Rattle.state.specs.Noted.{Standing, leftOf}
+use Rattle.state.specs.Record.{recordLong, markOf, notesOf, standing, maskOf, held, hidden, keptWords, putBack}
+use Rattle.state.specs.Visits.{limitOf, visit, plan, ruled, meaning, out, Steady, Gives}
 use Rattle.cycle.specs.Cycle.{Ready}
-use Rattle.leaves.proofs.AnswerWords.{out-answer}
-use Rattle.leaves.proofs.Asking.{goes-on, not-done}
+use Rattle.state.proofs.AnswerWords.{out-answer}
+use Rattle.state.proofs.Asking.{goes-on, not-done}
 use Rattle.leaves.proofs.Walking.{returned}
 use Rattle.leaves.proofs.Patterns.{scope-operand-below}
 use Rattle.cycle.proofs.Ruling.{ruled-scope}
-use Rattle.leaves.proofs.Holding.{further, length-hidden, mark-hidden, notes-hidden, held-hidden, held-apart, held-unscope, framed-unscope, shown, length-shown, mark-shown, notes-shown, held-shown, framed-shown}
+use Rattle.state.proofs.Holding.{further, length-hidden, mark-hidden, notes-hidden, held-hidden, held-apart, held-unscope, framed-unscope, shown, length-shown, mark-shown, notes-shown, held-shown, framed-shown}
 
 -- a visit's answer r with the record st, and the same word with a record st″ that holds f of the bindings
 rebound : (t : List ℕ) (n : ℕ) (q : Visit ℕ) (w : List ℕ) (m : Standing) (u r : ℕ) (st w′ : List ℕ) → out r st w′ ≡ visit t n q w m u

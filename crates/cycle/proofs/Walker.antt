@@ -17,25 +17,25 @@ use Rattle.meaning.specs.Plan.{keep, ret, fail, make, ask}
 use Rattle.meaning.specs.Rules.{Visit, apply, Do, zip, when, again, walk, someOf}
 use Rattle.meaning.specs.Limits.{ended, lost, at, roomFor, runPlan}
 use Rattle.meaning.specs.Store.{children, row}
-use Rattle.leaves.specs.Noted.{Standing, on, stored, Ran, leftOf}
+use Rattle.state.specs.Noted.{Standing, on, stored, Ran, leftOf}
 use Rattle.meaning.specs.Demands.{Kept, Leaves}
 use Rattle.meaning.proofs.Checked.{node-of-good}
 use Rattle.meaning.proofs.Words.{kept-refl, kept-trans, kept-word}
-use Rattle.leaves.specs.declared.answers.Answer.{Answer}
-use Rattle.leaves.specs.declared.answers.Answer.the-variants.{Done, Failed, Cut}
-use Rattle.leaves.specs.declared.answers.Attempt.{Attempt}
-use Rattle.leaves.specs.declared.answers.Attempt.the-variants.{Ended, Cut as Off}
-use Rattle.leaves.specs.Answers.{packed, nodeIn, unitsIn, unitsWord, answerOf, attemptOf}
-use Rattle.leaves.specs.Record.{marking, maskOf, masking, recordLong, markOf, notesOf, standing, held, back, Framed}
-use Rattle.leaves.specs.Visits.{out, visit, plan, countOf, noded, Steady, Stored, Gives}
+use Rattle.state.specs.declared.answers.Answer.{Answer}
+use Rattle.state.specs.declared.answers.Answer.the-variants.{Done, Failed, Cut}
+use Rattle.state.specs.declared.answers.Attempt.{Attempt}
+use Rattle.state.specs.declared.answers.Attempt.the-variants.{Ended, Cut as Off}
+use Rattle.state.specs.Answers.{packed, nodeIn, unitsIn, unitsWord, answerOf, attemptOf}
+use Rattle.state.specs.Record.{marking, maskOf, masking, recordLong, markOf, notesOf, standing, held, back, Framed}
+use Rattle.state.specs.Visits.{out, visit, plan, countOf, noded, Steady, Stored, Gives}
 use Rattle.cycle.specs.Cycle.{Counted, operandFor, visits, walked, finished, entryAhead, Leads, VisitsAhead, Ready}
-use Rattle.leaves.proofs.AnswerWords.{node-packed, units-packed, done-units, failed-few, attempt-done, attempt-failed, attempt-cut, out-units}
-use Rattle.leaves.proofs.Asking.{goes-on, caught, cut-off}
+use Rattle.state.proofs.AnswerWords.{node-packed, units-packed, done-units, failed-few, attempt-done, attempt-failed, attempt-cut, out-units}
+use Rattle.state.proofs.Asking.{goes-on, caught, cut-off}
 use Rattle.leaves.proofs.Keeping.{LeavesFitting, apply-leaves, steady-kept, steady-after, leaves-done, leaves-failed, node-small}
 use Rattle.index.specs.Run.{Fits}
 use Rattle.cycle.proofs.Rowing.{again-noded, ready-stored}
-use Rattle.leaves.proofs.Storing.{kept-stored}
-use Rattle.leaves.proofs.Holding.{further, held-back, mark-back, notes-back, framed-back, length-back, framed-refl, framed-trans}
+use Rattle.state.proofs.Storing.{kept-stored}
+use Rattle.state.proofs.Holding.{further, held-back, mark-back, notes-back, framed-back, length-back, framed-refl, framed-trans}
 use Rattle.leaves.proofs.Children.{part-length, part-next, part-end, filled, filled-next, one-more, filled-row}
 use Rattle.leaves.proofs.Patterns.{operand-below}
 use Rattle.cycle.proofs.Ahead.{leads-on, leads-inside}

@@ -14,10 +14,10 @@ use Rattle.meaning.specs.Table.{operands}
 use Rattle.meaning.specs.Rules.{Visit, apply, Do, does, walk, someOf, again, zip}
 use Rattle.meaning.specs.Limits.{units, nesting, ended, lost, cut}
 use Rattle.meaning.specs.Store.{children}
-use Rattle.leaves.specs.Noted.{Standing, missedAt, on, Ran, leftOf}
-use Rattle.leaves.specs.Answers.{nodeIn, unitsIn}
-use Rattle.leaves.specs.Record.{recordLong, markOf, standing, held}
-use Rattle.leaves.specs.Visits.{countOf, agreeing, visit, plan, ruled, Entries, Steady, Gives, noded}
+use Rattle.state.specs.Noted.{Standing, missedAt, on, Ran, leftOf}
+use Rattle.state.specs.Answers.{nodeIn, unitsIn}
+use Rattle.state.specs.Record.{recordLong, markOf, standing, held}
+use Rattle.state.specs.Visits.{countOf, agreeing, visit, plan, ruled, Entries, Steady, Gives, noded}
 
 -- a kind that the loop of visits leaves to `rule`: neither SEQ, CHOICE, LEFT, REC nor CALL, which have an operand in a last
 -- position, nor CONG nor ONE

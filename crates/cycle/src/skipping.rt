@@ -1,17 +1,17 @@
 // A strategy that is bound to fail at its head, found by a look at the node. What begins a rewrite rule is a MATCH, which
 // fails where constructor or count differ. Its visits are counted without being made.
-use leaves::answers::HALF;
-use leaves::reading::HINT_ENTRY;
-use leaves::reading::HINT_VISITS;
-use leaves::reading::agree;
-use leaves::reading::entry;
+use state::answers::HALF;
+use state::reading::HINT_ENTRY;
+use state::reading::HINT_VISITS;
+use state::reading::agree;
+use state::reading::entry;
 ghost use mathlib.Core.Path.{_≡_};
 ghost use mathlib.Core.Logic.{_⊎_};
 ghost use Prim.Native.Nat.{_<_, min};
 ghost use Rattle.words.specs.Words.{wordAt};
 ghost use Rattle.checks.specs.Good.{kindOf};
-ghost use Rattle.leaves.specs.Answers.{nodeIn, unitsIn};
-ghost use Rattle.leaves.specs.Visits.{Stored};
+ghost use Rattle.state.specs.Answers.{nodeIn, unitsIn};
+ghost use Rattle.state.specs.Visits.{Stored};
 ghost use Rattle.cycle.specs.Cycle.{Hinted, VisitsToFailure};
 
 // How many visits the first operand of the CHOICE or LEFT e makes on the node of s before it fails. 0 where it is not known

@@ -16,9 +16,9 @@ use Rattle.meaning.specs.Shared.{twin}
 use Rattle.index.specs.Lent.{built}
 use Rattle.index.specs.Run.{FitsRoom}
 use Rattle.index.proofs.Twinning.{distinct}
-use Rattle.leaves.specs.Answers.{packed}
-use Rattle.leaves.specs.Record.{topOf}
-use Rattle.leaves.specs.Visits.{Entries}
+use Rattle.state.specs.Answers.{packed}
+use Rattle.state.specs.Record.{topOf}
+use Rattle.state.specs.Visits.{Entries}
 use Rattle.cycle.specs.Cycle.{Hinted, Ready}
 use Rattle.loading.specs.Loaded.{Opened}
 use Rattle.calls.specs.Many.{Module, handed, single}

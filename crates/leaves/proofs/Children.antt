@@ -44,11 +44,13 @@ abbrev pub filled : ℕ → ℕ → List ℕ → List ℕ
 filled c n gs = c ∷ n ∷ gs ++ replicate (6 - length gs) 0
 
 -- one child more
-pub filled-next : (c n i x : ℕ) (gs made : List ℕ) → made ≡ filled c n gs → length gs ≡ i → i < 6 → set made (2 + i) x ≡ filled c n (gs ++ (x ∷ []))
+pub filled-next : (c n i x : ℕ) (gs made : List ℕ) → made ≡ filled c n gs → length gs ≡ i → i < 6 →
+    set made (2 + i) x ≡ filled c n (gs ++ (x ∷ []))
 filled-next c n i x gs made e h l =
     let j : 2 + i ≡ suc (suc (length gs)) = omega arith in
     let z : 6 - length gs ≡ suc (6 - length (gs ++ (x ∷ []))) = omega (arith, length-append gs (x ∷ [])) in
-    let s : set (gs ++ (0 ∷ replicate (6 - length (gs ++ (x ∷ []))) 0)) (length gs) x ≡ (gs ++ (x ∷ [])) ++ replicate (6 - length (gs ++ (x ∷ []))) 0 = set-append-seam gs 0 _ x ∙ sym (append-assoc gs (x ∷ []) _) in
+    let s : set (gs ++ (0 ∷ replicate (6 - length (gs ++ (x ∷ []))) 0)) (length gs) x ≡ (gs ++ (x ∷ [])) ++ replicate
+    (6 - length (gs ++ (x ∷ []))) 0 = set-append-seam gs 0 _ x ∙ sym (append-assoc gs (x ∷ []) _) in
     rw (e, j, z) (ap (λ r. c ∷ n ∷ r) s)
 
 pub one-more : (gs : List ℕ) (x i : ℕ) → length gs ≡ i → length (gs ++ (x ∷ [])) ≡ i + 1

@@ -14,13 +14,13 @@ use Rattle.meaning.specs.Plan.{ret}
 use Rattle.meaning.specs.Rules.{compare, Do, does, comparing, agree, when, walk, zip}
 use Rattle.meaning.specs.Limits.{lost, runPlan}
 use Rattle.meaning.specs.Store.{children}
-use Rattle.leaves.specs.Noted.{Standing, on, Ran, leftOf}
-use Rattle.leaves.specs.declared.answers.Answer.{Answer}
-use Rattle.leaves.specs.declared.answers.Answer.the-variants.{Done, Failed, Cut}
-use Rattle.leaves.specs.Answers.{answerOf, packed, failedWord}
-use Rattle.leaves.specs.Visits.{countOf, visit, plan, giving, kept}
-use Rattle.leaves.proofs.AnswerWords.{kept-done, kept-failed, kept-answer}
-use Rattle.leaves.proofs.Asking.{Tagged}
+use Rattle.state.specs.Noted.{Standing, on, Ran, leftOf}
+use Rattle.state.specs.declared.answers.Answer.{Answer}
+use Rattle.state.specs.declared.answers.Answer.the-variants.{Done, Failed, Cut}
+use Rattle.state.specs.Answers.{answerOf, packed, failedWord}
+use Rattle.state.specs.Visits.{countOf, visit, plan, giving, kept}
+use Rattle.state.proofs.AnswerWords.{kept-done, kept-failed, kept-answer}
+use Rattle.state.proofs.Asking.{Tagged}
 use Rattle.leaves.proofs.Kind.{counted}
 use Rattle.leaves.proofs.Children.{part-length, part-next, part-end}
 use Rattle.leaves.proofs.Walking.{walk-end, kept-on, kept-stop, returned, failing}

@@ -15,20 +15,20 @@ use Rattle.meaning.specs.Table.{PVAR, PCON, operands, table, tableBy}
 use Rattle.meaning.specs.Rules.{Visit, apply, build, does}
 use Rattle.meaning.specs.Derivation.{places}
 use Rattle.meaning.specs.Limits.{ended, run}
-use Rattle.leaves.specs.Noted.{Standing, backTo, on, Ran}
+use Rattle.state.specs.Noted.{Standing, backTo, on, Ran}
 use Rattle.meaning.specs.Demands.{Kept, Leaves}
 use Rattle.meaning.proofs.Alike.{Holdable, Makeable}
 use Rattle.meaning.proofs.Checked.{Node, node-of-good, good-of-node}
 use Rattle.meaning.proofs.Words.{kept-word, same-node}
 use Rattle.index.specs.Run.{Fits, Fitting, SameRoom}
 use Rattle.index.proofs.Running.{mark-small, apply-left, apply-same-room, build-left}
-use Rattle.leaves.specs.declared.answers.Answer.{Answer}
-use Rattle.leaves.specs.declared.answers.Answer.the-variants.{Done, Failed, Cut}
-use Rattle.leaves.specs.Answers.{answerOf, nodeIn, unitsIn}
-use Rattle.leaves.specs.Record.{notesOf, standing, missing, held}
-use Rattle.leaves.specs.Visits.{visit, meaning, out, Entries, Steady}
-use Rattle.leaves.proofs.AnswerWords.{out-answer}
-use Rattle.leaves.proofs.Holding.{further, mark-missing, lasting-missing}
+use Rattle.state.specs.declared.answers.Answer.{Answer}
+use Rattle.state.specs.declared.answers.Answer.the-variants.{Done, Failed, Cut}
+use Rattle.state.specs.Answers.{answerOf, nodeIn, unitsIn}
+use Rattle.state.specs.Record.{notesOf, standing, missing, held}
+use Rattle.state.specs.Visits.{visit, meaning, out, Entries, Steady}
+use Rattle.state.proofs.AnswerWords.{out-answer}
+use Rattle.state.proofs.Holding.{further, mark-missing, lasting-missing}
 
 -- an entry with a first word lies inside the table
 inside : (t : List ℕ) (e : ℕ) → length t ≡ 32768 → 0 < wordAt t e 0 → e < 4096
@@ -43,7 +43,8 @@ pub makeable : (t : List ℕ) → Entries t → Makeable Holdable (table t)
 unfolding tableBy
 makeable t n e a ps q = go (kindOf t e - 18) refl q
   where
-    go : (d : ℕ) → kindOf t e - 18 ≡ d → getD (PVAR (argumentOf t e) ∷ PCON (argumentOf t e) (operands t e) ∷ []) d (PVAR 0) ≡ PCON a ps → Holdable a (length ps)
+    go : (d : ℕ) → kindOf t e - 18 ≡ d → getD (PVAR (argumentOf t e) ∷ PCON (argumentOf t e) (operands t e) ∷ []) d (PVAR 0) ≡ PCON
+        a ps → Holdable a (length ps)
     go zero k q = let z : _≡_ {A = ℕ} 0 1 = cc in absurd (omega arith)
     go (suc zero) k q =
         let x : argumentOf t e ≡ a = cc in
@@ -63,15 +64,19 @@ module _ {w : List ℕ} {m : Standing} {b : Bindings ℕ} (s : Steady w m b) whe
   -- what a visit leaves: of an entry applied, and of a pattern built
   pub apply-leaves : (t : List ℕ) → Entries t → (n e k u : ℕ) → k < m .mark → LeavesFitting w m (visit t n (apply e k b) w m u)
   unfolding visit
-  apply-leaves t n d e k u h = apply-left places (table t) (makeable t n) (m .notes .room) (m .notes .nodes) w (m .mark) (m .notes .top) (s .fits) nodes b (s .bound) k h e d (m .notes .notes) u
+  apply-leaves t n d e k u h = apply-left places (table t) (makeable t n) (m .notes .room) (m .notes .nodes) w (m .mark)
+      (m .notes .top) (s .fits) nodes b (s .bound) k h e d (m .notes .notes) u
 
-  pub apply-rooms : (t : List ℕ) → Entries t → (n e k u : ℕ) → k < m .mark → SameRoom (m .notes .room) (m .notes .nodes) (visit t n (apply e k b) w m u)
+  pub apply-rooms : (t : List ℕ) → Entries t → (n e k u : ℕ) → k < m .mark →
+      SameRoom (m .notes .room) (m .notes .nodes) (visit t n (apply e k b) w m u)
   unfolding visit
-  apply-rooms t n d e k u h = apply-same-room places (table t) (makeable t n) (m .notes .room) (m .notes .nodes) w (m .mark) (m .notes .top) (s .fits) nodes b (s .bound) k h e d (m .notes .notes) u
+  apply-rooms t n d e k u h = apply-same-room places (table t) (makeable t n) (m .notes .room) (m .notes .nodes) w (m .mark)
+      (m .notes .top) (s .fits) nodes b (s .bound) k h e d (m .notes .notes) u
 
   pub build-leaves : (t : List ℕ) → Entries t → (n p k u : ℕ) → k < m .mark → LeavesFitting w m (visit t n (build p k b) w m u)
   unfolding visit
-  build-leaves t n d p k u h = build-left places (table t) (makeable t n) (m .notes .room) (m .notes .nodes) w (m .mark) (m .notes .top) (s .fits) nodes b (s .bound) k h p d (m .notes .notes) u
+  build-leaves t n d p k u h = build-left places (table t) (makeable t n) (m .notes .room) (m .notes .nodes) w (m .mark)
+      (m .notes .top) (s .fits) nodes b (s .bound) k h p d (m .notes .notes) u
 
   -- the store may change above the mark, where it fits still
   pub steady-kept : {w′ : List ℕ} (m′ : Standing) → Kept w (m .mark) w′ → Fits w′ (m .mark) (m′ .notes) → Steady w′ (backTo m m′) b
@@ -83,7 +88,8 @@ module _ {w : List ℕ} {m : Standing} {b : Bindings ℕ} (s : Steady w m b) whe
   }
 
   -- after a success the new store is steady, and the new node lies in it
-  pub steady-after : (w′ : List ℕ) (m′ : Standing) (k v : ℕ) (b′ : Bindings ℕ) → LeavesFitting w m (ended k b′ (on w′ m′) v) → Steady w′ m′ b′
+  pub steady-after : (w′ : List ℕ) (m′ : Standing) (k v : ℕ) (b′ : Bindings ℕ) → LeavesFitting w m (ended k b′ (on w′ m′) v) →
+      Steady w′ m′ b′
   steady-after w′ m′ k v b′ (l, f) = record { fits = f; used = omega (arith, l .0, s .used); good = l .2 .good; bound = l .2 .bound }
 
 -- where a match gave up is of no account
@@ -100,7 +106,8 @@ pub node-small : {w : List ℕ} {m : Standing} {b : Bindings ℕ} → Steady w m
 node-small {w} {m} s k h = omega (arith, mark-small (m .notes .room) w (m .mark) (m .notes .top) (m .notes .nodes) (s .fits))
 
 -- by an answer that was read
-module _ (w : List ℕ) (m : Standing) (o : Ran) (l : LeavesFitting w m o) (r : ℕ) (st w′ : List ℕ) (is : out r st w′ ≡ o) (a : Answer) (read : a ≡ answerOf r) where
+module _ (w : List ℕ) (m : Standing) (o : Ran) (l : LeavesFitting w m o) (r : ℕ) (st w′ : List ℕ) (is : out r st w′ ≡ o)
+    (a : Answer) (read : a ≡ answerOf r) where
   leaves-answer : LeavesFitting w m (meaning a st w′)
   leaves-answer = subst (LeavesFitting w m) (sym is ∙ out-answer st w′ r a read) l
 

@@ -8,11 +8,12 @@ use Rattle.words.specs.Words.{wordAt}
 use Rattle.checks.specs.Kinds.{ours}
 use Rattle.checks.specs.Good.{kindOf, operandCount, argumentOf, maskBy}
 use Rattle.meaning.specs.Bindings.{Bindings}
-use Rattle.meaning.specs.Table.{Strategy, ID, FAIL, TEST, NOT, SEQ, CHOICE, LEFT, REC, CALL, PATH, CONG, ALL, ONE, SOME, MATCH, BUILD, SCOPE, WHERE, Pattern, PVAR, PCON, table, tableBy, byKind, operands}
+use Rattle.meaning.specs.Table.{Strategy, ID, FAIL, TEST, NOT, SEQ, CHOICE, LEFT, REC, CALL, PATH, CONG, ALL, ONE, SOME, MATCH, BUILD}
+use Rattle.meaning.specs.Table.{SCOPE, WHERE, Pattern, PVAR, PCON, table, tableBy, byKind, operands}
 use Rattle.meaning.specs.Rules.{Visit, apply, match, build, Do, does, strategy, matching, building}
 use Rattle.meaning.specs.Limits.{units, nesting, ended, lost, cut, closed, run, runPlan}
-use Rattle.leaves.specs.Noted.{Standing, on, stored, Ran, leftOf}
-use Rattle.leaves.specs.Visits.{visit, plan, ruled}
+use Rattle.state.specs.Noted.{Standing, on, stored, Ran, leftOf}
+use Rattle.state.specs.Visits.{visit, plan, ruled}
 
 -- a visit's end is noted, and no place comes of it
 closed-places : (q : Visit ℕ) (r : Ran) → closed stored q r ≡ r
@@ -45,7 +46,8 @@ module _ (t : List ℕ) (n : ℕ) (q : Visit ℕ) (w : List ℕ) (m : Standing) 
   unfolding visit plan run
   counted h k = go n u h k
     where
-      go : (n u : ℕ) → (u ≡ 0 → ⊥) → (n ≡ 0 → ⊥) → run stored (does (table t)) n q (on w m) u ≡ runPlan stored (run stored (does (table t)) (n - 1)) (does (table t) q) (on w m) (u - 1)
+      go : (n u : ℕ) → (u ≡ 0 → ⊥) → (n ≡ 0 → ⊥) → run stored (does (table t)) n q (on w m) u ≡ runPlan stored
+          (run stored (does (table t)) (n - 1)) (does (table t) q) (on w m) (u - 1)
       go zero u h k = absurd (k refl)
       go (suc n) zero h k = absurd (h refl)
       go (suc n) (suc u) h k =
@@ -55,9 +57,11 @@ module _ (t : List ℕ) (n : ℕ) (q : Visit ℕ) (w : List ℕ) (m : Standing) 
 
 -- an entry's strategy and its pattern, by its kind
 module _ (t : List ℕ) (e : ℕ) where
-  pub kind-is : (k : ℕ) → kindOf t e ≡ k → table t .strategies e ≡ getD (byKind (argumentOf t e) (wordAt t e 2) (wordAt t e 3) (operands t e) (maskBy ours t e) (wordAt t e (1 + ours))) k FAIL
+  pub kind-is : (k : ℕ) → kindOf t e ≡ k → table t .strategies e ≡ getD
+      (byKind (argumentOf t e) (wordAt t e 2) (wordAt t e 3) (operands t e) (maskBy ours t e) (wordAt t e (1 + ours))) k FAIL
   unfolding tableBy
-  kind-is k h = ap (λ (k : ℕ). getD (byKind (argumentOf t e) (wordAt t e 2) (wordAt t e 3) (operands t e) (maskBy ours t e) (wordAt t e (1 + ours))) k FAIL) h
+  kind-is k h = ap (λ (k : ℕ). getD (byKind (argumentOf t e) (wordAt t e 2) (wordAt t e 3) (operands t e) (maskBy ours t e)
+      (wordAt t e (1 + ours))) k FAIL) h
 
   pub pattern-variable : kindOf t e ≡ 18 → table t .patterns e ≡ PVAR (argumentOf t e)
   unfolding tableBy
@@ -68,9 +72,11 @@ module _ (t : List ℕ) (e : ℕ) where
   pattern-con h = ap (λ (k : ℕ). getD (PVAR (argumentOf t e) ∷ PCON (argumentOf t e) (operands t e) ∷ []) (k - 18) (PVAR 0)) h
 
 -- the rule of a visited entry
-pub rule-is : (t : List ℕ) (n e k : ℕ) (b : Bindings ℕ) (w : List ℕ) (m : Standing) (u : ℕ) (s : Strategy) → table t .strategies e ≡ s → ruled t n e k b w m u ≡ plan t n (strategy s k b) w m u
+pub rule-is : (t : List ℕ) (n e k : ℕ) (b : Bindings ℕ) (w : List ℕ) (m : Standing) (u : ℕ) (s : Strategy) →
+    table t .strategies e ≡ s → ruled t n e k b w m u ≡ plan t n (strategy s k b) w m u
 rule-is t n e k b w m u s h = ap (λ s. plan t n (strategy s k b) w m u) h
 
-pub applied : (t : List ℕ) (n e k : ℕ) (b : Bindings ℕ) (w : List ℕ) (m : Standing) (u : ℕ) → (u ≡ 0 → ⊥) → (n ≡ 0 → ⊥) → visit t n (apply e k b) w m u ≡ ruled t (n - 1) e k b w m (u - 1)
+pub applied : (t : List ℕ) (n e k : ℕ) (b : Bindings ℕ) (w : List ℕ) (m : Standing) (u : ℕ) → (u ≡ 0 → ⊥) → (n ≡ 0 → ⊥) →
+    visit t n (apply e k b) w m u ≡ ruled t (n - 1) e k b w m (u - 1)
 unfolding does
 applied t n e k b w m u h l = counted t n (apply e k b) w m u h l

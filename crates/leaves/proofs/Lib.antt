@@ -1,11 +1,6 @@
 -- Laws that belong to no one function.
-pub mod Element
-pub mod AnswerWords
-pub mod Asking
 pub mod Kind
-pub mod Holding
 pub mod Keeping
-pub mod Storing
 pub mod Children
 pub mod Walking
 pub mod Limited

@@ -4,11 +4,11 @@ use mathlib.Core.List.{List}
 use Prim.Native.Nat.{ℕ, _<_}
 use Rattle.meaning.specs.Bindings.{Bindings}
 use Rattle.meaning.specs.Rules.{Visit}
-use Rattle.leaves.specs.Noted.{Standing}
-use Rattle.leaves.specs.Answers.{unitsWord, nestingWord}
-use Rattle.leaves.specs.Record.{standing}
-use Rattle.leaves.specs.Visits.{visit, out, kept}
-use Rattle.leaves.proofs.AnswerWords.{out-units, out-nesting, kept-units, kept-nesting}
+use Rattle.state.specs.Noted.{Standing}
+use Rattle.state.specs.Answers.{unitsWord, nestingWord}
+use Rattle.state.specs.Record.{standing}
+use Rattle.state.specs.Visits.{visit, out, kept}
+use Rattle.state.proofs.AnswerWords.{out-units, out-nesting, kept-units, kept-nesting}
 use Rattle.leaves.proofs.Kind.{no-units, no-nesting}
 
 module _ (t : List ℕ) (n : ℕ) (q : Visit ℕ) (w : List ℕ) (u r : ℕ) where

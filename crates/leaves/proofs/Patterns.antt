@@ -14,7 +14,7 @@ use Rattle.checks.specs.Good.{kindOf, operandCount, argumentOf}
 use Rattle.meaning.specs.Table.{operands}
 use Rattle.meaning.specs.Rules.{agree}
 use Rattle.meaning.specs.Store.{children}
-use Rattle.leaves.specs.Visits.{countOf, agreeing, Pattern, Entries}
+use Rattle.state.specs.Visits.{countOf, agreeing, Pattern, Entries}
 use Rattle.leaves.proofs.Children.{part-length}
 
 pub no-variable : (t : List ℕ) (p k : ℕ) → Pattern t p → k ≡ kindOf t p → (k ≡ 18 → ⊥) → kindOf t p ≡ 19

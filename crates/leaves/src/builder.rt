@@ -1,32 +1,32 @@
 // A new node at the mark, and the builder: nodes after their children, left to right. A variable without its binding ends the run.
-use crate::answers::Answer;
-use crate::answers::answer_of;
-use crate::answers::done;
-use crate::answers::no_binding;
-use crate::answers::no_nesting;
-use crate::answers::no_room;
-use crate::answers::no_units;
-use crate::reading::entry;
-use crate::reading::kind;
-use crate::reading::operands;
-use crate::record::MARK;
-use crate::record::NODES;
-use crate::record::RECORD;
-use crate::record::ROOM;
-use crate::record::TOP;
-use crate::record::bit;
-use crate::record::word_of;
 use checks::kinds::PVAR;
 use index::lent::Node;
 use index::lent::ask;
+use state::answers::Answer;
+use state::answers::answer_of;
+use state::answers::done;
+use state::answers::no_binding;
+use state::answers::no_nesting;
+use state::answers::no_room;
+use state::answers::no_units;
+use state::reading::entry;
+use state::reading::kind;
+use state::reading::operands;
+use state::record::MARK;
+use state::record::NODES;
+use state::record::RECORD;
+use state::record::ROOM;
+use state::record::TOP;
+use state::record::bit;
+use state::record::word_of;
 use words::put_row;
 ghost use mathlib.Core.Path.{_≡_};
 ghost use Prim.Native.Nat.{_<_, _≤_};
 ghost use lib.ListN.{length};
 ghost use Rattle.checks.specs.Good.{kindOf};
 ghost use Rattle.index.specs.Run.{Fits};
-ghost use Rattle.leaves.specs.Record.{markOf, roomOf, notesOf, recordLong};
-ghost use Rattle.leaves.specs.Visits.{noded, Gives, Entries, Buildable, Builds, BuildsVariable};
+ghost use Rattle.state.specs.Record.{markOf, roomOf, notesOf, recordLong};
+ghost use Rattle.state.specs.Visits.{noded, Gives, Entries, Buildable, Builds, BuildsVariable};
 
 // The node of these eight words where the room does not let it be made at once: there is none, or the index is asked.
 fn node_asked(store: &mut [u32], st: &mut [u32; RECORD], made: [u32; 8], left: u32) -> u64

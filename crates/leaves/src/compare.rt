@@ -2,15 +2,15 @@
 // pairs. Their node numbers are lower, since children lie below their parent; so they stand in the store as their parents do. That it
 // ends is by the nesting, which falls at each call. Nesting and units are counted as for every visit. The last child pair goes round the
 // loop, one deeper as the others, and takes no new frame of the machine's stack.
-use crate::answers::Answer;
-use crate::answers::answer_of;
-use crate::answers::done;
-use crate::answers::failure;
-use crate::answers::no_nesting;
-use crate::answers::no_units;
-use crate::reading::count;
-use crate::reading::node_word;
-ghost use Rattle.leaves.specs.Visits.{Compares, Stored};
+use state::answers::Answer;
+use state::answers::answer_of;
+use state::answers::done;
+use state::answers::failure;
+use state::answers::no_nesting;
+use state::answers::no_units;
+use state::reading::count;
+use state::reading::node_word;
+ghost use Rattle.state.specs.Visits.{Compares, Stored};
 
 // Whether nodes a and b are the same term. The answer's node means nothing; its units count.
 pub(crate) fn same(store: &[u32], a: u32, b: u32, units: u32, deep: u32) -> u64

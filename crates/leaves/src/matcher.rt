@@ -1,34 +1,34 @@
 // The matcher: pattern and term walked together, left to right. The bindings are one record that it fills as it walks: the
 // run's own, in place, for the children of a MATCH's pattern. Its core, for a pattern nested in one, takes and returns the record by
 // value, and fills its own copy, in place at every level below.
-use crate::answers::Answer;
-use crate::answers::HALF;
-use crate::answers::answer_of;
-use crate::answers::done;
-use crate::answers::failure;
-use crate::answers::no_nesting;
-use crate::answers::no_units;
-use crate::answers::stopped;
 use crate::compare::same;
-use crate::reading::agree;
-use crate::reading::entry;
-use crate::reading::kind;
-use crate::reading::node_word;
-use crate::reading::operands;
-use crate::record::Bindings;
-use crate::record::MISS;
-use crate::record::RECORD;
-use crate::record::bind;
-use crate::record::bit;
-use crate::record::give_up;
-use crate::record::put_variable;
-use crate::record::word_of;
 use checks::kinds::PVAR;
+use state::answers::Answer;
+use state::answers::HALF;
+use state::answers::answer_of;
+use state::answers::done;
+use state::answers::failure;
+use state::answers::no_nesting;
+use state::answers::no_units;
+use state::answers::stopped;
+use state::reading::agree;
+use state::reading::entry;
+use state::reading::kind;
+use state::reading::node_word;
+use state::reading::operands;
+use state::record::Bindings;
+use state::record::MISS;
+use state::record::RECORD;
+use state::record::bind;
+use state::record::bit;
+use state::record::give_up;
+use state::record::put_variable;
+use state::record::word_of;
 ghost use mathlib.Core.Path.{_≡_};
 ghost use Prim.Native.Nat.{_<_};
 ghost use lib.ListN.{length};
-ghost use Rattle.leaves.specs.Record.{recordLong, held};
-ghost use Rattle.leaves.specs.Visits.{Pattern, Agreed, Matchable, Matches, MatchesChildren, Bound};
+ghost use Rattle.state.specs.Record.{recordLong, held};
+ghost use Rattle.state.specs.Visits.{Pattern, Agreed, Matchable, Matches, MatchesChildren, Bound};
 
 // The children of a PCON whose constructor and count agree with the node's, after its own visit, one by one, in the record lent. Some
 // nesting is left for them, so that the loop does not test it; its caller does.

@@ -21,10 +21,10 @@ use Rattle.meaning.specs.Store.{named, bindings}
 use Rattle.meaning.specs.Answer.{bindingWord, bindingWords}
 use Rattle.meaning.specs.Limits.{at}
 use Rattle.index.specs.Run.{lending}
-use Rattle.leaves.specs.Noted.{Standing}
-use Rattle.leaves.specs.Record.{markAt, recordLong, maskOf, wordOf, bitOf, held, bound, roomAt, topAt, nodesAt, standing}
+use Rattle.state.specs.Noted.{Standing}
+use Rattle.state.specs.Record.{markAt, recordLong, maskOf, wordOf, bitOf, held, bound, roomAt, topAt, nodesAt, standing}
 use Rattle.meaning.proofs.Bits.{bit-has, has-nothing}
-use Rattle.leaves.proofs.Holding.{further, held-some, held-none, held-bound, length-bound, mark-bound, notes-bound}
+use Rattle.state.proofs.Holding.{further, held-some, held-none, held-bound, length-bound, mark-bound, notes-bound}
 use Rattle.calls.proofs.Words.{with-next, length-words, word-of}
 use Rattle.loading.specs.Loaded.{Hints, given, Loaded, Opened}
 

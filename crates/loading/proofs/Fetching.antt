@@ -23,8 +23,8 @@ use Rattle.checks.proofs.Good.{operandCount-six, operands-word, operand-word}
 use Rattle.checks.proofs.Promises.{tablePasses, entryPlain}
 use Rattle.meaning.specs.Table.{table, tableBy, byKind, operands, PVAR, PCON}
 use Rattle.meaning.proofs.Tests.{decided}
-use Rattle.leaves.specs.Visits.{Entries}
-use Rattle.leaves.specs.Visits as visits
+use Rattle.state.specs.Visits.{Entries}
+use Rattle.state.specs.Visits as visits
 use Rattle.leaves.proofs.Kind.{kind-is}
 use Rattle.loading.specs.Loaded.{HasHead, MATCH, SEQ, SCOPE, Hints, given, choice, all, Loaded}
 

@@ -11,7 +11,7 @@ use Rattle.checks.specs.Kinds.{ours, lines, lineOf, kind}
 use Rattle.checks.specs.Good.{kindOf}
 use Rattle.checks.specs.Checked.{checked, tableChecked}
 use Rattle.meaning.specs.Rules.{apply}
-use Rattle.leaves.specs.Visits.{visit, agreeing}
+use Rattle.state.specs.Visits.{visit, agreeing}
 use Rattle.cycle.specs.Cycle.{VisitsToFailure, Leads, Heads, Hinted}
 use Rattle.leaves.proofs.Kind.{applied, no-units}
 use Rattle.cycle.proofs.Ruling.{ruled-rec, ruled-call}

@@ -10,7 +10,7 @@ use Rattle.checks.specs.Good.{kindOf}
 use Rattle.meaning.specs.Store.{bindings}
 use Rattle.meaning.specs.Limits.{at}
 use Rattle.index.specs.Run.{lending}
-use Rattle.leaves.specs.Record.{recordLong, standing, held}
+use Rattle.state.specs.Record.{recordLong, standing, held}
 
 -- the head of entry q is a MATCH of the PCON p: q begins with it, and the nth visit is that of p
 pub data HasHead (t : List ℕ) (p : ℕ) : ℕ → ℕ → Type 0 where

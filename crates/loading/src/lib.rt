@@ -1,22 +1,22 @@
 // What a run copies once: the table into words of fixed length, the bindings into the run's one record, and back.
 use crate::hints::hint_for;
 use checks::kinds::VARIABLES;
-use leaves::record::Bindings;
-use leaves::record::MARK;
-use leaves::record::NODES;
-use leaves::record::RECORD;
-use leaves::record::ROOM;
-use leaves::record::TOP;
-use leaves::record::bind;
-use leaves::record::bit;
-use leaves::record::word_of;
+use state::record::Bindings;
+use state::record::MARK;
+use state::record::NODES;
+use state::record::RECORD;
+use state::record::ROOM;
+use state::record::TOP;
+use state::record::bind;
+use state::record::bit;
+use state::record::word_of;
 ghost use mathlib.Core.Path.{_≡_};
 ghost use mathlib.Core.Option.{some};
 ghost use Prim.Native.Nat.{ℕ, _≤_, _<_};
 ghost use lib.ListN.{length, replicate};
 ghost use Rattle.checks.specs.Kinds.{variables};
 ghost use Rattle.meaning.specs.Answer.{bindingWords};
-ghost use Rattle.leaves.specs.Record.{held};
+ghost use Rattle.state.specs.Record.{held};
 ghost use Rattle.loading.specs.Loaded.{Loaded, Opened};
 
 mod hints;

@@ -34,16 +34,16 @@ use Rattle.meaning.specs.Demands.{Leaves}
 use Rattle.meaning.proofs.Tests.{impossible}
 use Rattle.meaning.proofs.Falling.{unitsLeft, units-fall}
 use Rattle.meaning.proofs.Demands.{over-the-words}
-use Rattle.leaves.specs.declared.answers.Answer.{Answer}
-use Rattle.leaves.specs.declared.answers.Answer.the-variants.{Done, Failed, Cut}
-use Rattle.leaves.specs.Answers.{packed, nodeIn, unitsIn, unitsHalf, roomHalf, answerOf}
-use Rattle.leaves.specs.Noted.{Standing, missedAt, on, leftOf, stored, Ran as LentRan}
-use Rattle.leaves.specs.Record.{markOf, missOf, roomOf, topOf, nodesOf, standing, missing, held}
-use Rattle.leaves.specs.Visits.{visit, limitOf, meaning, out, Entries, Steady, Gives}
+use Rattle.state.specs.declared.answers.Answer.{Answer}
+use Rattle.state.specs.declared.answers.Answer.the-variants.{Done, Failed, Cut}
+use Rattle.state.specs.Answers.{packed, nodeIn, unitsIn, unitsHalf, roomHalf, answerOf}
+use Rattle.state.specs.Noted.{Standing, missedAt, on, leftOf, stored, Ran as LentRan}
+use Rattle.state.specs.Record.{markOf, missOf, roomOf, topOf, nodesOf, standing, missing, held}
+use Rattle.state.specs.Visits.{visit, limitOf, meaning, out, Entries, Steady, Gives}
 use Rattle.cycle.specs.Cycle.{Hinted, Ready}
-use Rattle.leaves.proofs.Holding.{further, mark-missing, notes-missing, held-missing, framed-missing}
+use Rattle.state.proofs.Holding.{further, mark-missing, notes-missing, held-missing, framed-missing}
 use Rattle.leaves.proofs.Keeping.{makeable, apply-leaves, apply-rooms, steady-missing}
-use Rattle.leaves.proofs.AnswerWords.{node-packed, units-packed, out-answer}
+use Rattle.state.proofs.AnswerWords.{node-packed, units-packed, out-answer}
 use Rattle.loading.specs.Loaded.{Loaded, Opened}
 use Rattle.calls.specs.Refused.{refusedWith}
 use Rattle.calls.specs.Run.{atReturn, refusing, runWith, runWithBy, numbers, wordsOf}

@@ -9,9 +9,9 @@ use Rattle.meaning.specs.Derivation.{nowhere}
 use Rattle.meaning.specs.Rules.{apply}
 use Rattle.meaning.specs.Store.{State, Ran}
 use Rattle.index.specs.Run.{FitsRoom, ownWords, ownRan}
-use Rattle.leaves.specs.Noted.{missedAt}
-use Rattle.leaves.specs.Record.{markOf, roomOf, topOf, nodesOf, standing, held}
-use Rattle.leaves.specs.Visits.{limitOf, visit}
+use Rattle.state.specs.Noted.{missedAt}
+use Rattle.state.specs.Record.{markOf, roomOf, topOf, nodesOf, standing, held}
+use Rattle.state.specs.Visits.{limitOf, visit}
 use Rattle.calls.specs.Run.{numbers as numbersOf, wordsOf}
 use Rattle.calls.specs.declared.Outcome.{Outcome}
 

@@ -5,14 +5,14 @@ use mathlib.Core.Logic.{⊎-elim}
 use borrow.Author.Needs.{needs}
 use native.Mathlib.Omega.{arith}
 use Rattle.checks.specs.Kinds.{variables}
-use Rattle.leaves.specs.Record.{held}
-use Rattle.leaves.proofs.Holding.{further, held-some}
+use Rattle.state.specs.Record.{held}
+use Rattle.state.proofs.Holding.{further, held-some}
 use Rattle.loading.proofs.Copying.{Written, written-none, written-more, written-all, word-some, word-none}
 use Rattle.loading.proofs.closed.Statement.{statement}
 use Rattle.loading.proofs.closed.Tie as tie
 use Rattle.loading.proofs.closed.Reads as reads
 use Rattle.loading.proofs.closed.Lts as lts
-use Rattle.leaves.proofs.record.bit.Reads as bit-reads
+use Rattle.state.proofs.record.bit.Reads as bit-reads
 
 abbrev Inv-loop : tie.InvT-loop
 Inv-loop bindings₀ st v₀ bindings v = (v ≤ variables) × Written (held st) bindings v

@@ -11,7 +11,7 @@ use Rattle.loading.proofs.opened.Statement.{statement}
 use Rattle.loading.proofs.opened.Tie as tie
 use Rattle.loading.proofs.opened.Reads as reads
 use Rattle.loading.proofs.opened.Lts as lts
-use Rattle.leaves.proofs.record.bind.Reads as bind-reads
+use Rattle.state.proofs.record.bind.Reads as bind-reads
 
 abbrev Inv-loop : tie.InvT-loop
 Inv-loop bindings mark room top nodes words₀ v₀ words v = (v ≤ variables) × Filled bindings (at mark (lending 0 room top nodes)) words v

@@ -15,7 +15,7 @@ use Rattle.meaning.specs.Derivation.{places, nowhere}
 use Rattle.meaning.specs.Store.{ran as ranOver}
 use Rattle.meaning.specs.Answer.{bindingWords}
 use Rattle.checks.specs.Kinds.{variables}
-use Rattle.leaves.specs.Record.{held}
+use Rattle.state.specs.Record.{held}
 use Rattle.running.specs.Ends.{Ends}
 use Rattle.calls.proofs.Accepting.{accepted-with}
 use Rattle.loading.proofs.Fetching.{table-loaded, entries-loaded}

@@ -5,7 +5,7 @@ use Rattle.cycle.proofs.visits.finish.Statement.{statement}
 use Rattle.cycle.proofs.visits.finish.Tie as tie
 use Rattle.cycle.proofs.visits.finish.Reads as reads
 use Rattle.cycle.proofs.visits.finish.Lts as lts
-use Rattle.leaves.proofs.answers.failure.Reads as failure-reads
+use Rattle.state.proofs.answers.failure.Reads as failure-reads
 use Rattle.leaves.proofs.builder.node.Reads as node-reads
 
 returns : tie.Need-returns

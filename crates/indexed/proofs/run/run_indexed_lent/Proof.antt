@@ -19,7 +19,7 @@ use Rattle.running.specs.Ends.{Ends}
 use Rattle.running.proofs.Whole.{ranFor, ready, ended-as, fits-after, table-fits, bound-left, comes-back}
 use Rattle.loading.proofs.Hinting.{hints-loaded}
 use Rattle.loading.proofs.Fetching.{table-loaded, entries-loaded}
-use Rattle.leaves.specs.Record.{topOf, held}
+use Rattle.state.specs.Record.{topOf, held}
 use Rattle.meaning.specs.Answer.{bindingWords}
 use Rattle.checks.specs.Kinds.{variables}
 use Rattle.calls.specs.Indexed.{indexedAtReturn, indexedRefused, indexedOf}

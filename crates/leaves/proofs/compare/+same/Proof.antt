@@ -7,9 +7,9 @@ use borrow.Author.Needs.{needs}
 use mir.Val.{Fits}
 use mir.Syntax.{w32}
 use Rattle.words.specs.Words.{wordAt}
-use Rattle.leaves.specs.Visits.{countOf, Stored}
-use Rattle.leaves.proofs.AnswerWords.{done-units}
-use Rattle.leaves.proofs.Storing.{child-stored}
+use Rattle.state.specs.Visits.{countOf, Stored}
+use Rattle.state.proofs.AnswerWords.{done-units}
+use Rattle.state.proofs.Storing.{child-stored}
 use Rattle.leaves.proofs.Limited.{units-kept, nesting-kept}
 use Rattle.leaves.proofs.Comparing.{Pair, From-pair, not-zero, one-less, falls-once, lower, weaker, below}
 use Rattle.leaves.proofs.Comparing.{not-last, last, up-to, nearer, few, child-word}
@@ -20,13 +20,13 @@ use borrow.Fn.PlainCycle.{Measures, is, falls, and}
 use Rattle.leaves.proofs.compare.same.Reads as same
 use Rattle.leaves.proofs.compare.same.Kinds as same-kinds
 use Rattle.leaves.proofs.compare.+same.Lts-same as same-lts
-use Rattle.leaves.proofs.answers.done.Reads as done-reads
-use Rattle.leaves.proofs.answers.failure.Reads as failure-reads
-use Rattle.leaves.proofs.answers.no_nesting.Reads as no-nesting-reads
-use Rattle.leaves.proofs.answers.no_units.Reads as no-units-reads
-use Rattle.leaves.proofs.answers.answer_of.Reads as answer-of-reads
-use Rattle.leaves.proofs.reading.count.Reads as count-reads
-use Rattle.leaves.proofs.reading.node_word.Reads as node-word-reads
+use Rattle.state.proofs.answers.done.Reads as done-reads
+use Rattle.state.proofs.answers.failure.Reads as failure-reads
+use Rattle.state.proofs.answers.no_nesting.Reads as no-nesting-reads
+use Rattle.state.proofs.answers.no_units.Reads as no-units-reads
+use Rattle.state.proofs.answers.answer_of.Reads as answer-of-reads
+use Rattle.state.proofs.reading.count.Reads as count-reads
+use Rattle.state.proofs.reading.node_word.Reads as node-word-reads
 use Rattle.leaves.proofs.compare.+same.{statement}
 use Rattle.leaves.proofs.compare.+same.Tie.{close}
 

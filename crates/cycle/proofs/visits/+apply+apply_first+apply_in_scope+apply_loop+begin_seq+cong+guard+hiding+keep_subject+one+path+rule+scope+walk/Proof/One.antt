@@ -2,7 +2,7 @@
 -- counted and not made.
 use mathlib.Core.Path.{refl, _∙_}
 use Rattle.cycle.proofs.Descending.{Trying, stored-one, one-begins, ready-one, gives-one-short, gives-one-off, fits-one, gives-one, one-again, gives-one-none}
-use Rattle.leaves.proofs.Storing.{steady-stored}
+use Rattle.state.proofs.Storing.{steady-stored}
 use Rattle.cycle.proofs.Rowing.{ready-stored}
 use Prim.Native.Nat.{ℕ, _-_, _≤_}
 use borrow.Author.Needs.{needs}

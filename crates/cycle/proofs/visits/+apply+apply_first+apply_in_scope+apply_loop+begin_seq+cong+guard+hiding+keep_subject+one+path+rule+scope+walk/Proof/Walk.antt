@@ -1,9 +1,9 @@
 use Rattle.cycle.proofs.Walker.{Going, going-stored, going-first, going-off, going-stops, going-yes, going-no, going-fits, going-long, going-small, going-ends, ahead-ready, ahead-gives, ahead-short, placed, four-still, whole-made}
 use Rattle.cycle.proofs.Rowing.{ready-stored}
 use Rattle.meaning.specs.Rules.{apply}
-use Rattle.leaves.specs.Answers.{nodeIn, unitsIn, packed}
-use Rattle.leaves.specs.Record.{held, standing}
-use Rattle.leaves.specs.Visits.{visit, countOf, Gives}
+use Rattle.state.specs.Answers.{nodeIn, unitsIn, packed}
+use Rattle.state.specs.Record.{held, standing}
+use Rattle.state.specs.Visits.{visit, countOf, Gives}
 use Rattle.cycle.specs.Cycle.{operandFor}
 use mathlib.Core.List.{_∷_}
 use mathlib.Core.Logic.{⊎-elim}
