@@ -27,8 +27,9 @@ use Rattle.calls.specs.Promises.{InList, when-done, when-failed, when-refused, 
 use Rattle.calls.specs.Signed.{listed-without}
 use Rattle.calls.proofs.Promises.{listed-answer}
 use Rattle.calls.proofs.Signed.{listed as listed-signed}
-use Rattle.counting.specs.declared.Counted.{Counted}
-use Rattle.counting.specs.Counted.{hasRoom, CountedReturned, ranIf}
+use Rattle.tallying.specs.declared.Counted.{Counted}
+use Rattle.tallying.specs.Added.{CountedReturned, ranIf}
+use Rattle.counting.specs.Counted.{hasRoom}
 use Rattle.counting.specs.Promises.{Call, plain, indexed, Meets, refusalOf, shares, FourEach, Refuses-two}
 use Rattle.counting.specs.Promises.{RunInList, CountedInList, without-index, with-index, of-twin, of-full-count, Listed}
 use Rattle.counting.proofs.Promises.{answer-of, zero-or-not, run-refused, met-run, refused-numbers, full-found}

@@ -37,18 +37,21 @@ use Rattle.calls.specs.Promises.{Refusal, of-sizes, of-entry, of-node, of-start
 use Rattle.calls.specs.Signed.{SignedRefusal, as-without, of-disobeying-entry, of-disobeying-node}
 use Rattle.calls.proofs.Accepting.{refusal-with}
 use Rattle.indexed.proofs.Whole.{indexed-refused, indexed-ran, accepted}
-use Rattle.counting.specs.declared.Counted.{Counted}
-use Rattle.counting.specs.Counted.{highest, hasRoom, countsChecked, CountedReturned, countedAtReturn}
-use Rattle.counting.specs.Counted.{refusingCounting, countedEnd, ranIf, countedOf, IndexedCountedReturned, indexedCountedOf}
-use Rattle.counting.specs.Counted.{logOf, added, tallied}
-use Rattle.counting.specs.Counts.{Room}
+use Rattle.tallying.specs.declared.Counted.{Counted}
+use Rattle.tallying.specs.Counts.{highest}
+use Rattle.tallying.specs.Added.{CountedReturned, countedAtReturn}
+use Rattle.counting.specs.Counted.{hasRoom, countsChecked}
+use Rattle.tallying.specs.Added.{countedEnd, ranIf}
+use Rattle.counting.specs.Counted.{refusingCounting, countedOf, IndexedCountedReturned, indexedCountedOf}
+use Rattle.tallying.specs.Added.{logOf, added, tallied}
+use Rattle.tallying.specs.Counts.{Room}
 use Rattle.counting.specs.Promises.{Call, plain, indexed, Meets, refusalOf, withoutCounts, shares, verdictOf, FourEach}
 use Rattle.counting.specs.Promises.{Agreeing, Agreeing-index, As-run, As-indexed, Refuses-length, Refuses-first, LowestFull}
 use Rattle.counting.specs.Promises.{Refuses-full, Adds-nothing, Leaves-index, Keeps-length, visitsIn, Units-add-up}
 use Rattle.counting.specs.Promises.{Fates-add-up, Never-overflows, Ended-none-in-flight, Patterns-stay}
 use Rattle.counting.proofs.Refusing.{refused-length, refused-before, refused-counts, indexed-counted-refused}
 use Rattle.counting.proofs.Refusing.{indexed-counted-run, counted-accepted, counts-room}
-use Rattle.counting.proofs.Ending.{length-tallied, getD-tallied}
+use Rattle.tallying.proofs.Ending.{length-tallied, getD-tallied}
 
 -- ---- the run
 

@@ -20,9 +20,12 @@ use Rattle.meaning.specs.Store.{Input, Accepted}
 use Rattle.calls.specs.Refused.{orElse, refusedWith}
 use Rattle.calls.specs.Indexed.{indexedRefused}
 use Rattle.calls.proofs.Accepting.{accepted-with}
-use Rattle.counting.specs.Counts.{Room}
-use Rattle.counting.specs.Counted.{highest, countsFit, hasRoom, countsChecked, refusedCounting, CountedReturned, refusingCounting}
-use Rattle.counting.specs.Counted.{countedEnd, ranIf, countedOf, IndexedCountedReturned, indexedCountedOf}
+use Rattle.tallying.specs.Counts.{Room}
+use Rattle.tallying.specs.Counts.{highest}
+use Rattle.tallying.specs.Added.{CountedReturned}
+use Rattle.counting.specs.Counted.{countsFit, hasRoom, countsChecked, refusedCounting, refusingCounting}
+use Rattle.tallying.specs.Added.{countedEnd, ranIf}
+use Rattle.counting.specs.Counted.{countedOf, IndexedCountedReturned, indexedCountedOf}
 
 -- ---- which refusal
 

@@ -8,8 +8,9 @@ use lib.ListN.{length, take, drop, replicate, length-append, length-drop}
 use lib.Seq.{length-take-le, take-append-seam, drop-append-seam}
 use Rattle.words.specs.Words.{clearedFrom}
 use Rattle.words.proofs.Rows.{length-clearedFrom, take-clearedFrom}
-use Rattle.counting.specs.declared.Counted.{Counted}
-use Rattle.counting.specs.Counted.{CountedReturned, countedAtReturn, IndexedCountedReturned, indexedCountedAtReturn}
+use Rattle.tallying.specs.declared.Counted.{Counted}
+use Rattle.tallying.specs.Added.{CountedReturned, countedAtReturn}
+use Rattle.counting.specs.Counted.{IndexedCountedReturned, indexedCountedAtReturn}
 use Rattle.indexed.proofs.Whole.{take-min, drop-min, drop-size, drop-cleared}
 
 module _ (w : List ℕ) (k own : ℕ) (e : own ≡ min k (length w)) where

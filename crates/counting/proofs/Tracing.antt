@@ -25,8 +25,8 @@ use Rattle.meaning.proofs.Demands.{demand-2, demand-2-values}
 use Rattle.meaning.proofs.Shared.{not-shared, all-shared, demand-2-shared}
 use Rattle.machine.specs.Stack.{Noted}
 use Rattle.machine.proofs.Noting.{all}
-use Rattle.counting.specs.declared.Counted.{Counted}
-use Rattle.counting.specs.Counted.{CountedReturned, ranIf, logOf, added}
+use Rattle.tallying.specs.declared.Counted.{Counted}
+use Rattle.tallying.specs.Added.{CountedReturned, ranIf, logOf, added}
 use Rattle.counting.specs.Promises.{Call, plain, indexed, Meets, shares, verdictOf, Does, is-done, has-failed, is-cut, CountOf}
 use Rattle.counting.specs.Promises.{Each-a-count, Each-a-count-indexed}
 use Rattle.counting.proofs.Promises.{met-run, run-accepted, first-is, word-is, patterns-are, pairs-are, units-are}

@@ -1,5 +1,3 @@
--- What is counted.
-pub mod Counts
-pub mod Tally
+-- What the runs with counts refuse and return.
 pub mod Counted
 pub mod Promises

@@ -30,8 +30,10 @@ use Rattle.calls.specs.Run.{atReturn, runWith}
 use Rattle.calls.specs.Indexed.{indexedRefused, indexedAtReturn, indexedOf}
 use Rattle.calls.specs.Promises.{InList}
 use Rattle.calls.specs.Signed.{SignedInList}
-use Rattle.counting.specs.declared.Counted.{Counted}
-use Rattle.counting.specs.Counted.{highest, refusedCounting, countedAtReturn, countedOf, indexedCountedAtReturn, indexedCountedOf}
+use Rattle.tallying.specs.declared.Counted.{Counted}
+use Rattle.tallying.specs.Counts.{highest}
+use Rattle.tallying.specs.Added.{countedAtReturn}
+use Rattle.counting.specs.Counted.{refusedCounting, countedOf, indexedCountedAtReturn, indexedCountedOf}
 
 -- given: the counts lent. The numbers r, the store's words s, the bindings' words b and the counts cs at return meet the contract of the
 -- call without an index; with the index x, those and the words x′ of the index at return

@@ -2,8 +2,9 @@
 use mathlib.Core.Path.{_≡_}
 use mathlib.Core.List.{List}
 use Prim.Native.Nat.{ℕ}
-use Rattle.counting.specs.declared.Counted.{Counted}
-use Rattle.counting.specs.Counted.{CountedReturned, countedAtReturn, IndexedCountedReturned, indexedCountedAtReturn}
+use Rattle.tallying.specs.declared.Counted.{Counted}
+use Rattle.tallying.specs.Added.{CountedReturned, countedAtReturn}
+use Rattle.counting.specs.Counted.{IndexedCountedReturned, indexedCountedAtReturn}
 
 module _ {q r : Counted} {s b cs : List ℕ} (e : q ≡ r) where
   pub as-numbers : {w : CountedReturned} → countedAtReturn r s b cs ≡ w → countedAtReturn q s b cs ≡ w

@@ -6,8 +6,8 @@ use Rattle.checks.specs.declared.Checked.{Checked}
 use Rattle.collect.specs.declared.Collected.{Collected}
 use Rattle.free.specs.declared.FreeVariables.{FreeVariables}
 use Rattle.calls.specs.declared.Outcome.{Outcome}
-use Rattle.counting.specs.declared.Counted.{Counted}
-use Rattle.counting.specs.declared.Seen.{Seen}
+use Rattle.tallying.specs.declared.Counted.{Counted}
+use Rattle.tallying.specs.declared.Seen.{Seen}
 use Rattle.check_rules.specs.declared.check.Translated.{Translated}
 use Rattle.write_rules.specs.declared.rule.Written.{Written}
 

@@ -1,15 +1,16 @@
 // Where the units go, from the archive: a run that counts the visits of every entry. Four words of 64 bits for each entry of the table:
 // visits, successes, failures, and visits in flight at a cut-off. A run adds to them.
-use counting::Counted;
 use counting::run_counted;
 use counting::run_counted_signed;
 use counting::run_indexed_counted;
 use counting::run_indexed_counted_signed;
+use tallying::Counted;
 ghost use mathlib.Core.Path.{_≡_};
 ghost use mathlib.Core.Option.{none, some};
 ghost use lib.ListN.{take, drop};
 ghost use Rattle.calls.specs.Run.{input};
-ghost use Rattle.counting.specs.Counted.{countedAtReturn, countedOf, indexedCountedAtReturn, indexedCountedOf};
+ghost use Rattle.tallying.specs.Added.{countedAtReturn};
+ghost use Rattle.counting.specs.Counted.{countedOf, indexedCountedAtReturn, indexedCountedOf};
 ghost use Rattle.marshtrundle.specs.Exported.{seven};
 
 // What a run returns, as an array.

@@ -9,7 +9,8 @@ use lib.Dec.{leb}
 use lib.ListN.{getD}
 use Rattle.words.specs.Tests.{every}
 use Rattle.words.proofs.Tests.{every-turn, every-stop, every-end}
-use Rattle.counting.specs.Counted.{highest, hasRoom}
+use Rattle.tallying.specs.Counts.{highest}
+use Rattle.counting.specs.Counted.{hasRoom}
 use Rattle.counting.proofs.has_room.Statement.{statement}
 use Rattle.counting.proofs.has_room.Tie as tie
 

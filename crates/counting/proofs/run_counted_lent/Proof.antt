@@ -8,7 +8,7 @@ use Rattle.checks.specs.Checked.{checked}
 use Rattle.checks.specs.declared.Checked.{Checked}
 use Rattle.calls.specs.Refused.{lentIf}
 use Rattle.calls.specs.Run.{input}
-use Rattle.counting.specs.Counted.{countedAtReturn}
+use Rattle.tallying.specs.Added.{countedAtReturn}
 use Rattle.counting.proofs.Refusing.{verdict, refused-length, refused-before, refused-counts, counted-refused, counted-run}
 use Rattle.counting.proofs.Refusing.{counted-accepted, counts-room, entries-few}
 use Rattle.counting.proofs.run_counted_lent.Statement.{statement}
@@ -17,7 +17,7 @@ use Rattle.counting.proofs.run_counted_lent.Reads as reads
 use Rattle.counting.proofs.run_counted_lent.Lts as lts
 use Rattle.counting.proofs.check_counts.Reads as check-counts-reads
 use Rattle.counting.proofs.refused.Reads as refused-reads
-use Rattle.counting.proofs.run_on.Reads as run-on-reads
+use Rattle.tallying.proofs.run_on.Reads as run-on-reads
 use Rattle.refusals.proofs.refusal.Reads as refusal-reads
 
 returns : tie.Need-returns

@@ -15,7 +15,8 @@ use Rattle.calls.specs.Refused.{lentIf}
 use Rattle.calls.specs.Run.{input}
 use Rattle.calls.specs.Indexed.{indexedRefused}
 use Rattle.indexed.proofs.Whole.{refused-is, drop-size, accepted}
-use Rattle.counting.specs.Counted.{indexedCountedAtReturn, countedEnd, ranIf}
+use Rattle.tallying.specs.Added.{countedEnd, ranIf}
+use Rattle.counting.specs.Counted.{indexedCountedAtReturn}
 use Rattle.counting.proofs.Refusing.{refused-length, refused-before, refused-counts, indexed-counted-refused, indexed-counted-run}
 use Rattle.counting.proofs.Refusing.{counts-room, entries-few}
 use Rattle.counting.proofs.Sharing.{own-before, own-long, ended-with}
@@ -25,7 +26,7 @@ use Rattle.counting.proofs.run_indexed_counted_lent.Reads as reads
 use Rattle.counting.proofs.run_indexed_counted_lent.Lts as lts
 use Rattle.counting.proofs.check_counts.Reads as check-counts-reads
 use Rattle.counting.proofs.refused.Reads as refused-reads
-use Rattle.counting.proofs.run_on.Reads as run-on-reads
+use Rattle.tallying.proofs.run_on.Reads as run-on-reads
 use Rattle.indexed.proofs.refusing.indexed_refusal.Reads as indexed-refusal-reads
 use Rattle.indexed.proofs.refusing.store_words.Reads as store-words-reads
 use Rattle.words.proofs.clear_from.Reads as clear-from-reads

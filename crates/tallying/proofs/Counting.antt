@@ -12,7 +12,7 @@ use Rattle.words.specs.Tests.{if_then_else_}
 use Rattle.machine.specs.declared.Machine.{Machine}
 use Rattle.meaning.specs.Derivation.{What, entry, pattern, pair, Event, began, ended}
 use Rattle.meaning.specs.Tallies.{one-if, isEntry, counted, begins, wins, loses}
-use Rattle.counting.specs.Counts.{bumped, codeOf, visitedCode, flown, restCounted, occurs, Kept, Balanced, Counts, Room}
+use Rattle.tallying.specs.Counts.{bumped, codeOf, visitedCode, flown, restCounted, occurs, Kept, Balanced, Counts, Room}
 
 pub bump-inside : (cs : List ℕ) (e c : ℕ) → 4 * e + c < length cs → set cs (4 * e + c) ((getD cs (4 * e + c) 0 + 1) % 18446744073709551616)
     ≡ bumped cs e c

@@ -9,7 +9,10 @@ use Rattle.words.specs.Tests.{if_then_else_}
 use Rattle.meaning.specs.Derivation.{What, entry, pattern, pair, Event, began, ended}
 use Rattle.meaning.specs.Tallies.{one-if, isEntry, counted, begins, wins, loses}
 use Rattle.machine.specs.declared.Machine.{Machine}
-use Rattle.counting.specs.Counted.{highest}
+
+-- the highest count that may be lent: with the 4,294,967,295 visits that a run can make it is just a word of 64 bits
+abbrev pub highest : ℕ
+highest = 18446744069414584320
 
 -- 1 more in count c of entry e, where there is such a word
 unfoldable pub bumped : List ℕ → (e c : ℕ) → List ℕ

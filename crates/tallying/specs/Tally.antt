@@ -16,8 +16,8 @@ use Rattle.meaning.specs.Shared.{storeBy}
 use Rattle.machine.specs.declared.Machine.{Machine}
 use Rattle.machine.specs.Stack.{Run, Stands, Fair}
 use Rattle.machine.specs.Machine.{Lent, OwnStay}
-use Rattle.counting.specs.declared.Seen.{Seen}
-use Rattle.counting.specs.Counts.{Kept, Balanced, Counts}
+use Rattle.tallying.specs.declared.Seen.{Seen}
+use Rattle.tallying.specs.Counts.{Kept, Balanced, Counts}
 
 -- a visit of this mode more: of a pattern, or of a pair
 abbrev pub seenAt : Seen → ℕ → Seen

@@ -7,16 +7,16 @@ use native.Mathlib.Omega.{arith}
 use borrow.Author.Needs.{needs}
 use Rattle.words.proofs.Tests.{below-or-from}
 use Rattle.machine.proofs.Going.{rank}
-use Rattle.counting.proofs.Onward.{Comes, comes-visit, comes-end, counted-none, nearer, further}
-use Rattle.counting.specs.Counts.{Room}
-use Rattle.counting.specs.Tally.{Counted-on}
-use Rattle.counting.proofs.count_on.Statement.{statement}
-use Rattle.counting.proofs.count_on.Tie as tie
-use Rattle.counting.proofs.count_on.Reads as reads
-use Rattle.counting.proofs.count_on.Lts as lts
-use Rattle.counting.proofs.begin.Reads as begin-reads
-use Rattle.counting.proofs.end.Reads as end-reads
-use Rattle.counting.proofs.see.Reads as see-reads
+use Rattle.tallying.proofs.Onward.{Comes, comes-visit, comes-end, counted-none, nearer, further}
+use Rattle.tallying.specs.Counts.{Room}
+use Rattle.tallying.specs.Tally.{Counted-on}
+use Rattle.tallying.proofs.count_on.Statement.{statement}
+use Rattle.tallying.proofs.count_on.Tie as tie
+use Rattle.tallying.proofs.count_on.Reads as reads
+use Rattle.tallying.proofs.count_on.Lts as lts
+use Rattle.tallying.proofs.begin.Reads as begin-reads
+use Rattle.tallying.proofs.end.Reads as end-reads
+use Rattle.tallying.proofs.see.Reads as see-reads
 use Rattle.machine.proofs.go.Reads as go-reads
 
 abbrev Inv-loop : tie.InvT-loop

@@ -5,13 +5,13 @@ use native.Mathlib.Omega.{arith}
 use borrow.Author.Needs.{needs}
 use lib.ListN.{length, getD}
 use native.Mathlib.Numerals.{add-one}
-use Rattle.counting.specs.Counts.{bumped, flown}
-use Rattle.counting.proofs.Counting.{length-flown}
-use Rattle.counting.proofs.fly.Statement.{statement}
-use Rattle.counting.proofs.fly.Tie as tie
-use Rattle.counting.proofs.fly.Reads as reads
-use Rattle.counting.proofs.fly.Lts as lts
-use Rattle.counting.proofs.add.Reads as add-reads
+use Rattle.tallying.specs.Counts.{bumped, flown}
+use Rattle.tallying.proofs.Counting.{length-flown}
+use Rattle.tallying.proofs.fly.Statement.{statement}
+use Rattle.tallying.proofs.fly.Tie as tie
+use Rattle.tallying.proofs.fly.Reads as reads
+use Rattle.tallying.proofs.fly.Lts as lts
+use Rattle.tallying.proofs.add.Reads as add-reads
 
 abbrev Inv-loop : tie.InvT-loop
 Inv-loop kept counts₀ n l₀ counts l = (counts ≡ flown kept counts₀ l) × (l ≤ n)

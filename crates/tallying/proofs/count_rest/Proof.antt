@@ -3,13 +3,13 @@ use mathlib.Core.Path.{_≡_, refl, sym, _∙_}
 use Prim.Native.Nat.{ℕ, _+_, _<_, _≤_}
 use native.Mathlib.Omega.{arith}
 use borrow.Author.Needs.{needs}
-use Rattle.counting.proofs.Counting.{rest-asked, rest-ended, rest-cut}
-use Rattle.counting.proofs.count_rest.Statement.{statement}
-use Rattle.counting.proofs.count_rest.Tie as tie
-use Rattle.counting.proofs.count_rest.Reads as reads
-use Rattle.counting.proofs.count_rest.Lts as lts
-use Rattle.counting.proofs.end.Reads as end-reads
-use Rattle.counting.proofs.fly.Reads as fly-reads
+use Rattle.tallying.proofs.Counting.{rest-asked, rest-ended, rest-cut}
+use Rattle.tallying.proofs.count_rest.Statement.{statement}
+use Rattle.tallying.proofs.count_rest.Tie as tie
+use Rattle.tallying.proofs.count_rest.Reads as reads
+use Rattle.tallying.proofs.count_rest.Lts as lts
+use Rattle.tallying.proofs.end.Reads as end-reads
+use Rattle.tallying.proofs.fly.Reads as fly-reads
 
 returns : tie.Need-returns
 returns c = c .before .before .fly .ensures ∙ rest-asked _ _ (c .before .before .before .before .before .before .before .before .args .m) (c .before .before .before .before .if1 .taken)

@@ -4,14 +4,14 @@ use Prim.Native.Nat.{ℕ, _+_, _*_, _-_, _≤_, _<_}
 use native.Mathlib.Omega.{arith}
 use mathlib.Core.Logic.{⊎-elim}
 use lib.ListN.{set}
-use Rattle.counting.specs.Counts.{bumped, visitedCode}
-use Rattle.counting.proofs.Counting.{code-applied, code-other}
+use Rattle.tallying.specs.Counts.{bumped, visitedCode}
+use Rattle.tallying.proofs.Counting.{code-applied, code-other}
 use borrow.Author.Needs.{needs}
-use Rattle.counting.proofs.begin.Statement.{statement}
-use Rattle.counting.proofs.begin.Tie as tie
-use Rattle.counting.proofs.begin.Reads as reads
-use Rattle.counting.proofs.begin.Lts as lts
-use Rattle.counting.proofs.add.Reads as add-reads
+use Rattle.tallying.proofs.begin.Statement.{statement}
+use Rattle.tallying.proofs.begin.Tie as tie
+use Rattle.tallying.proofs.begin.Reads as reads
+use Rattle.tallying.proofs.begin.Lts as lts
+use Rattle.tallying.proofs.add.Reads as add-reads
 
 returns : tie.Need-returns
 returns c =

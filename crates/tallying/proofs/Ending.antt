@@ -12,13 +12,13 @@ use Rattle.meaning.specs.Derivation.{What, Event, ended}
 use Rattle.meaning.specs.Tallies.{isEntry, anyPattern, isPair, counted, begins, wins, loses}
 use Rattle.machine.specs.declared.Machine.{Machine}
 use Rattle.machine.specs.Stack.{firstOf, othersOf}
-use Rattle.counting.specs.declared.Seen.{Seen}
-use Rattle.counting.specs.Counts.{bumped, codeOf, flown, restCounted, occurs, Balanced, Counts, Room}
-use Rattle.counting.specs.Counted.{added, tallied}
-use Rattle.counting.specs.Tally.{Counted-on}
-use Rattle.counting.proofs.Counting.{rest-asked, rest-ended, rest-cut}
-use Rattle.counting.proofs.Tallying.{balanced-ended, counts-ended, counts-flown}
-use Rattle.counting.proofs.Onward.{few-ended, first-kept, others-length, ended-none}
+use Rattle.tallying.specs.declared.Seen.{Seen}
+use Rattle.tallying.specs.Counts.{bumped, codeOf, flown, restCounted, occurs, Balanced, Counts, Room}
+use Rattle.tallying.specs.Added.{added, tallied}
+use Rattle.tallying.specs.Tally.{Counted-on}
+use Rattle.tallying.proofs.Counting.{rest-asked, rest-ended, rest-cut}
+use Rattle.tallying.proofs.Tallying.{balanced-ended, counts-ended, counts-flown}
+use Rattle.tallying.proofs.Onward.{few-ended, first-kept, others-length, ended-none}
 
 -- ---- the words
 

@@ -22,11 +22,11 @@ use Rattle.machine.specs.declared.Machine.{Machine}
 use Rattle.machine.specs.Stack.{present, Asks, Stands, firstOf, othersOf}
 use Rattle.machine.specs.Machine.{Lent, Turned, visited, spent, Once}
 use Rattle.machine.proofs.Going.{rank, rank-asked, rank-ended}
-use Rattle.counting.specs.declared.Seen.{Seen}
-use Rattle.counting.specs.Counts.{bumped, codeOf, visitedCode, occurs, Kept, Balanced, Counts, Room}
-use Rattle.counting.specs.Tally.{seenAt, Counted-on}
-use Rattle.counting.proofs.Tallying.{code-visited, one-few, balanced-begun, balanced-ended, counts-begun, counts-ended, kept-begun}
-use Rattle.counting.proofs.Tallying.{kept-first, kept-others, seen-begun}
+use Rattle.tallying.specs.declared.Seen.{Seen}
+use Rattle.tallying.specs.Counts.{bumped, codeOf, visitedCode, occurs, Kept, Balanced, Counts, Room}
+use Rattle.tallying.specs.Tally.{seenAt, Counted-on}
+use Rattle.tallying.proofs.Tallying.{code-visited, one-few, balanced-begun, balanced-ended, counts-begun, counts-ended, kept-begun}
+use Rattle.tallying.proofs.Tallying.{kept-first, kept-others, seen-begun}
 
 -- ---- how many have begun and ended
 

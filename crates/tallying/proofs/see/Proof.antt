@@ -1,8 +1,8 @@
 -- `see` meets its contract. Assumes nothing.
-use Rattle.counting.proofs.Tallying.{seen-entry, seen-pair, seen-pattern}
+use Rattle.tallying.proofs.Tallying.{seen-entry, seen-pair, seen-pattern}
 use borrow.Author.Needs.{needs}
-use Rattle.counting.proofs.see.Statement.{statement}
-use Rattle.counting.proofs.see.Tie as tie
+use Rattle.tallying.proofs.see.Statement.{statement}
+use Rattle.tallying.proofs.see.Tie as tie
 
 returns : tie.Need-returns
 returns c = seen-entry _ _ (c .if1 .taken)

@@ -3,12 +3,12 @@ use mathlib.Core.Path.{_≡_, refl, ap, sym, _∙_}
 use Prim.Native.Nat.{ℕ, _+_, _*_, _-_, _≤_, _<_}
 use native.Mathlib.Omega.{arith}
 use lib.ListN.{set}
-use Rattle.counting.proofs.Counting.{bump-inside, bump-outside}
+use Rattle.tallying.proofs.Counting.{bump-inside, bump-outside}
 use borrow.Author.Needs.{needs}
-use Rattle.counting.proofs.add.Statement.{statement}
-use Rattle.counting.proofs.add.Tie as tie
-use Rattle.counting.proofs.add.Reads as reads
-use Rattle.counting.proofs.add.Lts as lts
+use Rattle.tallying.proofs.add.Statement.{statement}
+use Rattle.tallying.proofs.add.Tie as tie
+use Rattle.tallying.proofs.add.Reads as reads
+use Rattle.tallying.proofs.add.Lts as lts
 use Rattle.std.proofs.num.wrapping_add_u64.Reads as wrapping-add-u64-reads
 
 returns : tie.Need-returns

@@ -30,13 +30,13 @@ use Rattle.stepping.specs.Ended.{Saved, Loaded, Ended, Went, deepest as too-dee
 use Rattle.stepping.proofs.Rooted.{root-done, root-failed, cut-units, cut-nesting}
 use Rattle.stepping.proofs.Starting.{first-visit, fresh-held}
 use Rattle.stepping.proofs.Concluding.{after-more, over-next, end-is-ran, given-saved, given-own, ended-cut, ended-lost, ended-done, fair-after}
-use Rattle.counting.specs.declared.Seen.{Seen}
-use Rattle.counting.specs.declared.Counted.{Counted}
-use Rattle.counting.specs.Counts.{restCounted, Room}
-use Rattle.counting.specs.Counted.{logOf, tallied, countedAtReturn, countedEnd, ranIf}
-use Rattle.counting.specs.Tally.{Counted-on, Stopped}
-use Rattle.counting.proofs.Ending.{asked-tallied, cut-tallied, root-tallied}
-use Rattle.counting.proofs.Onward.{ended-none}
+use Rattle.tallying.specs.declared.Seen.{Seen}
+use Rattle.tallying.specs.declared.Counted.{Counted}
+use Rattle.tallying.specs.Counts.{restCounted, Room}
+use Rattle.tallying.specs.Added.{logOf, tallied, countedAtReturn, countedEnd, ranIf}
+use Rattle.tallying.specs.Tally.{Counted-on, Stopped}
+use Rattle.tallying.proofs.Ending.{asked-tallied, cut-tallied, root-tallied}
+use Rattle.tallying.proofs.Onward.{ended-none}
 
 -- the machine at the start of a run
 abbrev pub fresh : Input → ℕ → Machine

@@ -8,14 +8,14 @@ use lib.ListN.{length}
 use Rattle.words.specs.Words.{rows}
 use Rattle.meaning.specs.Store.{Input}
 use Rattle.calls.specs.Run.{input}
-use Rattle.counting.specs.Counted.{countedAtReturn}
-use Rattle.counting.proofs.Accepted.{accepted-lent, all-counted}
-use Rattle.counting.proofs.run_on.Statement.{statement}
-use Rattle.counting.proofs.run_on.Tie as tie
-use Rattle.counting.proofs.run_on.Reads as reads
-use Rattle.counting.proofs.run_on.Lts as lts
-use Rattle.counting.proofs.count_on.Reads as count-on-reads
-use Rattle.counting.proofs.count_rest.Reads as count-rest-reads
+use Rattle.tallying.specs.Added.{countedAtReturn}
+use Rattle.tallying.proofs.Accepted.{accepted-lent, all-counted}
+use Rattle.tallying.proofs.run_on.Statement.{statement}
+use Rattle.tallying.proofs.run_on.Tie as tie
+use Rattle.tallying.proofs.run_on.Reads as reads
+use Rattle.tallying.proofs.run_on.Lts as lts
+use Rattle.tallying.proofs.count_on.Reads as count-on-reads
+use Rattle.tallying.proofs.count_rest.Reads as count-rest-reads
 use Rattle.stepping.proofs.conclude.Reads as conclude-reads
 use Rattle.stepping.proofs.own.load_bindings.Reads as load-bindings-reads
 use Rattle.stepping.proofs.own.save.Reads as save-reads

@@ -2,13 +2,13 @@
 use mathlib.Core.Path.{_≡_, refl, ap, sym, _∙_}
 use Prim.Native.Nat.{ℕ, _+_, _*_, _-_, _≤_, _<_}
 use native.Mathlib.Omega.{arith}
-use Rattle.counting.proofs.Counting.{won-is, lost-is}
+use Rattle.tallying.proofs.Counting.{won-is, lost-is}
 use borrow.Author.Needs.{needs}
-use Rattle.counting.proofs.end.Statement.{statement}
-use Rattle.counting.proofs.end.Tie as tie
-use Rattle.counting.proofs.end.Reads as reads
-use Rattle.counting.proofs.end.Lts as lts
-use Rattle.counting.proofs.add.Reads as add-reads
+use Rattle.tallying.proofs.end.Statement.{statement}
+use Rattle.tallying.proofs.end.Tie as tie
+use Rattle.tallying.proofs.end.Reads as reads
+use Rattle.tallying.proofs.end.Lts as lts
+use Rattle.tallying.proofs.add.Reads as add-reads
 
 returns : tie.Need-returns
 returns c =

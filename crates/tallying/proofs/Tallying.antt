@@ -18,10 +18,10 @@ use Rattle.turns.specs.Ways.{visitOf}
 use Rattle.machine.specs.declared.Machine.{Machine}
 use Rattle.machine.specs.Stack.{present, firstOf, othersOf}
 use Rattle.machine.specs.Machine.{visited}
-use Rattle.counting.specs.declared.Seen.{Seen}
-use Rattle.counting.specs.Counts.{bumped, codeOf, visitedCode, flown, occurs, Kept, Balanced, Counts, Room}
-use Rattle.counting.specs.Tally.{seenAt}
-use Rattle.counting.proofs.Counting.{length-bumped, length-flown, bump-for, bump-beside}
+use Rattle.tallying.specs.declared.Seen.{Seen}
+use Rattle.tallying.specs.Counts.{bumped, codeOf, visitedCode, flown, occurs, Kept, Balanced, Counts, Room}
+use Rattle.tallying.specs.Tally.{seenAt}
+use Rattle.tallying.proofs.Counting.{length-bumped, length-flown, bump-for, bump-beside}
 
 -- ---- the visit that is asked for
 

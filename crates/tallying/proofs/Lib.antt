@@ -1,0 +1,5 @@
+mod Counting
+mod Tallying
+mod Onward
+pub mod Ending
+mod Accepted

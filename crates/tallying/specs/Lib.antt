@@ -1,0 +1,4 @@
+-- What is counted.
+pub mod Counts
+pub mod Tally
+pub mod Added
