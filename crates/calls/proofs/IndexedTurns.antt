@@ -30,7 +30,9 @@ use Rattle.meaning.proofs.Shared.{one-node, shared-leaves, shared-above, shared
 use Rattle.calls.specs.Refused.{orElse, wordsRefusedBy, startFits, startsFit, refusedWithBy}
 use Rattle.calls.specs.Run.{numbers, wordsOf}
 use Rattle.calls.specs.Many.{Module, single, five, manyRefusedBy}
-use Rattle.calls.specs.Indexed.{indexFits, indexedWordsRefusedBy, indexedRefusedBy, IndexedReturned, indexedOfBy, indexedManyRefusedBy, IndexedTurns, indexedBefore, indexedInTurnBy, indexedManyAtReturn, indexedManyOfBy}
+use Rattle.calls.specs.Indexed.{indexFits, indexedWordsRefusedBy, indexedRefusedBy, IndexedReturned, indexedOfBy}
+use Rattle.calls.specs.Indexed.{indexedManyRefusedBy, IndexedTurns, indexedBefore, indexedInTurnBy, indexedManyAtReturn}
+use Rattle.calls.specs.Indexed.{indexedManyOfBy}
 use Rattle.calls.specs.declared.Outcome.{Outcome}
 use Rattle.calls.proofs.Accepting.{EntriesObey, NodesObey, not-refused-with, zero-else}
 use Rattle.calls.proofs.Promises.{cleared-kept}
@@ -102,8 +104,10 @@ module _ (W : ℕ) where
           let q : SameBelow (sharedRan (single c w m k)) (sharedRan (single c s m k)) = shared-above W ℕ places nowhere (single c w m k) s a same in
           let x = indexed-runs (apart-kept same here) k l y h in
           let n : r ≡ numbers k m (c .units) (sharedRan (single c s m k)) = e ∙ same-numbers W k m (c .units) q in
-          let f : words W r ≡ five (indexedOfBy W g (single c s m k) y .run) = ap (words W) n ∙ ran-numbers W (single c s m k) (sharedRan (single c s m k)) ∙ ap (λ (z : IndexedReturned). five (z .run)) (sym x) in
-          let p = left-apart (sharedRan (single c w m k)) (sharedRan (single c s m k)) refl q (shared-leaves W ℕ places nowhere (single c w m k) a) (shared-leaves W ℕ places nowhere (single c s m k) b) in (
+          let f : words W r ≡ five (indexedOfBy W g (single c s m k) y .run) = ap (words W) n
+          ∙ ran-numbers W (single c s m k) (sharedRan (single c s m k)) ∙ ap (λ (z : IndexedReturned). five (z .run)) (sym x) in
+          let p = left-apart (sharedRan (single c w m k)) (sharedRan (single c s m k)) refl q
+          (shared-leaves W ℕ places nowhere (single c w m k) a) (shared-leaves W ℕ places nowhere (single c s m k) b) in (
             f,
             ap (λ (l : List ℕ). getD l 3 0) f,
             subst (λ (v : List ℕ). Apart g c v (r .mark)) (sym w-is) (subst (λ (o : Outcome). Apart g c (wordsOf (sharedRan (single c w m k))) (o .mark)) (sym e) (p .0)),
@@ -177,7 +181,8 @@ module _ (W : ℕ) where
     unfolding indexedInTurnBy
     indexed-going-last w rs m j G e l =
         let a : drop j (c .subjects) ≡ [] = rw e (drop-length (c .subjects)) in
-        let b : indexedInTurnBy W g c (G .kept) (G .index) m (drop j (c .subjects)) ≡ record { results = []; store = G .kept; index = G .index } = ap (indexedInTurnBy W g c (G .kept) (G .index) m) a in
+        let b : indexedInTurnBy W g c (G .kept) (G .index) m (drop j (c .subjects))
+        ≡ record { results = []; store = G .kept; index = G .index } = ap (indexedInTurnBy W g c (G .kept) (G .index) m) a in
         let d : take (5 * j) rs ≡ rs = take-all (5 * j) rs (omega (arith, G .long, γ .results)) in
         G .rest ∙ ap (indexedBefore (take (5 * j) rs)) b ∙ (λ z. record { results = (append-nil (take (5 * j) rs) ∙ d) z; store = G .cleared l .0 z; index = G .cleared l .1 z })
 
@@ -209,8 +214,10 @@ module _ (W : ℕ) where
           none-found (some k) e = absurd (omega arith)
 
           go : (a : Bool) → eqb (length (c .results)) (5 * length (c .subjects)) ≡ a → (b : Bool) → leb (2 * rows (c .store)) (length x) ≡ b
-              → (if a then orElse (if b then orElse (wordsRefusedBy W g (c .table) (c .store) (c .bindings) (c .mark)) (found 21 (twin (c .store) (c .mark))) else checked 2 0) starts else checked 2 0) .answer ≡ 0
-              → ((if a then orElse (wordsRefusedBy W g (c .table) (c .store) (c .bindings) (c .mark)) starts else checked 2 0) .answer ≡ 0) × (2 * rows (c .store) ≤ length x) × (twin (c .store) (c .mark) ≡ none)
+              → (if a then orElse (if b then orElse (wordsRefusedBy W g (c .table) (c .store) (c .bindings) (c .mark))
+              (found 21 (twin (c .store) (c .mark))) else checked 2 0) starts else checked 2 0) .answer ≡ 0
+              → ((if a then orElse (wordsRefusedBy W g (c .table) (c .store) (c .bindings) (c .mark)) starts else checked 2 0) .answer ≡ 0)
+              × (2 * rows (c .store) ≤ length x) × (twin (c .store) (c .mark) ≡ none)
           go true p true q e =
               let y = zero-else W (orElse (wordsRefusedBy W g (c .table) (c .store) (c .bindings) (c .mark)) (found 21 (twin (c .store) (c .mark)))) starts e in
               let v = zero-else W (wordsRefusedBy W g (c .table) (c .store) (c .bindings) (c .mark)) (found 21 (twin (c .store) (c .mark))) (y .0) in

@@ -47,7 +47,9 @@ use Rattle.free.proofs.Promises.{neverThree as freeNeverThree}
 use Rattle.calls.specs.Refused.{sizesFitBy, startFits, refusedBy}
 use Rattle.calls.specs.Run.{input, atReturn, refusing, runWithBy, runOfBy}
 use Rattle.calls.specs.Promises as promises
-use Rattle.calls.specs.Promises.{Runs, AsGiven, Ended, Told, SizesFit, EntriesGood, NodesGood, StartFits, Refusal, of-sizes, of-entry, of-node, of-start, InList, when-done, when-failed, when-refused, when-cut-off, when-unbound}
+use Rattle.calls.specs.Promises.{Runs, AsGiven, Ended, Told, SizesFit, EntriesGood, NodesGood, StartFits, Refusal, of-sizes}
+use Rattle.calls.specs.Promises.{of-entry, of-node, of-start, InList, when-done, when-failed, when-refused, when-cut-off}
+use Rattle.calls.specs.Promises.{when-unbound}
 use Rattle.calls.specs.declared.Outcome.{Outcome}
 use Rattle.calls.proofs.Accepting.{verdict, accepted-answer, accepted-back}
 use Rattle.calls.proofs.Accepting as accepting

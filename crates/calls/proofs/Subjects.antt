@@ -25,7 +25,8 @@ use Rattle.calls.specs.Refused.{orElse, isStart, subjectsBelow, startsFi
 use Rattle.calls.specs.Promises.{Told, Movable, SizesFit, EntriesGood, NodesGood}
 use Rattle.calls.specs.Subjects as promises
 use Rattle.calls.specs.Subjects.{RunsMany, handedAt, turnInput, ListFits, StartsFit, whole}
-use Rattle.calls.proofs.Accepting.{LentFits, EntriesObey, NodesObey, verdictWith, refused-sizes, refused-entry, refused-node, refused-ten, refused-eleven, is-start-plain, bound-plain, subjects-plain, words-passed}
+use Rattle.calls.proofs.Accepting.{LentFits, EntriesObey, NodesObey, verdictWith, refused-sizes, refused-entry, refused-node}
+use Rattle.calls.proofs.Accepting.{refused-ten, refused-eleven, is-start-plain, bound-plain, subjects-plain, words-passed}
 use Rattle.calls.proofs.Accepting.{words-only, words-back, words-not-five, start-after}
 use Rattle.calls.proofs.Promises as plain
 use Rattle.calls.proofs.Turns.{Given, Stands, given, accepted-single, plain-runs, next-stands}
@@ -210,7 +211,9 @@ module _ (W : ℕ) where
                   refused-sizes W g (whole c) (manyRefusedBy W g c .place) .0 (words-only W g (whole c) 2 (manyRefusedBy W g c .place) n0 n5 .1 w) .1 (s, fits-lent g u),
               λ n.
                   let v = refused-sizes W g (whole c) 0 .1 (refl, λ a. n (eqb-true _ _ e) (a .0) (fits-back g (a .1))) in
-                  ap (λ (x : Checked). x .answer) (judged true b e f ∙ start-after W (wordsRefusedBy W g (c .table) (c .store) (c .bindings) (c .mark)) b 2 0 n0 n5 .1 (words-only W g (whole c) 2 0 n0 n5 .0 v)),
+                  ap (λ (x : Checked). x .answer) (judged true b e f
+                  ∙ start-after W (wordsRefusedBy W g (c .table) (c .store) (c .bindings) (c .mark)) b 2 0 n0 n5 .1
+                  (words-only W g (whole c) 2 0 n0 n5 .0 v)),
             )
         go false b e f = (λ q a. absurd (eqb-false _ _ e a), λ n. ap (λ (x : Checked). x .answer) (judged false b e f))
 
@@ -252,17 +255,23 @@ module _ (W : ℕ) where
         go false w e f = absurd (⊎-elim (λ y. omega (arith, y, ap (λ (x : Checked). x .answer) (sym (judged false (startsFit (c .table) (c .bindings) (c .mark) (c .start) (c .subjects)) e refl) ∙ q)))
             (λ y. omega (arith, y, ap (λ (x : Checked). x .answer) (sym (judged false (startsFit (c .table) (c .bindings) (c .mark) (c .start) (c .subjects)) e refl) ∙ q))) k)
 
-    start-true : (p : ℕ) → (if startsFit (c .table) (c .bindings) (c .mark) (c .start) (c .subjects) then checked 0 0 else checked 5 0) ≡ checked 0 p → startsFit (c .table) (c .bindings) (c .mark) (c .start) (c .subjects) ≡ true
+    start-true : (p : ℕ) → (if startsFit (c .table) (c .bindings) (c .mark) (c .start) (c .subjects) then checked 0 0 else checked 5 0)
+        ≡ checked 0 p → startsFit (c .table) (c .bindings) (c .mark) (c .start) (c .subjects) ≡ true
     start-true p q = go (startsFit (c .table) (c .bindings) (c .mark) (c .start) (c .subjects)) refl q
       where
-        go : (b : Bool) → startsFit (c .table) (c .bindings) (c .mark) (c .start) (c .subjects) ≡ b → (if b then checked 0 0 else checked 5 0) ≡ checked 0 p → startsFit (c .table) (c .bindings) (c .mark) (c .start) (c .subjects) ≡ true
+        go : (b : Bool) → startsFit (c .table) (c .bindings) (c .mark) (c .start) (c .subjects) ≡ b
+            → (if b then checked 0 0 else checked 5 0) ≡ checked 0 p → startsFit (c .table) (c .bindings) (c .mark) (c .start) (c .subjects)
+            ≡ true
         go true e q = e
         go false e q = absurd (omega (arith, ap (λ (x : Checked). x .answer) q))
 
-    start-false : (p : ℕ) → (if startsFit (c .table) (c .bindings) (c .mark) (c .start) (c .subjects) then checked 0 0 else checked 5 0) ≡ checked 5 p → startsFit (c .table) (c .bindings) (c .mark) (c .start) (c .subjects) ≡ false
+    start-false : (p : ℕ) → (if startsFit (c .table) (c .bindings) (c .mark) (c .start) (c .subjects) then checked 0 0 else checked 5 0)
+        ≡ checked 5 p → startsFit (c .table) (c .bindings) (c .mark) (c .start) (c .subjects) ≡ false
     start-false p q = go (startsFit (c .table) (c .bindings) (c .mark) (c .start) (c .subjects)) refl q
       where
-        go : (b : Bool) → startsFit (c .table) (c .bindings) (c .mark) (c .start) (c .subjects) ≡ b → (if b then checked 0 0 else checked 5 0) ≡ checked 5 p → startsFit (c .table) (c .bindings) (c .mark) (c .start) (c .subjects) ≡ false
+        go : (b : Bool) → startsFit (c .table) (c .bindings) (c .mark) (c .start) (c .subjects) ≡ b
+            → (if b then checked 0 0 else checked 5 0) ≡ checked 5 p → startsFit (c .table) (c .bindings) (c .mark) (c .start) (c .subjects)
+            ≡ false
         go true e q = absurd (omega (arith, ap (λ (x : Checked). x .answer) q))
         go false e q = e
 

@@ -137,12 +137,25 @@ module _ {t w st : List ℕ} {e s i : ℕ} (n : ℕ) (ready : Ready t w st e s) 
       units-as = ap unitsIn ge ∙ units-packed y (unitsIn s) (omega arith)
 
       pub ready-path : Ready t w st x g
-      ready-path = record { entries = ready .entries; hints = ready .hints; long = ready .long; inside = rw xe (operand-below t (ready .entries) e 0 (ready .inside) (λ z. omega (arith, h, z)) (omega arith)); steady = ready .steady; subject = rw node-as below }
+      ready-path =
+          record {
+            entries = ready .entries;
+            hints = ready .hints;
+            long = ready .long;
+            inside =
+                rw xe (operand-below t (ready .entries) e 0 (ready .inside) (λ z. omega (arith, h, z)) (omega arith));
+            steady =
+                ready .steady;
+            subject = rw node-as below;
+          }
 
       asks : ruled t n e (nodeIn s) (held st) w (standing st) (unitsIn s)
           ≡ plan t n (ask keep (apply x y (held st)) (λ z c. again (nodeIn s) (constructorOf w (nodeIn s)) (put (children w (nodeIn s)) i z) c) fail) w (standing st) (unitsIn s)
       unfolding given
-      asks = picks x xe (ap (nth (children w (nodeIn s))) from-one ∙ nth-at (children w (nodeIn s)) (i - 1) (among w (nodeIn s) (i - 1) has-child) ∙ ap some (child-at w (nodeIn s) (i - 1) has-child ∙ sym is-child))
+      asks =
+          picks x xe (ap (nth (children w (nodeIn s))) from-one
+          ∙ nth-at (children w (nodeIn s)) (i - 1) (among w (nodeIn s) (i - 1) has-child)
+          ∙ ap some (child-at w (nodeIn s) (i - 1) has-child ∙ sym is-child))
 
       module _ {got : ℕ} {st′ w′ : List ℕ} (gives : Gives (visit t n (apply x (nodeIn g) (held st)) w (standing st) (unitsIn g)) st got st′ w′) {a : Answer} (read : a ≡ answerOf got) where
         is : out got st′ w′ ≡ visit t n (apply x y (held st)) w (standing st) (unitsIn s)
@@ -161,7 +174,8 @@ module _ {t w st : List ℕ} {e s i : ℕ} (n : ℕ) (ready : Ready t w st e s) 
         gives-path {z} {v} {r} {was} {st″} q we made = record {
           is = made .is ∙ sym (
               asks ∙ goes-on t n w (standing st) (unitsIn s) _ got st′ w′ is a read _ fail z v q
-              ∙ ap (λ gs. plan t n (again (nodeIn s) (constructorOf w (nodeIn s)) gs (held st′)) w′ (standing st′) v) (ap (λ j. put (children w (nodeIn s)) j z) from-one ∙ put-set (children w (nodeIn s)) (i - 1) z)
+              ∙ ap (λ gs. plan t n (again (nodeIn s) (constructorOf w (nodeIn s)) gs (held st′)) w′ (standing st′) v)
+              (ap (λ j. put (children w (nodeIn s)) j z) from-one ∙ put-set (children w (nodeIn s)) (i - 1) z)
               ∙ remade (ready .steady) (ready .subject) has-child t n z v st′ (kept-done (ready .steady) (ready .entries) n x y (unitsIn s) below got st′ w′ is read q) we
               ∙ ap (λ j. noded (set was j z) st′ w′ v) (sym place)
               );
@@ -193,11 +207,14 @@ pub record Trying (t w₀ st₀ : List ℕ) (n e s c : ℕ) (w st : List ℕ) (u
 -- the next child's visit
 one-next : (t : List ℕ) (n x : ℕ) (w : List ℕ) (k i : ℕ) (b : Bindings ℕ) (f : List ℕ → Bindings ℕ → Do ℕ) (m : Standing) (u : ℕ) → i < countOf w k
     → plan t n (oneOf x (take i (children w k)) (drop i (children w k)) b f) w m u
-    ≡ plan t n (ask keep (apply x (wordAt w k (2 + i)) b) (λ y c. f (take i (children w k) ++ (y ∷ drop (i + 1) (children w k))) c) (oneOf x (take (i + 1) (children w k)) (drop (i + 1) (children w k)) b f)) w m u
+    ≡ plan t n (ask keep (apply x (wordAt w k (2 + i)) b) (λ y c. f (take i (children w k) ++ (y ∷ drop (i + 1) (children w k))) c)
+    (oneOf x (take (i + 1) (children w k)) (drop (i + 1) (children w k)) b f)) w m u
 unfolding oneOf
 one-next t n x w k i b f m u l =
     ap (λ hs. plan t n (oneOf x (take i (children w k)) hs b f) w m u) (part-next w k (childCount w k) i l)
-    ∙ ap (λ gs. plan t n (ask keep (apply x (wordAt w k (2 + i)) b) (λ y c. f (take i (children w k) ++ (y ∷ drop (i + 1) (children w k))) c) (oneOf x gs (drop (i + 1) (children w k)) b f)) w m u) (sym (take-next w k i l))
+    ∙ ap (λ gs. plan t n (ask keep (apply x (wordAt w k (2 + i)) b)
+    (λ y c. f (take i (children w k) ++ (y ∷ drop (i + 1) (children w k))) c) (oneOf x gs (drop (i + 1) (children w k)) b f)) w m u)
+    (sym (take-next w k i l))
 
 -- no child is left
 one-end : (t : List ℕ) (n x : ℕ) (w : List ℕ) (k i : ℕ) (b : Bindings ℕ) (f : List ℕ → Bindings ℕ → Do ℕ) (m : Standing) (u : ℕ) → countOf w k ≤ i
@@ -229,7 +246,9 @@ module _ {t w₀ st₀ : List ℕ} {e s : ℕ} (n : ℕ) (ready : Ready t w₀ s
 
     pub gives-one-none : {r : ℕ} → c ≤ i → r ≡ failedWord u → Gave r st w
     gives-one-none {r} l p = record {
-      is = gave-failed st w r u p (turn .few) ∙ sym (one-end t n x w (nodeIn s) i (held st₀) (again (nodeIn s) (constructorOf w (nodeIn s))) (tried st₀ st) u (omega (arith, turn .count)) ∙ failing t n w (tried st₀ st) u) ∙ turn .rest;
+      is =
+          gave-failed st w r u p (turn .few) ∙ sym (one-end t n x w (nodeIn s) i (held st₀) (again (nodeIn s) (constructorOf w (nodeIn s)))
+          (tried st₀ st) u (omega (arith, turn .count)) ∙ failing t n w (tried st₀ st) u) ∙ turn .rest;
       frame = turn .frame;
     }
 
@@ -251,7 +270,10 @@ module _ {t w₀ st₀ : List ℕ} {e s : ℕ} (n : ℕ) (ready : Ready t w₀ s
       others = oneOf x (take (i + 1) (children w (nodeIn s))) (drop (i + 1) (children w (nodeIn s))) (held st₀) (again (nodeIn s) (constructorOf w (nodeIn s)))
 
       asks-next : plan t n (ask keep (apply x y (held st₀)) follows others) w (tried st₀ st) u ≡ ruled t n e (nodeIn s) (held st₀) w₀ (standing st₀) (unitsIn s)
-      asks-next = ap (λ y. plan t n (ask keep (apply x y (held st₀)) follows others) w (tried st₀ st) u) ye ∙ sym (one-next t n x w (nodeIn s) i (held st₀) (again (nodeIn s) (constructorOf w (nodeIn s))) (tried st₀ st) u has-next) ∙ turn .rest
+      asks-next =
+          ap (λ y. plan t n (ask keep (apply x y (held st₀)) follows others) w (tried st₀ st) u) ye
+          ∙ sym (one-next t n x w (nodeIn s) i (held st₀) (again (nodeIn s) (constructorOf w (nodeIn s))) (tried st₀ st) u has-next)
+          ∙ turn .rest
 
       -- a cut-off ends it
       off : {got d : ℕ} {st′ w′ : List ℕ} → out got st′ w′ ≡ visit t n (apply x y (held st₀)) w (tried st₀ st) u → Framed st₀ st′ → answerOf got ≡ Cut d → Gave got st′ w′
@@ -281,9 +303,12 @@ module _ {t w₀ st₀ : List ℕ} {e s : ℕ} (n : ℕ) (ready : Ready t w₀ s
           subject = rw (node-is, turn .mark) below-mark;
         }
 
-        module _ {got : ℕ} {st′ w′ : List ℕ} (gives : Gives (visit t (n - n′) (apply op (nodeIn g) (held st)) w (standing st) (unitsIn g)) st got st′ w′) {a : Attempt} (attempted : a ≡ attemptOf (answerOf got)) where
+        module _ {got : ℕ} {st′ w′ : List ℕ} (gives : Gives (visit t (n - n′) (apply op (nodeIn g) (held st)) w (standing st) (unitsIn g))
+            st got st′ w′) {a : Attempt} (attempted : a ≡ attemptOf (answerOf got)) where
           was : out got st′ w′ ≡ visit t n (apply x y (held st₀)) w (tried st₀ st) u
-          was = gives .is ∙ (λ z. visit t (n - n′) (apply op (node-is z) (turn .holds z)) w (at (turn .mark z) (notesOf st)) (units-is z)) ∙ sym (leads .is y (held st₀) w (tried st₀ st) n u (ahead .few) enough)
+          was =
+              gives .is ∙ (λ z. visit t (n - n′) (apply op (node-is z) (turn .holds z)) w (at (turn .mark z) (notesOf st)) (units-is z))
+              ∙ sym (leads .is y (held st₀) w (tried st₀ st) n u (ahead .few) enough)
 
           framed : Framed st₀ st′
           framed = framed-trans further st₀ st st′ (turn .frame) (gives .frame)
@@ -308,7 +333,9 @@ module _ {t w₀ st₀ : List ℕ} {e s : ℕ} (n : ℕ) (ready : Ready t w₀ s
             fits-one p = fits-done (turn .steady) (ready .entries) n x y u below-mark got st′ w′ was refl (did p)
 
             pub stored-one : yes ≡ true → Stored w′ (nodeIn s)
-            stored-one p = kept-stored (kept-done (turn .steady) (ready .entries) n x y u below-mark got st′ w′ was refl (did p)) (ready .subject) (steady-stored (turn .steady) (nodeIn s) (ready .subject))
+            stored-one p =
+                kept-stored (kept-done (turn .steady) (ready .entries) n x y u below-mark got st′ w′ was refl (did p)) (ready .subject)
+                (steady-stored (turn .steady) (nodeIn s) (ready .subject))
 
             pub gives-one : {r : ℕ} {words st″ w″ : List ℕ} → yes ≡ true → words ≡ rowAt w′ (nodeIn s) → Gives (noded (set words (2 + i) z) st′ w′ v) st′ r st″ w″ → Gave r st″ w″
             gives-one {r} {words} {st″} p we made = record {

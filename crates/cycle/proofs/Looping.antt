@@ -92,7 +92,16 @@ module _ {t w₀ st₀ : List ℕ} {start given deep : ℕ} {w st : List ℕ} {e
   ready-next other i x l q = ready-operand (turn .ready) other i x (s - 1) l q (rw (same-node s units) (turn .ready .subject))
 
   pub ready-same : Ready t w st e (s - 1)
-  ready-same = record { entries = turn .ready .entries; hints = turn .ready .hints; long = turn .ready .long; inside = turn .ready .inside; steady = turn .ready .steady; subject = rw (same-node s units) (turn .ready .subject) }
+  ready-same =
+      record {
+        entries = turn .ready .entries;
+        hints = turn .ready .hints;
+        long = turn .ready .long;
+        inside = turn .ready .inside;
+        steady =
+            turn .ready .steady;
+        subject = rw (same-node s units) (turn .ready .subject);
+      }
 
   -- REC and CALL
   pub rec-turn : (x : ℕ) → x ≡ wordAt t e 2 → (kindOf t e ≡ 7) ⊎ (kindOf t e ≡ 8) → Turn t w₀ st₀ start given deep w st x (s - 1) (d - 1)
@@ -187,7 +196,8 @@ module _ {t w₀ st₀ : List ℕ} {start given deep : ℕ} {w st : List ℕ} {e
           }
 
   -- the first operand of CHOICE or LEFT fails after n visits, which are counted and not made; where it gives up is noted
-  pub skip-turn : {x y p n : ℕ} → x ≡ wordAt t e 2 → VisitsToFailure t w x (nodeIn (s - 1)) (wordAt t e 4) (min (d - 1) (unitsIn (s - 1))) n → (n ≡ 0 → ⊥) → (kindOf t e ≡ 5) ⊎ (kindOf t e ≡ 6) → p ≡ wordAt t e 4 → y ≡ wordAt t e 3
+  pub skip-turn : {x y p n : ℕ} → x ≡ wordAt t e 2 → VisitsToFailure t w x (nodeIn (s - 1)) (wordAt t e 4) (min (d - 1) (unitsIn (s - 1))) n
+      → (n ≡ 0 → ⊥) → (kindOf t e ≡ 5) ⊎ (kindOf t e ≡ 6) → p ≡ wordAt t e 4 → y ≡ wordAt t e 3
       → Turn t w₀ st₀ start given deep w (missing st p) y (s - 1 - n) (d - 1)
   skip-turn {x} {y} {p} {n} xe skips some h pe ye =
       let enough = under n (d - 1) (unitsIn (s - 1)) (skips .few) in
@@ -212,7 +222,11 @@ module _ {t w₀ st₀ : List ℕ} {start given deep : ℕ} {w st : List ℕ} {e
         frame = framed-trans further st₀ st (missing st p) (turn .frame) frame;
         wide = frame .long ∙ turn .wide;
         word = fewer s n (turn .word);
-        rest = rw (node-as, units-as, held-missing further st p, mark-missing further st p) (left-goes-on t (d - 1) e (s - 1) st w x (failedWord v) (missing st p) w xe (out-failed (missing st p) w v few ∙ ap (λ z. lost (leftOf w (at (markOf st) z)) v) noted ∙ sym fails) (Failed v) (sym (answer-failed v few)) y ye h v refl ∙ counts);
+        rest =
+            rw (node-as, units-as, held-missing further st p, mark-missing further st p)
+            (left-goes-on t (d - 1) e (s - 1) st w x (failedWord v) (missing st p) w xe
+            (out-failed (missing st p) w v few ∙ ap (λ z. lost (leftOf w (at (markOf st) z)) v) noted ∙ sym fails) (Failed v)
+            (sym (answer-failed v few)) y ye h v refl ∙ counts);
       }
 
 -- the loop begins

@@ -34,7 +34,8 @@ unfolding plan runPlan
 fails t n w m u = refl
 
 -- a failure that nothing catches is the answer
-pub not-caught : (t : List ℕ) (n : ℕ) (w : List ℕ) (m : Standing) (u : ℕ) (q : Visit ℕ) (r : ℕ) (st w′ : List ℕ) → out r st w′ ≡ visit t n q w m u → (k : ℕ → Bindings ℕ → Do ℕ) (v : ℕ) → answerOf r ≡ Failed v → out r st w′ ≡ plan t n (ask keep q k fail) w m u
+pub not-caught : (t : List ℕ) (n : ℕ) (w : List ℕ) (m : Standing) (u : ℕ) (q : Visit ℕ) (r : ℕ) (st w′ : List ℕ) → out r st w′
+    ≡ visit t n q w m u → (k : ℕ → Bindings ℕ → Do ℕ) (v : ℕ) → answerOf r ≡ Failed v → out r st w′ ≡ plan t n (ask keep q k fail) w m u
 not-caught t n w m u q r st w′ is k v e = not-done t n w m u q r st w′ is (answerOf r) refl keep k (rw e (inl refl))
 
 -- of two kinds it is the second where it is not the first
@@ -54,7 +55,9 @@ module _ (t : List ℕ) (n e s : ℕ) (st w : List ℕ) (x got : ℕ) (st′ w�
     pub where-done : kindOf t e ≡ 17 → (y v r : ℕ) → a ≡ Done y v → r ≡ packed (nodeIn s) v → nodeIn s < 131072 → out r st′ w′ ≡ answer
     where-done h y v r q p l =
         gave st′ w′ r (nodeIn s) v p l (done-units got y v a read q)
-        ∙ sym (ruled-where t n e (nodeIn s) (held st) w (standing st) (unitsIn s) x xe h ∙ goes-on t n w (standing st) (unitsIn s) _ got st′ w′ is a read _ fail y v q ∙ ends t n (nodeIn s) (held st′) w′ (standing st′) v)
+        ∙ sym (ruled-where t n e (nodeIn s) (held st) w (standing st) (unitsIn s) x xe h
+        ∙ goes-on t n w (standing st) (unitsIn s) _ got st′ w′ is a read _ fail y v q
+        ∙ ends t n (nodeIn s) (held st′) w′ (standing st′) v)
 
     -- SEQ, and LEFT with CHOICE; y is the second operand
     module _ (y : ℕ) (ye : y ≡ wordAt t e 3) where
@@ -68,7 +71,9 @@ module _ (t : List ℕ) (n e s : ℕ) (st w : List ℕ) (x got : ℕ) (st′ w�
           ∙ last t n w′ (standing st′) v (apply y z (held st′)))
 
       either-rule : (kindOf t e ≡ 5) ⊎ (kindOf t e ≡ 6) → answer ≡ plan t n (ask keep (apply x (nodeIn s) (held st)) ret (ask keep (apply y (nodeIn s) (held st)) ret fail)) w (standing st) (unitsIn s)
-      either-rule h = ⊎-elim (λ f. ruled-choice t n e (nodeIn s) (held st) w (standing st) (unitsIn s) x xe y ye f) (λ f. ruled-left t n e (nodeIn s) (held st) w (standing st) (unitsIn s) x xe y ye f) h
+      either-rule h =
+          ⊎-elim (λ f. ruled-choice t n e (nodeIn s) (held st) w (standing st) (unitsIn s) x xe y ye f)
+          (λ f. ruled-left t n e (nodeIn s) (held st) w (standing st) (unitsIn s) x xe y ye f) h
 
       pub left-stops : (kindOf t e ≡ 5) ⊎ (kindOf t e ≡ 6) → Tagged a 0 2 → out got st′ w′ ≡ answer
       left-stops h g = not-failed t n w (standing st) (unitsIn s) _ got st′ w′ is a read _ g ∙ sym (either-rule h)
@@ -96,13 +101,17 @@ module _ (t : List ℕ) (n e s : ℕ) (st w : List ℕ) (x got : ℕ) (st′ w�
       test-done h y q =
           let f : answerOf got ≡ Done y v = attempt-done (answerOf got) y v (sym attempted ∙ q) in
           restored (done-units got y v (answerOf got) refl f)
-          ∙ sym (ruled-test t n e (nodeIn s) (held st) w (standing st) (unitsIn s) x xe h ∙ goes-back t n w (standing st) (unitsIn s) _ got st′ w′ is (answerOf got) refl _ fail y v f ∙ ends t n (nodeIn s) (held st) w′ (backTo (standing st) (standing st′)) v)
+          ∙ sym (ruled-test t n e (nodeIn s) (held st) w (standing st) (unitsIn s) x xe h
+          ∙ goes-back t n w (standing st) (unitsIn s) _ got st′ w′ is (answerOf got) refl _ fail y v f
+          ∙ ends t n (nodeIn s) (held st) w′ (backTo (standing st) (standing st′)) v)
 
       pub not-did : kindOf t e ≡ 3 → (y : ℕ) → g ≡ Ended false y v → out r st″ w′ ≡ answer
       not-did h y q =
           let f : answerOf got ≡ Failed v = attempt-failed (answerOf got) y v (sym attempted ∙ q) in
           restored (failed-few got v (answerOf got) refl f)
-          ∙ sym (ruled-not t n e (nodeIn s) (held st) w (standing st) (unitsIn s) x xe h ∙ caught t n w (standing st) (unitsIn s) _ got st′ w′ is (answerOf got) refl keep _ (ret (nodeIn s) (held st)) v f ∙ ends t n (nodeIn s) (held st) w′ (backTo (standing st) (standing st′)) v)
+          ∙ sym (ruled-not t n e (nodeIn s) (held st) w (standing st) (unitsIn s) x xe h
+          ∙ caught t n w (standing st) (unitsIn s) _ got st′ w′ is (answerOf got) refl keep _ (ret (nodeIn s) (held st)) v f
+          ∙ ends t n (nodeIn s) (held st) w′ (backTo (standing st) (standing st′)) v)
 
     module _ (st″ : List ℕ) (miss : notesOf st″ ≡ notesOf st′) (r v : ℕ) (re : r ≡ failedWord v) where
       failing-as : v < 4294967296 → out r st″ w′ ≡ lost (leftOf w′ (standing st′)) v
@@ -112,10 +121,14 @@ module _ (t : List ℕ) (n e s : ℕ) (st w : List ℕ) (x got : ℕ) (st′ w�
       test-failed h y q =
           let f : answerOf got ≡ Failed v = attempt-failed (answerOf got) y v (sym attempted ∙ q) in
           failing-as (failed-few got v (answerOf got) refl f)
-          ∙ sym (ruled-test t n e (nodeIn s) (held st) w (standing st) (unitsIn s) x xe h ∙ caught t n w (standing st) (unitsIn s) _ got st′ w′ is (answerOf got) refl drop _ fail v f ∙ fails t n w′ (backTo (standing st) (standing st′)) v)
+          ∙ sym (ruled-test t n e (nodeIn s) (held st) w (standing st) (unitsIn s) x xe h
+          ∙ caught t n w (standing st) (unitsIn s) _ got st′ w′ is (answerOf got) refl drop _ fail v f
+          ∙ fails t n w′ (backTo (standing st) (standing st′)) v)
 
       pub not-failed-then : kindOf t e ≡ 3 → (y : ℕ) → g ≡ Ended true y v → out r st″ w′ ≡ answer
       not-failed-then h y q =
           let f : answerOf got ≡ Done y v = attempt-done (answerOf got) y v (sym attempted ∙ q) in
           failing-as (done-units got y v (answerOf got) refl f)
-          ∙ sym (ruled-not t n e (nodeIn s) (held st) w (standing st) (unitsIn s) x xe h ∙ goes-on t n w (standing st) (unitsIn s) _ got st′ w′ is (answerOf got) refl _ (ret (nodeIn s) (held st)) y v f ∙ fails t n w′ (standing st′) v)
+          ∙ sym (ruled-not t n e (nodeIn s) (held st) w (standing st) (unitsIn s) x xe h
+          ∙ goes-on t n w (standing st) (unitsIn s) _ got st′ w′ is (answerOf got) refl _ (ret (nodeIn s) (held st)) y v f
+          ∙ fails t n w′ (standing st′) v)

@@ -60,19 +60,35 @@ module _ {t w st : List ℕ} {e s x got : ℕ} {st′ w′ : List ℕ} (n : ℕ)
 
       pub gives-test : {k r : ℕ} → k ≡ kindOf t e → k ≡ 2 → b ≡ true → r ≡ packed (nodeIn s) v → Returns r (back st st′)
       gives-test {r = r} k i z p = record {
-        is = test-done t n e s st w x got st′ w′ xe (gives .is) g attempted (back st st′) (held-back further st st′ long (gives .frame)) (mark-back further st st′ long) (notes-back further st st′ long) small r v p (sym k ∙ i) y (attempted-as z);
+        is =
+            test-done t n e s st w x got st′ w′ xe (gives .is) g attempted (back st st′) (held-back further st st′ long (gives .frame))
+            (mark-back further st st′ long) (notes-back further st st′ long) small r v p (sym k ∙ i) y (attempted-as z);
         frame = framed;
       }
 
       pub gives-test-failed : {k r : ℕ} → k ≡ kindOf t e → k ≡ 2 → b ≡ false → r ≡ failedWord v → Returns r (back st st′)
-      gives-test-failed {r = r} k i z p = record { is = test-failed t n e s st w x got st′ w′ xe (gives .is) g attempted (back st st′) (notes-back further st st′ long) r v p (sym k ∙ i) y (attempted-as z); frame = framed }
+      gives-test-failed {r = r} k i z p =
+          record {
+            is =
+                test-failed t n e s st w x got st′ w′ xe (gives .is) g attempted (back st st′) (notes-back further st st′ long) r v p (sym k ∙ i)
+                y (attempted-as z);
+            frame = framed;
+          }
 
       pub gives-not-failed : {k r : ℕ} → k ≡ kindOf t e → (k ≡ 2 → ⊥) → b ≡ true → r ≡ failedWord v → Returns r (back st st′)
-      gives-not-failed {r = r} k i z p = record { is = not-failed-then t n e s st w x got st′ w′ xe (gives .is) g attempted (back st st′) (notes-back further st st′ long) r v p (other h (λ e. i (k ∙ e))) y (attempted-as z); frame = framed }
+      gives-not-failed {r = r} k i z p =
+          record {
+            is =
+                not-failed-then t n e s st w x got st′ w′ xe (gives .is) g attempted (back st st′) (notes-back further st st′ long) r v p
+                (other h (λ e. i (k ∙ e))) y (attempted-as z);
+            frame = framed;
+          }
 
       pub gives-not : {k r : ℕ} → k ≡ kindOf t e → (k ≡ 2 → ⊥) → b ≡ false → r ≡ packed (nodeIn s) v → Returns r (back st st′)
       gives-not {r = r} k i z p = record {
-        is = not-did t n e s st w x got st′ w′ xe (gives .is) g attempted (back st st′) (held-back further st st′ long (gives .frame)) (mark-back further st st′ long) (notes-back further st st′ long) small r v p (other h (λ e. i (k ∙ e))) y (attempted-as z);
+        is =
+            not-did t n e s st w x got st′ w′ xe (gives .is) g attempted (back st st′) (held-back further st st′ long (gives .frame))
+            (mark-back further st st′ long) (notes-back further st st′ long) small r v p (other h (λ e. i (k ∙ e))) y (attempted-as z);
         frame = framed;
       }
 
@@ -84,7 +100,9 @@ module _ {t w st : List ℕ} {e s : ℕ} (n : ℕ) (ready : Ready t w st e s) wh
   -- ID gives the state back
   pub gives-id : {k : ℕ} → k ≡ kindOf t e → k ≡ 0 → Gives (ruled t n e (nodeIn s) (held st) w (standing st) (unitsIn s)) st s st w
   gives-id q h = record {
-    is = gave st w s (nodeIn s) (unitsIn s) (sym (packed-again s)) (node-small (ready .steady) (nodeIn s) (ready .subject)) (omega arith) ∙ sym (ruled-id t n e (nodeIn s) (held st) w (standing st) (unitsIn s) (sym q ∙ h));
+    is =
+        gave st w s (nodeIn s) (unitsIn s) (sym (packed-again s)) (node-small (ready .steady) (nodeIn s) (ready .subject)) (omega arith)
+        ∙ sym (ruled-id t n e (nodeIn s) (held st) w (standing st) (unitsIn s) (sym q ∙ h));
     frame = framed-refl further st;
   }
 
@@ -97,12 +115,15 @@ module _ {t w st : List ℕ} {e s : ℕ} (n : ℕ) (ready : Ready t w st e s) wh
   }
 
   -- a failure at once
-  pub gives-failure : {r : ℕ} → ruled t n e (nodeIn s) (held st) w (standing st) (unitsIn s) ≡ lost (leftOf w (standing st)) (unitsIn s) → r ≡ failedWord (unitsIn s) → Gives (ruled t n e (nodeIn s) (held st) w (standing st) (unitsIn s)) st r st w
+  pub gives-failure : {r : ℕ} → ruled t n e (nodeIn s) (held st) w (standing st) (unitsIn s) ≡ lost (leftOf w (standing st)) (unitsIn s) → r
+      ≡ failedWord (unitsIn s) → Gives (ruled t n e (nodeIn s) (held st) w (standing st) (unitsIn s)) st r st w
   gives-failure {r} q p = record { is = gave-failed st w r (unitsIn s) p (omega arith) ∙ sym q; frame = framed-refl further st }
 
   -- every other kind than those of the rules fails
   pub ruled-none : {k : ℕ} → k ≡ kindOf t e → (k ≡ 1) ⊎ (17 < k) → ruled t n e (nodeIn s) (held st) w (standing st) (unitsIn s) ≡ lost (leftOf w (standing st)) (unitsIn s)
-  ruled-none {k} q h = ⊎-elim (λ z. ruled-fail t n e (nodeIn s) (held st) w (standing st) (unitsIn s) k (sym q) z) (λ z. ruled-above t n e (nodeIn s) (held st) w (standing st) (unitsIn s) (rw q at z)) h
+  ruled-none {k} q h =
+      ⊎-elim (λ z. ruled-fail t n e (nodeIn s) (held st) w (standing st) (unitsIn s) k (sym q) z)
+      (λ z. ruled-above t n e (nodeIn s) (held st) w (standing st) (unitsIn s) (rw q at z)) h
 
 -- the pattern of a MATCH and of a BUILD
 module _ {t w st : List ℕ} {e s k : ℕ} (ready : Ready t w st e s) (x : ℕ) (xe : x ≡ wordAt t e 2) (q : k ≡ kindOf t e) where
@@ -128,7 +149,11 @@ nine k r e h = omega arith
 -- a kind of no rule is FAIL, or no strategy
 pub no-rule : (k r : ℕ) → r ≡ k → Last k → (r < 2) ⊎ (4 ≤ r) → (r ≡ 0 → ⊥) → (r ≡ 9 → ⊥) → (r ≡ 11 → ⊥) → (r ≡ 13 → ⊥) → (r ≡ 14 → ⊥) → (r ≡ 15 → ⊥) → (r ≡ 16 → ⊥) → (r ≡ 17 → ⊥)
     → (r ≡ 1) ⊎ (17 < r)
-no-rule k r e l h z a c f g i j m = ⊎-elim (λ q. inl (low r q z)) (λ q. ⊎-elim (λ p. absurd (l .not-seq (four k r e q p))) (λ p. inr (up 17 r (up 16 r (up 15 r (up 14 r (up 13 r (up 12 r (up 11 r (up 10 r (up 9 r (nine k r e p) a) (λ q. l .not-cong (sym e ∙ q))) c) (λ q. l .not-one (sym e ∙ q))) f) g) i) j) m)) (l .outside)) h
+no-rule k r e l h z a c f g i j m =
+    ⊎-elim (λ q. inl (low r q z)) (λ q. ⊎-elim (λ p. absurd (l .not-seq (four k r e q p)))
+    (λ p. inr (up 17 r (up 16 r (up 15 r (up 14 r (up 13 r
+    (up 12 r (up 11 r (up 10 r (up 9 r (nine k r e p) a) (λ q. l .not-cong (sym e ∙ q))) c) (λ q. l .not-one (sym e ∙ q))) f) g) i) j) m))
+    (l .outside)) h
 
 -- the end of a walk, by its four ways
 module _ (k won n g : ℕ) (made st w : List ℕ) (u : ℕ) where

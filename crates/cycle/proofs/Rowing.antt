@@ -39,10 +39,17 @@ module _ {w w′ : List ℕ} {m : ℕ} (kept : Kept w m w′) (k : ℕ) (inside 
   kept-constructor = kept-word kept k 0 inside (omega arith)
 
   pub kept-children : children w′ k ≡ children w k
-  kept-children = λ z. take (kept-word kept k 1 inside (omega arith) z) (kept-word kept k 2 inside (omega arith) z ∷ kept-word kept k 3 inside (omega arith) z ∷ kept-word kept k 4 inside (omega arith) z ∷ kept-word kept k 5 inside (omega arith) z ∷ kept-word kept k 6 inside (omega arith) z ∷ kept-word kept k 7 inside (omega arith) z ∷ [])
+  kept-children =
+      λ z. take (kept-word kept k 1 inside (omega arith) z)
+      (kept-word kept k 2 inside (omega arith) z ∷ kept-word kept k 3 inside (omega arith) z ∷ kept-word kept k 4 inside (omega arith) z
+      ∷ kept-word kept k 5 inside (omega arith) z ∷ kept-word kept k 6 inside (omega arith) z ∷ kept-word kept k 7 inside (omega arith) z
+      ∷ [])
 
   pub kept-row : rowAt w′ k ≡ rowAt w k
-  kept-row = λ z. kept-word kept k 0 inside (omega arith) z ∷ kept-word kept k 1 inside (omega arith) z ∷ kept-word kept k 2 inside (omega arith) z ∷ kept-word kept k 3 inside (omega arith) z ∷ kept-word kept k 4 inside (omega arith) z ∷ kept-word kept k 5 inside (omega arith) z ∷ kept-word kept k 6 inside (omega arith) z ∷ kept-word kept k 7 inside (omega arith) z ∷ []
+  kept-row =
+      λ z. kept-word kept k 0 inside (omega arith) z ∷ kept-word kept k 1 inside (omega arith) z ∷ kept-word kept k 2 inside (omega arith) z
+      ∷ kept-word kept k 3 inside (omega arith) z ∷ kept-word kept k 4 inside (omega arith) z ∷ kept-word kept k 5 inside (omega arith) z
+      ∷ kept-word kept k 6 inside (omega arith) z ∷ kept-word kept k 7 inside (omega arith) z ∷ []
 
 -- a good node
 module _ {w : List ℕ} {k : ℕ} (node : Node w k) where

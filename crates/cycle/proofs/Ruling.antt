@@ -26,7 +26,16 @@ use Rattle.leaves.proofs.Patterns.{operand-below}
 
 -- an operand is an entry, and is visited on a node below the mark
 pub ready-operand : {t w st : List ℕ} {e g : ℕ} → Ready t w st e g → (kindOf t e ≡ 16 → ⊥) → (i x h : ℕ) → i < 6 → x ≡ wordAt t e (2 + i) → nodeIn h < markOf st → Ready t w st x h
-ready-operand {t} {e = e} r other i x h l q k = record { entries = r .entries; hints = r .hints; long = r .long; inside = rw q (operand-below t (r .entries) e i (r .inside) other l); steady = r .steady; subject = k }
+ready-operand {t} {e = e} r other i x h l q k =
+    record {
+      entries = r .entries;
+      hints = r .hints;
+      long = r .long;
+      inside =
+          rw q (operand-below t (r .entries) e i (r .inside) other l);
+      steady = r .steady;
+      subject = k;
+    }
 
 -- what is ready for a visit is ready for a match
 pub matchable : {t w st : List ℕ} {e g : ℕ} → Ready t w st e g → Matchable t w st e g
@@ -46,7 +55,10 @@ module _ (t : List ℕ) (n e k : ℕ) (b : Bindings ℕ) (w : List ℕ) (m : Sta
 
   pub ruled-above : 17 < kindOf t e → ruled t n e k b w m u ≡ lost (leftOf w m) u
   unfolding byKind strategy plan runPlan
-  ruled-above h = rule-is t n e k b w m u FAIL (kind-is t e (kindOf t e) refl ∙ List·getD-eq-default (byKind (argumentOf t e) (wordAt t e 2) (wordAt t e 3) (operands t e) (maskBy ours t e) (wordAt t e (1 + ours))) FAIL {n = kindOf t e} (omega arith))
+  ruled-above h =
+      rule-is t n e k b w m u FAIL (kind-is t e (kindOf t e) refl
+      ∙ List·getD-eq-default (byKind (argumentOf t e) (wordAt t e 2) (wordAt t e 3) (operands t e) (maskBy ours t e)
+      (wordAt t e (1 + ours))) FAIL {n = kindOf t e} (omega arith))
 
   -- a SCOPE's operand stands after its mask
   pub ruled-scope : (x : ℕ) → x ≡ wordAt t e (1 + ours) → (s : ℕ) → s ≡ maskBy ours t e → kindOf t e ≡ 16 → asks (ask keep (apply x k (masked s unbound b)) (λ h c. ret h (masked s b c)) fail)

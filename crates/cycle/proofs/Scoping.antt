@@ -29,7 +29,8 @@ use Rattle.state.proofs.Asking.{goes-on, not-done}
 use Rattle.leaves.proofs.Walking.{returned}
 use Rattle.leaves.proofs.Patterns.{scope-operand-below}
 use Rattle.cycle.proofs.Ruling.{ruled-scope}
-use Rattle.state.proofs.Holding.{further, length-hidden, mark-hidden, notes-hidden, held-hidden, held-apart, held-unscope, framed-unscope, shown, length-shown, mark-shown, notes-shown, held-shown, framed-shown}
+use Rattle.state.proofs.Holding.{further, length-hidden, mark-hidden, notes-hidden, held-hidden, held-apart, held-unscope, framed-unscope}
+use Rattle.state.proofs.Holding.{shown, length-shown, mark-shown, notes-shown, held-shown, framed-shown}
 
 -- a visit's answer r with the record st, and the same word with a record st″ that holds f of the bindings
 rebound : (t : List ℕ) (n : ℕ) (q : Visit ℕ) (w : List ℕ) (m : Standing) (u r : ℕ) (st w′ : List ℕ) → out r st w′ ≡ visit t n q w m u
@@ -39,9 +40,15 @@ rebound t n q w m u r st w′ is st″ f holds mark miss = go (answerOf r) refl
   where
     go : (a : Answer) → a ≡ answerOf r → out r st″ w′ ≡ plan t n (ask keep q (λ h c. ret h (f c)) fail) w m u
     go (Done x v) e =
-        out-answer st″ w′ r (Done x v) e ∙ rw (holds, mark, miss) (sym (goes-on t n w m u q r st w′ is (Done x v) e (λ h c. ret h (f c)) fail x v refl ∙ returned t n w′ (standing st) v x (f (held st))))
-    go (Failed v) e = out-answer st″ w′ r (Failed v) e ∙ ap (λ z. lost (leftOf w′ (at (markOf st) z)) v) miss ∙ sym (out-answer st w′ r (Failed v) e) ∙ not-done t n w m u q r st w′ is (Failed v) e keep (λ h c. ret h (f c)) (inl refl)
-    go (Cut c) e = out-answer st″ w′ r (Cut c) e ∙ ap (λ z. cut (limitOf c) (leftOf w′ (at (markOf st) z)) (unitsIn c)) miss ∙ sym (out-answer st w′ r (Cut c) e) ∙ not-done t n w m u q r st w′ is (Cut c) e keep (λ h c. ret h (f c)) (inr refl)
+        out-answer st″ w′ r (Done x v) e ∙ rw (holds, mark, miss)
+        (sym (goes-on t n w m u q r st w′ is (Done x v) e (λ h c. ret h (f c)) fail x v refl
+        ∙ returned t n w′ (standing st) v x (f (held st))))
+    go (Failed v) e =
+        out-answer st″ w′ r (Failed v) e ∙ ap (λ z. lost (leftOf w′ (at (markOf st) z)) v) miss ∙ sym (out-answer st w′ r (Failed v) e)
+        ∙ not-done t n w m u q r st w′ is (Failed v) e keep (λ h c. ret h (f c)) (inl refl)
+    go (Cut c) e =
+        out-answer st″ w′ r (Cut c) e ∙ ap (λ z. cut (limitOf c) (leftOf w′ (at (markOf st) z)) (unitsIn c)) miss
+        ∙ sym (out-answer st w′ r (Cut c) e) ∙ not-done t n w m u q r st w′ is (Cut c) e keep (λ h c. ret h (f c)) (inr refl)
 
 -- what is bound with some variables hidden is bound without
 masked-some : (m v j : ℕ) (b : Bindings ℕ) → masked m unbound b v ≡ some j → b v ≡ some j
@@ -78,7 +85,11 @@ module _ {t w st : List ℕ} {e s x i : ℕ} (n : ℕ) (ready : Ready t w st e s
     gives-scope apart f =
         subst (λ p. Returns got p w′) (sym f) (
         record {
-          is = rebound t n inner w (standing st) (unitsIn s) got st′ w′ (gives .is ∙ ap (λ b. visit t n (apply x (nodeIn s) b) w (standing st) (unitsIn s)) (held-apart further st i apart)) (hidden st′ i) (masked i (held st)) (held-unscope further st i apart st′ long′ small) (mark-hidden further st′ i long′ small) (notes-hidden further st′ i long′ small)
+          is =
+              rebound t n inner w (standing st) (unitsIn s) got st′ w′
+              (gives .is ∙ ap (λ b. visit t n (apply x (nodeIn s) b) w (standing st) (unitsIn s)) (held-apart further st i apart))
+              (hidden st′ i) (masked i (held st)) (held-unscope further st i apart st′ long′ small) (mark-hidden further st′ i long′ small)
+              (notes-hidden further st′ i long′ small)
               ∙ sym (ruled-scope t n e (nodeIn s) (held st) w (standing st) (unitsIn s) x xe i ie scope);
           frame = framed-unscope further st i apart st′ long′ small (gives .frame);
         }
@@ -104,7 +115,15 @@ module _ {t w st : List ℕ} {e s x i : ℕ} (n : ℕ) (ready : Ready t w st e s
 
     gives-shown : Returns got (shown further st i st′) w′
     gives-shown = record {
-      is = rebound t n inner w (standing st) (unitsIn s) got st′ w′ (gives .is ∙ rw (mark-hidden further st i (ready .long) small, notes-hidden further st i (ready .long) small, held-hidden further st i (ready .long) small)) (shown further st i st′) (masked i (held st)) (held-shown further st i st′ long″ small) (mark-shown further st i st′ long″ small) (notes-shown further st i st′ long″ small)
+      is =
+          rebound t n inner w (standing st) (unitsIn s) got st′ w′
+          (gives .is ∙ rw (
+            mark-hidden further st i (ready .long) small,
+            notes-hidden further st i (ready .long) small,
+            held-hidden further
+                st i (ready .long) small,
+          )) (shown further st i st′) (masked i (held st)) (held-shown further st i st′ long″ small)
+          (mark-shown further st i st′ long″ small) (notes-shown further st i st′ long″ small)
           ∙ sym (ruled-scope t n e (nodeIn s) (held st) w (standing st) (unitsIn s) x xe i ie scope);
       frame = framed-shown further st i st′ long″ small (ready .long) (gives .frame);
     }

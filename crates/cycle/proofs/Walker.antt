@@ -71,11 +71,13 @@ module _ (t w : List ℕ) (e k : ℕ) (same : Counted t w e k) where
     where
       go : (z : Bool) → eqb (kindOf t e) 10 ≡ z
           → drop i (if z then zip apply (operands t e) (children w k) else map (apply (wordAt t e 2)) (children w k))
-          ≡ apply (if z then wordAt t e (2 + i) else wordAt t e 2) (wordAt w k (2 + i)) ∷ drop (i + 1) (if z then zip apply (operands t e) (children w k) else map (apply (wordAt t e 2)) (children w k))
+          ≡ apply (if z then wordAt t e (2 + i) else wordAt t e 2) (wordAt w k (2 + i)) ∷ drop (i + 1)
+          (if z then zip apply (operands t e) (children w k) else map (apply (wordAt t e 2)) (children w k))
       go true q =
           let l : i < min (operandCount t e) 6 = omega (arith, same .1 (eqb-true (kindOf t e) 10 q)) in
           drop-zip apply i (operands t e) (children w k)
-          ∙ rw (part-next t e (operandCount t e) i l, part-next w k (childCount w k) i h) (ap (λ r. apply (wordAt t e (2 + i)) (wordAt w k (2 + i)) ∷ r) (sym (drop-zip apply (i + 1) (operands t e) (children w k))))
+          ∙ rw (part-next t e (operandCount t e) i l, part-next w k (childCount w k) i h)
+          (ap (λ r. apply (wordAt t e (2 + i)) (wordAt w k (2 + i)) ∷ r) (sym (drop-zip apply (i + 1) (operands t e) (children w k))))
       go false q =
           drop-map (apply (wordAt t e 2)) i (children w k)
           ∙ rw (part-next w k (childCount w k) i h) (ap (λ r. apply (wordAt t e 2) (wordAt w k (2 + i)) ∷ r) (sym (drop-map (apply (wordAt t e 2)) (i + 1) (children w k))))
@@ -103,10 +105,14 @@ module _ (t w : List ℕ) (e k : ℕ) (same : Counted t w e k) (i won : ℕ) (gs
   rest-next h = go (eqb (kindOf t e) 13) refl
     where
       go : (z : Bool) → eqb (kindOf t e) 13 ≡ z
-          → (if z then someOf (wordAt t e 2) (not (eqb won 0)) gs (drop i (children w k)) b (again k (constructorOf w k)) else walk (drop i (visits t e (children w k))) gs b (again k (constructorOf w k)))
+          → (if z then someOf (wordAt t e 2) (not (eqb won 0)) gs (drop i (children w k)) b (again k (constructorOf w k)) else walk
+          (drop i (visits t e (children w k))) gs b (again k (constructorOf w k)))
           ≡ ask keep (apply (operandFor t e (kindOf t e) i) (wordAt w k (2 + i)) b)
-          (λ h c. if z then someOf (wordAt t e 2) true (gs ++ (h ∷ [])) (drop (i + 1) (children w k)) c (again k (constructorOf w k)) else walk (drop (i + 1) (visits t e (children w k))) (gs ++ (h ∷ [])) c (again k (constructorOf w k)))
-          (if z then (if z then someOf (wordAt t e 2) (not (eqb won 0)) (gs ++ (wordAt w k (2 + i) ∷ [])) (drop (i + 1) (children w k)) b (again k (constructorOf w k)) else walk (drop (i + 1) (visits t e (children w k))) (gs ++ (wordAt w k (2 + i) ∷ [])) b (again k (constructorOf w k))) else fail)
+          (λ h c. if z then someOf (wordAt t e 2) true (gs ++ (h ∷ [])) (drop (i + 1) (children w k)) c (again k (constructorOf w k)) else
+          walk (drop (i + 1) (visits t e (children w k))) (gs ++ (h ∷ [])) c (again k (constructorOf w k)))
+          (if z then (if z then someOf (wordAt t e 2) (not (eqb won 0)) (gs ++ (wordAt w k (2 + i) ∷ [])) (drop (i + 1) (children w k)) b
+          (again k (constructorOf w k)) else walk (drop (i + 1) (visits t e (children w k))) (gs ++ (wordAt w k (2 + i) ∷ [])) b
+          (again k (constructorOf w k))) else fail)
       go true q =
           let f : kindOf t e ≡ 13 = eqb-true (kindOf t e) 13 q in
           rw (part-next w k (childCount w k) i h, f)
@@ -118,7 +124,8 @@ module _ (t w : List ℕ) (e k : ℕ) (same : Counted t w e k) (i won : ℕ) (gs
   rest-end h = go (eqb (kindOf t e) 13)
     where
       go : (z : Bool)
-          → (if z then someOf (wordAt t e 2) (not (eqb won 0)) gs (drop i (children w k)) b (again k (constructorOf w k)) else walk (drop i (visits t e (children w k))) gs b (again k (constructorOf w k)))
+          → (if z then someOf (wordAt t e 2) (not (eqb won 0)) gs (drop i (children w k)) b (again k (constructorOf w k)) else walk
+          (drop i (visits t e (children w k))) gs b (again k (constructorOf w k)))
           ≡ (if z then when (not (eqb won 0)) (again k (constructorOf w k) gs b) else again k (constructorOf w k) gs b)
       go true = rw (part-end w k (childCount w k) i h)
       go false = rw (visits-end t w e k same i h)
@@ -271,8 +278,10 @@ module _ {t w₀ st₀ : List ℕ} {e s deep : ℕ} {w st : List ℕ} {u won : �
       pub going-stops : {k : ℕ} → k ≡ kindOf t e → (k ≡ 13 → ⊥) → b ≡ false → Whole
       going-stops {k} ke n z = record {
         is = not-caught t deep w (standing st) u _ got st′ w′ is (λ h c. rest t w₀ e (nodeIn s) (i + 1) 1 (g .done ++ (h ∷ [])) c) v (failed-as z)
-            ∙ sym (next ∙ ap (λ z. plan t deep (ask keep (apply (operandFor t e (kindOf t e) i) (wordAt w₀ (nodeIn s) (2 + i)) (held st)) (λ h c. rest t w₀ e (nodeIn s) (i + 1) 1 (g .done ++ (h ∷ [])) c)
-            (if z then rest t w₀ e (nodeIn s) (i + 1) won (g .done ++ (wordAt w₀ (nodeIn s) (2 + i) ∷ [])) (held st) else fail)) w (standing st) u) (ne-eqb (kindOf t e) 13 (λ f. n (ke ∙ f)))) ∙ g .left;
+            ∙ sym (next ∙ ap (λ z. plan t deep (ask keep (apply (operandFor t e (kindOf t e) i) (wordAt w₀ (nodeIn s) (2 + i)) (held st))
+            (λ h c. rest t w₀ e (nodeIn s) (i + 1) 1 (g .done ++ (h ∷ [])) c)
+            (if z then rest t w₀ e (nodeIn s) (i + 1) won (g .done ++ (wordAt w₀ (nodeIn s) (2 + i) ∷ [])) (held st) else fail)) w
+            (standing st) u) (ne-eqb (kindOf t e) 13 (λ f. n (ke ∙ f)))) ∙ g .left;
         frame = framed′;
       }
 
@@ -354,7 +363,9 @@ module _ {t w₀ st₀ : List ℕ} {e s deep : ℕ} {w st : List ℕ} {u won : �
     pub ahead-gives : {got : ℕ} {st′ w′ : List ℕ} → n ≤ u → Gives (visit t (deep - n) (apply x (nodeIn p) (held st)) w (standing st) (unitsIn p)) st got st′ w′
         → Gives (visit t deep (apply (operandFor t e κ i) (nodeIn (packed c u)) (held st)) w (standing st) (unitsIn (packed c u))) st got st′ w′
     ahead-gives l o = record {
-      is = o .is ∙ rw (pe, node-packed c (u - n) less, units-packed c (u - n) less, node-packed c u (g .few), units-packed c u (g .few)) (sym (leads .is c (held st) w (standing st) deep u (ahead .few) l));
+      is =
+          o .is ∙ rw (pe, node-packed c (u - n) less, units-packed c (u - n) less, node-packed c u (g .few), units-packed c u (g .few))
+          (sym (leads .is c (held st) w (standing st) deep u (ahead .few) l));
       frame = o .frame;
     }
 
@@ -364,7 +375,9 @@ module _ {t w₀ st₀ : List ℕ} {e s deep : ℕ} {w st : List ℕ} {u won : �
       let c = wordAt w (nodeIn s) (2 + i) in
       let o : out r st w ≡ visit t deep (apply (operandFor t e κ i) (nodeIn (packed c u)) (held st)) w (standing st) (unitsIn (packed c u))
       = ap (λ r. out r st w) re ∙ out-units st w ∙ rw (node-packed c u (g .few), units-packed c u (g .few)) (sym (leads .short c (held st) w (standing st) deep u (ahead .few) l)) in
-      going-off ready same g h {x = operandFor t e κ i} {κ = κ} {c = c} {p = packed c u} refl κe refl refl (record { is = o; frame = framed-refl further st }) {a = attemptOf (answerOf r)} refl (ap (λ r. attemptOf (answerOf r)) re ∙ units-off)
+      going-off ready same g h {x = operandFor t e κ i} {κ = κ} {c = c} {p = packed c u} refl κe refl refl
+      (record { is = o; frame = framed-refl further st }) {a = attemptOf (answerOf r)} refl
+      (ap (λ r. attemptOf (answerOf r)) re ∙ units-off)
 
 -- the node that is walked stands in the store
 pub going-stored : {t w₀ st₀ : List ℕ} {e s deep : ℕ} {w st : List ℕ} {u won : ℕ} {made : List ℕ} {i : ℕ} → Ready t w₀ st₀ e s → Going t w₀ st₀ e s deep w st u won made i → Stored w (nodeIn s)
@@ -406,7 +419,8 @@ module _ {t w₀ st₀ : List ℕ} {e s deep : ℕ} {w st : List ℕ} {u won : �
   finishes k n ke ne = sym (ap (λ p. plan t deep p w (standing st) u) (rest-end t w₀ e (nodeIn s) same i won (g .done) (held st) h) ∙ rw (← ke) (go (eqb k 13) (eqb won 0) (eqb n 0) refl refl))
     where
       go : (z o m : Bool) → eqb won 0 ≡ o → eqb n 0 ≡ m
-          → plan t deep (if z then when (not o) (again (nodeIn s) (constructorOf w₀ (nodeIn s)) (g .done) (held st)) else again (nodeIn s) (constructorOf w₀ (nodeIn s)) (g .done) (held st)) w (standing st) u
+          → plan t deep (if z then when (not o) (again (nodeIn s) (constructorOf w₀ (nodeIn s)) (g .done) (held st)) else again (nodeIn s)
+          (constructorOf w₀ (nodeIn s)) (g .done) (held st)) w (standing st) u
           ≡ (if z then (if o then lost (leftOf w (standing st)) u else noded made st w u) else if m then ended (nodeIn s) (held st) (on w (standing st)) (unitsIn s) else noded made st w u)
       go true true m a b = fails t deep w (standing st) u
       go true false m a b = new-node (held st) (λ f. let l = g .won-later (eqb-false won 0 a) in omega (arith, g .so-far)) refl

@@ -115,7 +115,87 @@ each-at P i (s ∷ ss) h (suc k) l =
 -- each kind's strategy has the operands of its kind
 all-fit : (a x y : ℕ) (xs : List ℕ) (m z : ℕ) → Each (Fits x y xs) 0 (byKind a x y xs m z)
 unfolding byKind operandsOf kind lineOf lines
-all-fit a x y xs m z = (record { plain-is = refl; operands-are = refl }, (record { plain-is = refl; operands-are = refl }, (record { plain-is = refl; operands-are = refl }, (record { plain-is = refl; operands-are = refl }, (record { plain-is = refl; operands-are = refl }, (record { plain-is = refl; operands-are = refl }, (record { plain-is = refl; operands-are = refl }, (record { plain-is = refl; operands-are = refl }, (record { plain-is = refl; operands-are = refl }, (record { plain-is = refl; operands-are = refl }, (record { plain-is = refl; operands-are = refl }, (record { plain-is = refl; operands-are = refl }, (record { plain-is = refl; operands-are = refl }, (record { plain-is = refl; operands-are = refl }, (record { plain-is = refl; operands-are = refl }, (record { plain-is = refl; operands-are = refl }, (record { plain-is = refl; operands-are = refl }, (record { plain-is = refl; operands-are = refl }, tt))))))))))))))))))
+all-fit a x y xs m z = (
+  record {
+    plain-is = refl;
+    operands-are =
+        refl;
+  },
+  (
+    record { plain-is = refl; operands-are = refl },
+    (
+      record {
+        plain-is = refl;
+        operands-are =
+            refl;
+      },
+      (
+        record { plain-is = refl; operands-are = refl },
+        (
+          record {
+            plain-is = refl;
+            operands-are =
+                refl;
+          },
+          (
+            record { plain-is = refl; operands-are = refl },
+            (
+              record {
+                plain-is = refl;
+                operands-are =
+                    refl;
+              },
+              (
+                record { plain-is = refl; operands-are = refl },
+                (
+                  record {
+                    plain-is = refl;
+                    operands-are =
+                        refl;
+                  },
+                  (
+                    record { plain-is = refl; operands-are = refl },
+                    (
+                      record {
+                        plain-is = refl;
+                        operands-are =
+                            refl;
+                      },
+                      (
+                        record { plain-is = refl; operands-are = refl },
+                        (
+                          record {
+                            plain-is = refl;
+                            operands-are =
+                                refl;
+                          },
+                          (
+                            record { plain-is = refl; operands-are = refl },
+                            (
+                              record {
+                                plain-is = refl;
+                                operands-are =
+                                    refl;
+                              },
+                              (
+                                record { plain-is = refl; operands-are = refl },
+                                (record { plain-is = refl; operands-are = refl }, (record { plain-is = refl; operands-are = refl }, tt)),
+                              ),
+                            ),
+                          ),
+                        ),
+                      ),
+                    ),
+                  ),
+                ),
+              ),
+            ),
+          ),
+        ),
+      ),
+    ),
+  ),
+)
 
 -- every kind but CONG and PCON has one number of operands, and at most two
 fixed : ℕ → Bool

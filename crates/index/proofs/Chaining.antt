@@ -53,7 +53,8 @@ module _ (w : List ℕ) (n : ℕ) where
   nodeWith-newest r zero = refl
   nodeWith-newest r (suc m) = go (nodeWith-newest r m) (eqb (place w n m) (home n r)) refl
     where
-      go : nodeWith w r m ≡ nodeWith w r (newest w n (home n r) m) → (t : Bool) → eqb (place w n m) (home n r) ≡ t → (if alike (eight w m) r then some m else nodeWith w r m) ≡ nodeWith w r (if t then suc m else newest w n (home n r) m)
+      go : nodeWith w r m ≡ nodeWith w r (newest w n (home n r) m) → (t : Bool) → eqb (place w n m) (home n r) ≡ t
+          → (if alike (eight w m) r then some m else nodeWith w r m) ≡ nodeWith w r (if t then suc m else newest w n (home n r) m)
       go i true z = refl
       go i false z =
           let no : alike (eight w m) r ≡ false = differ (eight w m) r (λ e. eqb-false _ _ z (ap (home n) e)) in
@@ -82,7 +83,8 @@ length-linked x at n p k = simp length-set
 
 module _ {w x : List ℕ} {at n : ℕ} where
   -- other words with the same nodes below m, other words with the same index
-  pub indexed-moves : {m : ℕ} (w′ x′ : List ℕ) → Indexed w x at n m → ((k : ℕ) → k < m → eight w′ k ≡ eight w k) → length x ≤ length x′ → ((i : ℕ) → at ≤ i → getD x′ i 0 ≡ getD x i 0) → Indexed w′ x′ at n m
+  pub indexed-moves : {m : ℕ} (w′ x′ : List ℕ) → Indexed w x at n m → ((k : ℕ) → k < m → eight w′ k ≡ eight w k) → length x ≤ length x′
+      → ((i : ℕ) → at ≤ i → getD x′ i 0 ≡ getD x i 0) → Indexed w′ x′ at n m
   indexed-moves {m} w′ x′ i f l g = record {
     long = omega (arith, i .long);
     some = i .some;

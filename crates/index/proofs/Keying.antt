@@ -84,7 +84,9 @@ last-decides w r k l a b c d e f g true h =
 
 -- words from place i on do not touch the rows below
 pub eight-set : (w : List ℕ) (i v k : ℕ) → 8 * k + 8 ≤ i → eight (set w i v) k ≡ eight w k
-eight-set w i v k h = λ z. o 0 (omega arith) z ∷ o 1 (omega arith) z ∷ o 2 (omega arith) z ∷ o 3 (omega arith) z ∷ o 4 (omega arith) z ∷ o 5 (omega arith) z ∷ o 6 (omega arith) z ∷ o 7 (omega arith) z ∷ []
+eight-set w i v k h =
+    λ z. o 0 (omega arith) z ∷ o 1 (omega arith) z ∷ o 2 (omega arith) z ∷ o 3 (omega arith) z ∷ o 4 (omega arith) z ∷ o 5 (omega arith) z
+    ∷ o 6 (omega arith) z ∷ o 7 (omega arith) z ∷ []
   where
     o : (j : ℕ) → j < 8 → wordAt (set w i v) k j ≡ wordAt w k j
     o j l = getD-set-other w i (8 * k + j) v 0 (λ e. absurd (omega arith))

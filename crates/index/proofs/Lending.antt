@@ -109,13 +109,18 @@ module _ (n m : ℕ) (w r : List ℕ) (i : Held w n m) (room : m < n) (eight-wor
   inside = omega (arith, i .long)
 
   pub put-eight : eight (putRow w m r) m ≡ r
-  put-eight = ext-getD 0 (eight (putRow w m r) m) r (sym eight-words) (eachOf (λ j. getD (eight (putRow w m r) m) j 0 ≡ getD r j 0) (o 0 (omega arith)) (o 1 (omega arith)) (o 2 (omega arith)) (o 3 (omega arith)) (o 4 (omega arith)) (o 5 (omega arith)) (o 6 (omega arith)) (o 7 (omega arith)))
+  put-eight =
+      ext-getD 0 (eight (putRow w m r) m) r (sym eight-words)
+      (eachOf (λ j. getD (eight (putRow w m r) m) j 0 ≡ getD r j 0) (o 0 (omega arith)) (o 1 (omega arith)) (o 2 (omega arith))
+      (o 3 (omega arith)) (o 4 (omega arith)) (o 5 (omega arith)) (o 6 (omega arith)) (o 7 (omega arith)))
     where
       o : (j : ℕ) → j < 8 → wordAt (putRow w m r) m j ≡ getD r j 0
       o = wordAt-putRow-same w m r inside eight-words
 
   pub put-below : (k : ℕ) → k < m → eight (putRow w m r) k ≡ eight w k
-  put-below k h = λ z. o 0 (omega arith) z ∷ o 1 (omega arith) z ∷ o 2 (omega arith) z ∷ o 3 (omega arith) z ∷ o 4 (omega arith) z ∷ o 5 (omega arith) z ∷ o 6 (omega arith) z ∷ o 7 (omega arith) z ∷ []
+  put-below k h =
+      λ z. o 0 (omega arith) z ∷ o 1 (omega arith) z ∷ o 2 (omega arith) z ∷ o 3 (omega arith) z ∷ o 4 (omega arith) z ∷ o 5 (omega arith) z
+      ∷ o 6 (omega arith) z ∷ o 7 (omega arith) z ∷ []
     where
       o : (j : ℕ) → j < 8 → wordAt (putRow w m r) k j ≡ wordAt w k j
       o j l = wordAt-putRow-other w m r inside eight-words k j l (λ e. absurd (omega arith))

@@ -40,7 +40,9 @@ module _ (n : ℕ) where
   first-word w k j h l = getD-take (8 * n) w (8 * k + j) 0 (omega arith)
 
   first-eight : (w : List ℕ) (k : ℕ) → k < n → eight (first w) k ≡ eight w k
-  first-eight w k h = λ z. o 0 (omega arith) z ∷ o 1 (omega arith) z ∷ o 2 (omega arith) z ∷ o 3 (omega arith) z ∷ o 4 (omega arith) z ∷ o 5 (omega arith) z ∷ o 6 (omega arith) z ∷ o 7 (omega arith) z ∷ []
+  first-eight w k h =
+      λ z. o 0 (omega arith) z ∷ o 1 (omega arith) z ∷ o 2 (omega arith) z ∷ o 3 (omega arith) z ∷ o 4 (omega arith) z ∷ o 5 (omega arith) z
+      ∷ o 6 (omega arith) z ∷ o 7 (omega arith) z ∷ []
     where
       o : (j : ℕ) → j < 8 → wordAt (first w) k j ≡ wordAt w k j
       o j l = first-word w k j h l
@@ -264,7 +266,8 @@ module _ (r n long : ℕ) {N : Type 0} (Λ : Notes N) (v : Slice (suc r) n long)
         even = kept .long ∙ v .even;
       } in
       both-make {v′ = v′} f (ap (λ z. leb z (v .mark)) (v .fits .0) ∙ f) (record { more = omega arith; kept = kept })
-      (subst (λ ks. At (suc r) n long v′ (on (putRow (v .words) (v .mark) (row c hs)) (v .mark + 1) (lending ν (suc r) (v .top) n)) (on (putRow (v .words) (v .mark) (row c ks)) (v .mark + 1) ν)) (list-same (suc r) n long l) (at-lent ν))
+      (subst (λ ks. At (suc r) n long v′ (on (putRow (v .words) (v .mark) (row c hs)) (v .mark + 1) (lending ν (suc r) (v .top) n))
+      (on (putRow (v .words) (v .mark) (row c ks)) (v .mark + 1) ν)) (list-same (suc r) n long l) (at-lent ν))
       (record { is = refl; below = omega arith })
 
 -- one node more: by the index, a node that stands, no room, a new node
@@ -284,12 +287,15 @@ module _ (n long : ℕ) {N : Type 0} (Λ : Notes N) (v : Slice 0 n long) (ν : N
       → Makes (slices 0 n long) (lent Λ) (beneath 0 Λ) ⊥ ⊥ (At 0 n long) v (on (v .words) (v .mark) (lending ν 0 (v .top) n)) (on (first n (v .words)) (v .mark) ν) c hs gs
   unfolding fullBy numberBy stateBy nodeBy fullFor numberFor stateFor
   indexed-makes (some k) e f q =
-      both-make {v′ = v} (rw e) (rw (there (some k) e)) (slices 0 n long .ext-refl v) (rw (e, there (some k) e) (at-lent ν)) (rw (e, there (some k) e) (record { is = refl; below = nodeWith-has (v .words) (row c hs) (v .mark) k e .0 }))
+      both-make {v′ = v} (rw e) (rw (there (some k) e)) (slices 0 n long .ext-refl v) (rw (e, there (some k) e) (at-lent ν))
+      (rw (e, there (some k) e) (record { is = refl; below = nodeWith-has (v .words) (row c hs) (v .mark) k e .0 }))
   indexed-makes none e true q = both-full (rw e q) (rw (there none e, size) q)
   indexed-makes none e false q =
       let room : v .mark < n = leb-false n (v .mark) q in
       let eights = length-row c hs (o .count) in
-      let one-more : first n (made n (v .mark) (v .top) (row c hs) (v .words)) ≡ putRow (first n (v .words)) (v .mark) (row c hs) = first-made n (v .words) (row c hs) (v .mark) (v .top) (v .fits .0) (v .fits .1) room eights in
+      let one-more : first n (made n (v .mark) (v .top) (row c hs) (v .words))
+      ≡ putRow (first n (v .words)) (v .mark) (row c hs) =
+      first-made n (v .words) (row c hs) (v .mark) (v .top) (v .fits .0) (v .fits .1) room eights in
       let inside : 8 * v .mark + 8 ≤ length (first n (v .words)) = omega (arith, length-take-le (8 * n) (v .words) lent-long) in
       let v′ : Slice 0 n long = record {
         words = made n (v .mark) (v .top) (row c hs) (v .words);
@@ -301,7 +307,8 @@ module _ (n long : ℕ) {N : Type 0} (Λ : Notes N) (v : Slice 0 n long) (ν : N
       } in
       both-make {v′ = v′} (rw e q) (rw (there none e, size) q)
       (record { more = omega arith; kept = subst (Kept (first n (v .words)) (v .mark)) (sym one-more) (new-kept (first n (v .words)) (v .mark) c hs o inside) })
-      (rw (e, there none e) (subst (λ z. At 0 n long v′ (on (v′ .words) (v .mark + 1) (lending ν 0 (v .mark + 1) n)) (on z (v .mark + 1) ν)) (one-more ∙ ap (λ ks. putRow (first n (v .words)) (v .mark) (row c ks)) (list-same 0 n long l)) (at-lent ν)))
+      (rw (e, there none e) (subst (λ z. At 0 n long v′ (on (v′ .words) (v .mark + 1) (lending ν 0 (v .mark + 1) n)) (on z (v .mark + 1) ν))
+      (one-more ∙ ap (λ ks. putRow (first n (v .words)) (v .mark) (row c ks)) (list-same 0 n long l)) (at-lent ν)))
       (rw (e, there none e) (record { is = refl; below = omega arith }))
 
 makes-by : (room n long : ℕ) {N : Type 0} (Λ : Notes N) (v : Slice room n long) (ν : N) (c : ℕ) (hs gs : List ℕ) → Holdable c (length hs) → LRel (slices room n long) v hs gs
@@ -330,18 +337,24 @@ module _ (room n long : ℕ) {N : Type 0} (Λ : Notes N) where
       con : {v : Slice room n long} {s : State (Lending N)} {s′ : State N} {h g : ℕ} → At room n long v s s′ → Same room n long v h g → constructorOf (s .words) h ≡ constructorOf (s′ .words) g
       con {v} {h = h} (at-lent ν) r = sym (own-word room (v .words) (v .mark) (v .top) n (v .fits) h 0 (r .below) (omega arith)) ∙ ap (constructorOf (ownWords room n (v .words))) (r .is)
 
-      kids : {v : Slice room n long} {s : State (Lending N)} {s′ : State N} {h g : ℕ} → At room n long v s s′ → Same room n long v h g → LRel (slices room n long) v (children (s .words) h) (children (s′ .words) g)
+      kids : {v : Slice room n long} {s : State (Lending N)} {s′ : State N} {h g : ℕ} → At room n long v s s′ → Same room n long v h g
+          → LRel (slices room n long) v (children (s .words) h) (children (s′ .words) g)
       kids {v} {h = h} {g = g} (at-lent ν) r =
           subst (λ l. LRel (slices room n long) v l (children (ownWords room n (v .words)) g)) (own-children room (v .words) (v .mark) (v .top) n (v .fits) h (r .below))
-          (subst (LRel (slices room n long) v (children (ownWords room n (v .words)) h)) (ap (children (ownWords room n (v .words))) (r .is)) (same-list room n long v (children-below (v .filled .node h (r .below))) (omega (arith, r .below))))
+          (subst (LRel (slices room n long) v (children (ownWords room n (v .words)) h))
+          (ap (children (ownWords room n (v .words))) (r .is))
+          (same-list room n long v (children-below (v .filled .node h (r .below))) (omega (arith, r .below))))
 
-      holds : {v : Slice room n long} {s : State (Lending N)} {s′ : State N} {h g : ℕ} → At room n long v s s′ → Same room n long v h g → Holdable (constructorOf (s .words) h) (length (children (s .words) h))
+      holds : {v : Slice room n long} {s : State (Lending N)} {s′ : State N} {h g : ℕ} → At room n long v s s′ → Same room n long v h g
+          → Holdable (constructorOf (s .words) h) (length (children (s .words) h))
       holds {v} {h = h} (at-lent ν) r = record {
         constructor = subst (λ c. c ≤ 65535) (own-word room (v .words) (v .mark) (v .top) n (v .fits) h 0 (r .below) (omega arith)) (v .filled .node h (r .below) .holdable .constructor);
         count = simp length-take (omega arith);
       }
 
-      makes : {v : Slice room n long} {s : State (Lending N)} {s′ : State N} (c : ℕ) (hs gs : List ℕ) → At room n long v s s′ → Holdable c (length hs) → LRel (slices room n long) v hs gs → Makes (slices room n long) (lent Λ) (beneath room Λ) ⊥ ⊥ (At room n long) v s s′ c hs gs
+      makes : {v : Slice room n long} {s : State (Lending N)} {s′ : State N} (c : ℕ) (hs gs : List ℕ) → At room n long v s s′
+          → Holdable c (length hs) → LRel (slices room n long) v hs gs
+          → Makes (slices room n long) (lent Λ) (beneath room Λ) ⊥ ⊥ (At room n long) v s s′ c hs gs
       makes {v} c hs gs (at-lent ν) o l = makes-by room n long Λ v ν c hs gs o l
 
       leaves : {v : Slice room n long} {s : State (Lending N)} {s′ : State N} → At room n long v s s′ → Over room n long v (rest (s .words) (s .notes)) (rest (s′ .words) (s′ .notes))
@@ -354,20 +367,31 @@ module _ (room n long : ℕ) {N : Type 0} (Λ : Notes N) where
           lower zero w m m′ t (h, b, s) l = (h, omega arith, s)
           lower (suc r) w m m′ t (e, b, s) l = (e, omega arith, s)
 
-      backs : {v : Slice room n long} {s : State (Lending N)} {s′ : State N} {l : Left (Lending N)} {l′ : Left N} → At room n long v s s′ → Over room n long v l l′ → (v′ : Slice room n long) × Later room n long v v′ × At room n long v′ (on (l .words) (s .mark) (l .notes)) (on (l′ .words) (s′ .mark) (l′ .notes))
+      backs : {v : Slice room n long} {s : State (Lending N)} {s′ : State N} {l : Left (Lending N)} {l′ : Left N} → At room n long v s s′
+          → Over room n long v l l′ → (v′ : Slice room n long) × Later room n long v v′
+          × At room n long v′ (on (l .words) (s .mark) (l .notes)) (on (l′ .words) (s′ .mark) (l′ .notes))
       backs {v} (at-lent ν) (over-lent {w = w} {t = t} ν′ f y k) = (backed room n long v w t f y k, record { more = omega arith; kept = k }, at-lent ν′)
 
       misses : {v : Slice room n long} {s : State (Lending N)} {s′ : State N} (p : ℕ) → At room n long v s s′ → At room n long v (lent Λ .missed p s) (beneath room Λ .missed p s′)
       misses p (at-lent ν) = at-lent (Λ .missed p ν)
 
-      begins : {v : Slice room n long} {s : State (Lending N)} {s′ : State N} {q q′ : Visit ℕ} → QRel (slices room n long) v q q′ → At room n long v s s′ → At room n long v (lent Λ .begins q s) (beneath room Λ .begins q′ s′)
-      begins {v} {q = q} r (at-lent ν) = subst (λ w. At room n long v (on (v .words) (v .mark) (lending (Λ .begins (what q) ν) room (v .top) n)) (on (ownWords room n (v .words)) (v .mark) (Λ .begins w ν))) (same-what room n long r) (at-lent _)
+      begins : {v : Slice room n long} {s : State (Lending N)} {s′ : State N} {q q′ : Visit ℕ} → QRel (slices room n long) v q q′
+          → At room n long v s s′ → At room n long v (lent Λ .begins q s) (beneath room Λ .begins q′ s′)
+      begins {v} {q = q} r (at-lent ν) =
+          subst (λ w. At room n long v (on (v .words) (v .mark) (lending (Λ .begins (what q) ν) room (v .top) n))
+          (on (ownWords room n (v .words)) (v .mark) (Λ .begins w ν))) (same-what room n long r) (at-lent _)
 
-      ends : {v v′ : Slice room n long} {s : State (Lending N)} {s′ : State N} {q q′ : Visit ℕ} → QRel (slices room n long) v q q′ → At room n long v′ s s′ → At room n long v′ (lent Λ .ends q s) (beneath room Λ .ends q′ s′)
-      ends {v′ = v} {q = q} r (at-lent ν) = subst (λ w. At room n long v (on (v .words) (v .mark) (lending (Λ .ends (what q) true ν) room (v .top) n)) (on (ownWords room n (v .words)) (v .mark) (Λ .ends w true ν))) (same-what room n long r) (at-lent _)
+      ends : {v v′ : Slice room n long} {s : State (Lending N)} {s′ : State N} {q q′ : Visit ℕ} → QRel (slices room n long) v q q′
+          → At room n long v′ s s′ → At room n long v′ (lent Λ .ends q s) (beneath room Λ .ends q′ s′)
+      ends {v′ = v} {q = q} r (at-lent ν) =
+          subst (λ w. At room n long v (on (v .words) (v .mark) (lending (Λ .ends (what q) true ν) room (v .top) n))
+          (on (ownWords room n (v .words)) (v .mark) (Λ .ends w true ν))) (same-what room n long r) (at-lent _)
 
-      fails : {v : Slice room n long} {l : Left (Lending N)} {l′ : Left N} {q q′ : Visit ℕ} → QRel (slices room n long) v q q′ → Over room n long v l l′ → Over room n long v (lent Λ .fails q l) (beneath room Λ .fails q′ l′)
-      fails {v} {q = q} r (over-lent {w = w} {t = t} ν f y k) = subst (λ x. Over room n long v (rest w (lending (Λ .ends (what q) false ν) room t n)) (rest (ownWords room n w) (Λ .ends x false ν))) (same-what room n long r) (over-lent _ f y k)
+      fails : {v : Slice room n long} {l : Left (Lending N)} {l′ : Left N} {q q′ : Visit ℕ} → QRel (slices room n long) v q q′
+          → Over room n long v l l′ → Over room n long v (lent Λ .fails q l) (beneath room Λ .fails q′ l′)
+      fails {v} {q = q} r (over-lent {w = w} {t = t} ν f y k) =
+          subst (λ x. Over room n long v (rest w (lending (Λ .ends (what q) false ν) room t n))
+          (rest (ownWords room n w) (Λ .ends x false ν))) (same-what room n long r) (over-lent _ f y k)
 
   -- ---- what ends alike
 
@@ -436,11 +460,13 @@ module _ {N : Type 0} (Λ : Notes N) (T : Table) (makeable : Makeable Holdable T
   lent-ends q r d ν u = simulates (over-own room n (length w) Λ) T makeable d start q q _ _ u r (at-lent ν)
 
   -- what it leaves: of an entry applied, and of a pattern built
-  pub apply-left : (e d : ℕ) (ν : N) (u : ℕ) → Leaves w m (run (lent Λ) (does T) d (apply e k b) (on w m (lending ν room t n)) u) × Fitting m (run (lent Λ) (does T) d (apply e k b) (on w m (lending ν room t n)) u)
+  pub apply-left : (e d : ℕ) (ν : N) (u : ℕ) → Leaves w m (run (lent Λ) (does T) d (apply e k b) (on w m (lending ν room t n)) u)
+      × Fitting m (run (lent Λ) (does T) d (apply e k b) (on w m (lending ν room t n)) u)
   unfolding start
   apply-left e d ν u = left-sound room n (length w) Λ (lent-ends (apply e k b) (q-apply (record { is = refl; below = below }) bound-same) d ν u)
 
-  pub build-left : (p d : ℕ) (ν : N) (u : ℕ) → Leaves w m (run (lent Λ) (does T) d (build p k b) (on w m (lending ν room t n)) u) × Fitting m (run (lent Λ) (does T) d (build p k b) (on w m (lending ν room t n)) u)
+  pub build-left : (p d : ℕ) (ν : N) (u : ℕ) → Leaves w m (run (lent Λ) (does T) d (build p k b) (on w m (lending ν room t n)) u)
+      × Fitting m (run (lent Λ) (does T) d (build p k b) (on w m (lending ν room t n)) u)
   unfolding start
   build-left p d ν u = left-sound room n (length w) Λ (lent-ends (build p k b) (q-build (record { is = refl; below = below }) bound-same) d ν u)
 
@@ -449,7 +475,8 @@ module _ {N : Type 0} (Λ : Notes N) (T : Table) (makeable : Makeable Holdable T
   apply-same-room e d ν u = room-same room n (length w) Λ (lent-ends (apply e k b) (q-apply (record { is = refl; below = below }) bound-same) d ν u)
 
   -- over the store's own words it is the run beneath
-  own-ran : (e d : ℕ) (ν : N) (u : ℕ) → ownRan room n (run (lent Λ) (does T) d (apply e k b) (on w m (lending ν room t n)) u) ≡ run (beneath room Λ) (does T) d (apply e k b) (on (ownWords room n w) m ν) u
+  own-ran : (e d : ℕ) (ν : N) (u : ℕ) → ownRan room n (run (lent Λ) (does T) d (apply e k b) (on w m (lending ν room t n)) u)
+      ≡ run (beneath room Λ) (does T) d (apply e k b) (on (ownWords room n w) m ν) u
   unfolding start
   own-ran e d ν u = own-same room n (length w) Λ (lent-ends (apply e k b) (q-apply (record { is = refl; below = below }) bound-same) d ν u)
 

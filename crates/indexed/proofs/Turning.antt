@@ -70,14 +70,16 @@ first-accepted {c = c} γ s n = accepted-single ours γ s (getD (c .subjects) 0 
         not-zero zero n = absurd (n refl)
         not-zero (suc x) n = omega arith
 
-module _ {g : Option (List ℕ)} {c : Module} (γ : Given ours g c) (x : List ℕ) (size : 2 * rows (c .store) ≤ length x) {all n : ℕ} {w rs : List ℕ} {m t j : ℕ} (G : Turning g c x all n w rs m t j) (l : j < length (c .subjects)) where
+module _ {g : Option (List ℕ)} {c : Module} (γ : Given ours g c) (x : List ℕ) (size : 2 * rows (c .store) ≤ length x) {all n : ℕ}
+    {w rs : List ℕ} {m t j : ℕ} (G : Turning g c x all n w rs m t j) (l : j < length (c .subjects)) where
   abbrev turn : Input
   turn = single c (take (8 * n) w) m (getD (c .subjects) j 0)
 
   pub turn-accepted : Accepted turn
   turn-accepted = accepted-single ours γ (G .going .apart .stands) (getD (c .subjects) j 0) (γ .subjects j l)
 
-  module _ (code st : List ℕ) (s : ℕ) (same : table code ≡ table (c .table)) (entries : Entries code) (hints : Hinted code) (o : Opened (c .bindings) m 0 t n st) (few : c .units < 4294967296) (se : s ≡ packed (getD (c .subjects) j 0) (c .units)) where
+  module _ (code st : List ℕ) (s : ℕ) (same : table code ≡ table (c .table)) (entries : Entries code) (hints : Hinted code)
+      (o : Opened (c .bindings) m 0 t n st) (few : c .units < 4294967296) (se : s ≡ packed (getD (c .subjects) j 0) (c .units)) where
     pub turn-ready : Ready code w st (c .start) s
     turn-ready = ready turn turn-accepted code w st 0 t n s same entries hints o (G .fits) refl few se
 

@@ -76,7 +76,9 @@ module _ (g : Option (List ℕ)) (i : Input) (x : List ℕ) where
   unfolding indexedWordsRefusedBy indexFits
   words-pass e = go (leb (2 * rows (i .store)) (length x)) refl e
     where
-      go : (f : Bool) → leb (2 * rows (i .store)) (length x) ≡ f → (if f then orElse (wordsRefused g (i .table) (i .store) (i .bindings) (i .mark)) (found 21 (twin (i .store) (i .mark))) else checked 2 0) .answer ≡ 0
+      go : (f : Bool) → leb (2 * rows (i .store)) (length x) ≡ f
+          → (if f then orElse (wordsRefused g (i .table) (i .store) (i .bindings) (i .mark)) (found 21 (twin (i .store) (i .mark))) else
+          checked 2 0) .answer ≡ 0
           → (2 * rows (i .store) ≤ length x) × (wordsRefused g (i .table) (i .store) (i .bindings) (i .mark) .answer ≡ 0) × (twin (i .store) (i .mark) ≡ none)
       go true f e = let y = zero-else ours (wordsRefused g (i .table) (i .store) (i .bindings) (i .mark)) _ e in (leb-true _ _ f, y .0, found-none (twin (i .store) (i .mark)) (y .1))
       go false f e = absurd (omega arith)
@@ -94,7 +96,8 @@ module _ (g : Option (List ℕ)) (i : Input) (x : List ℕ) where
       unfolding indexedOfBy
       indexed-ran = sym (rw (eq-eqb (indexedRefused g i x .answer) 0 zero-is))
 
-      both : (indexedWordsRefusedBy ours g (i .table) (i .store) (i .bindings) (i .mark) x .answer ≡ 0) × ((if startFits (i .table) (i .bindings) (i .mark) (i .start) (i .subject) then checked 0 0 else checked 5 0) .answer ≡ 0)
+      both : (indexedWordsRefusedBy ours g (i .table) (i .store) (i .bindings) (i .mark) x .answer ≡ 0)
+          × ((if startFits (i .table) (i .bindings) (i .mark) (i .start) (i .subject) then checked 0 0 else checked 5 0) .answer ≡ 0)
       unfolding indexedRefusedBy
       both = zero-else ours (indexedWordsRefusedBy ours g (i .table) (i .store) (i .bindings) (i .mark) x) _ zero-is
 
@@ -106,7 +109,9 @@ module _ (g : Option (List ℕ)) (i : Input) (x : List ℕ) where
 
       pub accepted : Accepted i
       unfolding refusedWithBy
-      accepted = accepted-with ours g i (eq-eqb (refusedWith g (i .table) (i .store) (i .bindings) (i .mark) (i .start) (i .subject) .answer) 0 (rw (eq-eqb (wordsRefused g (i .table) (i .store) (i .bindings) (i .mark) .answer) 0 (words-pass (both .0) .1)) (both .1))) .1
+      accepted =
+          accepted-with ours g i (eq-eqb (refusedWith g (i .table) (i .store) (i .bindings) (i .mark) (i .start) (i .subject) .answer) 0
+          (rw (eq-eqb (wordsRefused g (i .table) (i .store) (i .bindings) (i .mark) .answer) 0 (words-pass (both .0) .1)) (both .1))) .1
 
 -- ---- one slice
 
@@ -227,7 +232,9 @@ module _ (i : Input) (w : List ℕ) (k own n : ℕ) (a : Accepted i) (store : i 
       at-own = ke ∙ ap (min k) (sym length-end)
 
       pub store-end : take k (clearedFrom w₃ (8 * m)) ≡ clearedFrom (take (8 * n) w₃) (8 * m)
-      store-end = sym (take-min k (clearedFrom w₃ (8 * m))) ∙ ap (λ j. take j (clearedFrom w₃ (8 * m))) (sym at-own) ∙ take-cleared w₃ (8 * m) own below within ∙ ap (λ j. clearedFrom (take j w₃) (8 * m)) own-eights
+      store-end =
+          sym (take-min k (clearedFrom w₃ (8 * m))) ∙ ap (λ j. take j (clearedFrom w₃ (8 * m))) (sym at-own)
+          ∙ take-cleared w₃ (8 * m) own below within ∙ ap (λ j. clearedFrom (take j w₃) (8 * m)) own-eights
 
       pub index-end : drop k (clearedFrom w₃ (8 * m)) ≡ replicate (length (drop k w)) 0
       index-end =

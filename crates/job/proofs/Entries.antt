@@ -82,7 +82,8 @@ module _ (k a next : ℕ) (got : Numbers) where
 
   -- The line.
   pub entry-made : (o : Option (List ℕ)) → got ≡ numbersHeld o → got .count ≤ 6 → k ≤ 255 → eqb k 16 || leb a oneWord ≡ true
-      → made (got .count + 2) (k ∷ (a % 4294967296) ∷ getD (got .at) 0 0 ∷ getD (got .at) 1 0 ∷ getD (got .at) 2 0 ∷ getD (got .at) 3 0 ∷ getD (got .at) 4 0 ∷ getD (got .at) 5 0 ∷ []) (a / 4294967296) next ≡ held o
+      → made (got .count + 2) (k ∷ (a % 4294967296) ∷ getD (got .at) 0 0 ∷ getD (got .at) 1 0 ∷ getD (got .at) 2 0 ∷ getD (got .at) 3 0
+      ∷ getD (got .at) 4 0 ∷ getD (got .at) 5 0 ∷ []) (a / 4294967296) next ≡ held o
   unfolding eight
   entry-made none e l m p = let c : got .count ≡ 9 = ap (λ (n : Numbers). n .count) e in absurd (omega arith)
   entry-made (some vs) e l m p =

@@ -97,7 +97,8 @@ fields-text k fs vs e = go (eqb k 1) refl e
         let t = numbers-text 8 fs vs e in
         (ap (joinedAfter 9) (t .0) ∙ joinedAfter-numbers vs, other i (t .1))
 
-line-made : (f : List ℕ) (fs : List (List ℕ)) (vs : List ℕ) → f ≡ nameText (nameOf f) → joinedAfter 9 fs ≡ fieldsText (nameOf f) vs → f ++ joinedAfter 9 fs ≡ lineText (record { name = nameOf f; numbers = vs })
+line-made : (f : List ℕ) (fs : List (List ℕ)) (vs : List ℕ) → f ≡ nameText (nameOf f) → joinedAfter 9 fs ≡ fieldsText (nameOf f) vs
+    → f ++ joinedAfter 9 fs ≡ lineText (record { name = nameOf f; numbers = vs })
 unfolding lineText
 line-made f fs vs n e = ap (λ (r : List ℕ). f ++ r) e ∙ ap (λ (a : List ℕ). a ++ fieldsText (nameOf f) vs) n
 

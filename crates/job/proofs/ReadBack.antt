@@ -84,7 +84,16 @@ take-row w k l =
     take-add (8 * k) 8 w
     ∙ ap (λ (r : List ℕ). take (8 * k) w ++ r)
     (first-eight (drop (8 * k) w) (rw (length-drop (8 * k) w) (omega arith))
-    ∙ rw (getD-drop (8 * k) w 0 0, getD-drop (8 * k) w 1 0, getD-drop (8 * k) w 2 0, getD-drop (8 * k) w 3 0, getD-drop (8 * k) w 4 0, getD-drop (8 * k) w 5 0, getD-drop (8 * k) w 6 0, getD-drop (8 * k) w 7 0))
+    ∙ rw (
+      getD-drop (8 * k) w 0 0,
+      getD-drop (8 * k) w 1 0,
+      getD-drop (8 * k) w 2 0,
+      getD-drop (8 * k) w 3 0,
+      getD-drop (8 * k) w 4 0,
+      getD-drop (8 * k) w 5 0,
+      getD-drop (8 * k) w 6 0,
+      getD-drop (8 * k) w 7 0,
+    ))
 
 within-take : (n : ℕ) {vs : List ℕ} → Within vs → Within (take n vs)
 within-take zero w = empty
@@ -262,7 +271,9 @@ bound-next g b v xs n m l t = go (eqb (getD b v 0) 0) refl
       after = taken (t .after) (record { name = 3; numbers = v ∷ (getD b v 0 - 1) ∷ [] });
       follow =
           follow-more (record { name = 3; numbers = v ∷ (getD b v 0 - 1) ∷ [] } ∷ []) (t .follow)
-          (next (binding-fits v (getD b v 0 - 1) l (omega (arith, m))) (other refl (limited (omega arith) (limited (omega (arith, m)) empty))) (binding-admitted (t .after) v (t .begun) (t .variable)) end);
+          (next (binding-fits v (getD b v 0 - 1) l (omega (arith, m)))
+          (other refl (limited (omega arith) (limited (omega (arith, m)) empty)))
+          (binding-admitted (t .after) v (t .begun) (t .variable)) end);
       begun = omega arith;
       variable = omega arith;
       nodes = t .nodes;
@@ -270,7 +281,8 @@ bound-next g b v xs n m l t = go (eqb (getD b v 0) 0) refl
       bindings = ap (λ (c : List ℕ). set c v (getD b v 0 - 1 + 1)) (t .bindings) ∙ bound-more b v n l (eqb-false (getD b v 0) 0 i);
     }
 
-bindings-read : (g : Reading) (b : List ℕ) → 1 ≤ g .heading .section → g .heading .variable ≡ 0 → g .bindings ≡ zeros variables → length b ≡ variables → ((v : ℕ) → getD b v 0 ≤ 131072) → (v : ℕ) → v ≤ variables → Bound g b v (bindingLines b v)
+bindings-read : (g : Reading) (b : List ℕ) → 1 ≤ g .heading .section → g .heading .variable ≡ 0 → g .bindings ≡ zeros variables → length b
+    ≡ variables → ((v : ℕ) → getD b v 0 ≤ 131072) → (v : ℕ) → v ≤ variables → Bound g b v (bindingLines b v)
 unfolding bindingLines zeros
 bindings-read g b p q r n m zero h = record { after = g; follow = end; begun = p; variable = omega (arith, q); nodes = refl; store = refl; bindings = r }
 bindings-read g b p q r n m (suc v) h = bound-next g b v (bindingLines b v) n (m v) (omega arith) (bindings-read g b p q r n m v (omega arith))

@@ -16,8 +16,10 @@ use Rattle.words.proofs.Tests.{and-true, below-or-from}
 use Rattle.words.specs.Words.{clearedFrom}
 use Rattle.text.specs.Text.{parts, upTo, numbersOf, eight}
 use Rattle.text.specs.Lines.{lineEnd}
-use Rattle.job.specs.Lines.{Line, nameOf, jobFits, entryFits, nodeFits, bindingFits, fits, lineFrom, fieldNumbers, lineOfFields, lineOf, words, upper, entryRow, nodeRow, noLine, lineHeld, takenAt}
-use Rattle.job.specs.Job.{Reading, admitted, headed, tableWith, storeWith, bindingsWith, with, taken, accepted, Meant, bad, good, orBad, ended, readLines, Holds, blank, zeros, meant, parsedOf, tableOf, storeOf, bindingsOf}
+use Rattle.job.specs.Lines.{Line, nameOf, jobFits, entryFits, nodeFits, bindingFits, fits, lineFrom, fieldNumbers, lineOfFields}
+use Rattle.job.specs.Lines.{lineOf, words, upper, entryRow, nodeRow, noLine, lineHeld, takenAt}
+use Rattle.job.specs.Job.{Reading, admitted, headed, tableWith, storeWith, bindingsWith, with, taken, accepted, Meant, bad, good}
+use Rattle.job.specs.Job.{orBad, ended, readLines, Holds, blank, zeros, meant, parsedOf, tableOf, storeOf, bindingsOf}
 use Rattle.job.specs.declared.Parsed.the-variants as told
 use Rattle.job.specs.declared.Parsed.{Parsed}
 use Rattle.job.specs.declared.Heading.{Heading}
@@ -163,7 +165,14 @@ module _ (s : List ℕ) (at : ℕ) where
         → orBad n (accepted g o) (λ g′. readLines g′ (n + 1) (m ∷ ls)) ≡ goesOn g n (lineHeld o (e + 1)) s
     one none no m ls p = refl
     one (some x) (yes y f) m ls p =
-        rw (fits-name (x .name) (length (x .numbers)) (x .numbers) f, getD-eight (words (x .name) (x .numbers)) 0, first-word (x .name) (x .numbers), with-eight g (x .name) (length (x .numbers)) (words (x .name) (x .numbers)) (upper (x .name) (x .numbers)), p)
+        rw (
+          fits-name (x .name) (length (x .numbers)) (x .numbers) f,
+          getD-eight (words (x .name) (x .numbers)) 0,
+          first-word (x .name)
+              (x .numbers),
+          with-eight g (x .name) (length (x .numbers)) (words (x .name) (x .numbers)) (upper (x .name) (x .numbers)),
+          p,
+        )
         (go (admitted (g .heading) (x .name) (getD (x .numbers) 0 0)))
       where
         go : (b : Bool)

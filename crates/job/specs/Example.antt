@@ -57,70 +57,86 @@ job-written = refl
 
 -- its numbers, the rows of its entries and the rows of its nodes
 job-numbers : parsedOf (meant jobText) ≡ told.Read (record { section = 2; entries = 8; nodes = 3; variable = 0; units = 10; start = 0; subject = 2; room = 4 })
-unfolding meant readLines parts lineOf nameOf letterOf entryNumbers numbersOf numberOf valued fits jobFits entryFits nodeFits bindingFits admitted with headed tableWith storeWith bindingsWith entryRow nodeRow putRow zeros
+unfolding meant readLines parts lineOf nameOf letterOf entryNumbers numbersOf numberOf valued fits jobFits entryFits nodeFits bindingFits
+    admitted with headed tableWith storeWith bindingsWith entryRow nodeRow putRow zeros
 job-numbers = refl
 
-job-entries : take 72 (tableOf (meant jobText)) ≡ 257 ∷ 3 ∷ 0 ∷ 1 ∷ 0 ∷ 0 ∷ 0 ∷ 0 ∷ 66 ∷ 0 ∷ 2 ∷ 3 ∷ 0 ∷ 0 ∷ 0 ∷ 0 ∷ 225 ∷ 0 ∷ 4 ∷ 0 ∷ 0 ∷ 0 ∷ 0 ∷ 0 ∷ 241 ∷ 0 ∷ 5 ∷ 0 ∷ 0 ∷ 0 ∷ 0 ∷ 0 ∷ 306 ∷ 5 ∷ 6 ∷ 7 ∷ 0 ∷ 0 ∷ 0 ∷ 0 ∷ 306 ∷ 5 ∷ 7 ∷ 6 ∷ 0 ∷ 0 ∷ 0 ∷ 0 ∷ 288 ∷ 0 ∷ 0 ∷ 0 ∷ 0 ∷ 0 ∷ 0 ∷ 0 ∷ 288 ∷ 1 ∷ 0 ∷ 0 ∷ 0 ∷ 0 ∷ 0 ∷ 0 ∷ 0 ∷ 0 ∷ 0 ∷ 0 ∷ 0 ∷ 0 ∷ 0 ∷ 0 ∷ []
-unfolding meant readLines parts lineOf nameOf letterOf entryNumbers numbersOf numberOf valued fits jobFits entryFits nodeFits bindingFits admitted with headed tableWith storeWith bindingsWith entryRow nodeRow putRow zeros
+job-entries : take 72 (tableOf (meant jobText)) ≡ 257 ∷ 3 ∷ 0 ∷ 1 ∷ 0 ∷ 0 ∷ 0 ∷ 0 ∷ 66 ∷ 0 ∷ 2 ∷ 3 ∷ 0 ∷ 0 ∷ 0 ∷ 0 ∷ 225 ∷ 0 ∷ 4 ∷ 0 ∷ 0 ∷ 0
+    ∷ 0 ∷ 0 ∷ 241 ∷ 0 ∷ 5 ∷ 0 ∷ 0 ∷ 0 ∷ 0 ∷ 0 ∷ 306 ∷ 5 ∷ 6 ∷ 7 ∷ 0 ∷ 0 ∷ 0 ∷ 0 ∷ 306 ∷ 5 ∷ 7 ∷ 6 ∷ 0 ∷ 0 ∷ 0 ∷ 0 ∷ 288 ∷ 0 ∷ 0 ∷ 0 ∷ 0 ∷ 0
+    ∷ 0 ∷ 0 ∷ 288 ∷ 1 ∷ 0 ∷ 0 ∷ 0 ∷ 0 ∷ 0 ∷ 0 ∷ 0 ∷ 0 ∷ 0 ∷ 0 ∷ 0 ∷ 0 ∷ 0 ∷ 0 ∷ []
+unfolding meant readLines parts lineOf nameOf letterOf entryNumbers numbersOf numberOf valued fits jobFits entryFits nodeFits bindingFits
+    admitted with headed tableWith storeWith bindingsWith entryRow nodeRow putRow zeros
 job-entries = refl
 
 job-nodes : take 32 (storeOf (meant jobText)) ≡ 1 ∷ 0 ∷ 0 ∷ 0 ∷ 0 ∷ 0 ∷ 0 ∷ 0 ∷ 2 ∷ 0 ∷ 0 ∷ 0 ∷ 0 ∷ 0 ∷ 0 ∷ 0 ∷ 5 ∷ 2 ∷ 0 ∷ 1 ∷ 0 ∷ 0 ∷ 0 ∷ 0 ∷ 0 ∷ 0 ∷ 0 ∷ 0 ∷ 0 ∷ 0 ∷ 0 ∷ 0 ∷ []
-unfolding meant readLines parts lineOf nameOf letterOf entryNumbers numbersOf numberOf valued fits jobFits entryFits nodeFits bindingFits admitted with headed tableWith storeWith bindingsWith entryRow nodeRow putRow zeros
+unfolding meant readLines parts lineOf nameOf letterOf entryNumbers numbersOf numberOf valued fits jobFits entryFits nodeFits bindingFits
+    admitted with headed tableWith storeWith bindingsWith entryRow nodeRow putRow zeros
 job-nodes = refl
 
 -- no text at all: line 1
 empty-text : meant ([]) ≡ bad 1
-unfolding meant readLines parts lineOf nameOf letterOf entryNumbers numbersOf numberOf valued fits jobFits entryFits nodeFits bindingFits admitted with headed tableWith storeWith bindingsWith entryRow nodeRow putRow zeros
+unfolding meant readLines parts lineOf nameOf letterOf entryNumbers numbersOf numberOf valued fits jobFits entryFits nodeFits bindingFits
+    admitted with headed tableWith storeWith bindingsWith entryRow nodeRow putRow zeros
 empty-text = refl
 
 -- a leading zero
 leading-zero : meant (106 ∷ 111 ∷ 98 ∷ 9 ∷ 48 ∷ 49 ∷ 48 ∷ 9 ∷ 48 ∷ 9 ∷ 48 ∷ 9 ∷ 52 ∷ 10 ∷ []) ≡ bad 1
-unfolding meant readLines parts lineOf nameOf letterOf entryNumbers numbersOf numberOf valued fits jobFits entryFits nodeFits bindingFits admitted with headed tableWith storeWith bindingsWith entryRow nodeRow putRow zeros
+unfolding meant readLines parts lineOf nameOf letterOf entryNumbers numbersOf numberOf valued fits jobFits entryFits nodeFits bindingFits
+    admitted with headed tableWith storeWith bindingsWith entryRow nodeRow putRow zeros
 leading-zero = refl
 
 -- two tabs
 two-tabs : meant (106 ∷ 111 ∷ 98 ∷ 9 ∷ 49 ∷ 9 ∷ 9 ∷ 48 ∷ 9 ∷ 48 ∷ 9 ∷ 52 ∷ 10 ∷ []) ≡ bad 1
-unfolding meant readLines parts lineOf nameOf letterOf entryNumbers numbersOf numberOf valued fits jobFits entryFits nodeFits bindingFits admitted with headed tableWith storeWith bindingsWith entryRow nodeRow putRow zeros
+unfolding meant readLines parts lineOf nameOf letterOf entryNumbers numbersOf numberOf valued fits jobFits entryFits nodeFits bindingFits
+    admitted with headed tableWith storeWith bindingsWith entryRow nodeRow putRow zeros
 two-tabs = refl
 
 -- a last line without its line feed
 no-line-feed : meant (106 ∷ 111 ∷ 98 ∷ 9 ∷ 49 ∷ 9 ∷ 48 ∷ 9 ∷ 48 ∷ 9 ∷ 52 ∷ 10 ∷ 110 ∷ 9 ∷ 49 ∷ []) ≡ bad 2
-unfolding meant readLines parts lineOf nameOf letterOf entryNumbers numbersOf numberOf valued fits jobFits entryFits nodeFits bindingFits admitted with headed tableWith storeWith bindingsWith entryRow nodeRow putRow zeros
+unfolding meant readLines parts lineOf nameOf letterOf entryNumbers numbersOf numberOf valued fits jobFits entryFits nodeFits bindingFits
+    admitted with headed tableWith storeWith bindingsWith entryRow nodeRow putRow zeros
 no-line-feed = refl
 
 -- a blank line
 blank-line : meant (106 ∷ 111 ∷ 98 ∷ 9 ∷ 49 ∷ 9 ∷ 48 ∷ 9 ∷ 48 ∷ 9 ∷ 52 ∷ 10 ∷ 10 ∷ []) ≡ bad 2
-unfolding meant readLines parts lineOf nameOf letterOf entryNumbers numbersOf numberOf valued fits jobFits entryFits nodeFits bindingFits admitted with headed tableWith storeWith bindingsWith entryRow nodeRow putRow zeros
+unfolding meant readLines parts lineOf nameOf letterOf entryNumbers numbersOf numberOf valued fits jobFits entryFits nodeFits bindingFits
+    admitted with headed tableWith storeWith bindingsWith entryRow nodeRow putRow zeros
 blank-line = refl
 
 -- a carriage return
 carriage-return : meant (106 ∷ 111 ∷ 98 ∷ 9 ∷ 49 ∷ 9 ∷ 48 ∷ 9 ∷ 48 ∷ 9 ∷ 52 ∷ 13 ∷ 10 ∷ []) ≡ bad 1
-unfolding meant readLines parts lineOf nameOf letterOf entryNumbers numbersOf numberOf valued fits jobFits entryFits nodeFits bindingFits admitted with headed tableWith storeWith bindingsWith entryRow nodeRow putRow zeros
+unfolding meant readLines parts lineOf nameOf letterOf entryNumbers numbersOf numberOf valued fits jobFits entryFits nodeFits bindingFits
+    admitted with headed tableWith storeWith bindingsWith entryRow nodeRow putRow zeros
 carriage-return = refl
 
 -- a room of 1,025
 room-over : meant (106 ∷ 111 ∷ 98 ∷ 9 ∷ 49 ∷ 9 ∷ 48 ∷ 9 ∷ 48 ∷ 9 ∷ 49 ∷ 48 ∷ 50 ∷ 53 ∷ 10 ∷ []) ≡ bad 1
-unfolding meant readLines parts lineOf nameOf letterOf entryNumbers numbersOf numberOf valued fits jobFits entryFits nodeFits bindingFits admitted with headed tableWith storeWith bindingsWith entryRow nodeRow putRow zeros
+unfolding meant readLines parts lineOf nameOf letterOf entryNumbers numbersOf numberOf valued fits jobFits entryFits nodeFits bindingFits
+    admitted with headed tableWith storeWith bindingsWith entryRow nodeRow putRow zeros
 room-over = refl
 
 -- 4,294,967,296
 number-over : meant (106 ∷ 111 ∷ 98 ∷ 9 ∷ 52 ∷ 50 ∷ 57 ∷ 52 ∷ 57 ∷ 54 ∷ 55 ∷ 50 ∷ 57 ∷ 54 ∷ 9 ∷ 48 ∷ 9 ∷ 48 ∷ 9 ∷ 52 ∷ 10 ∷ []) ≡ bad 1
-unfolding meant readLines parts lineOf nameOf letterOf entryNumbers numbersOf numberOf valued fits jobFits entryFits nodeFits bindingFits admitted with headed tableWith storeWith bindingsWith entryRow nodeRow putRow zeros
+unfolding meant readLines parts lineOf nameOf letterOf entryNumbers numbersOf numberOf valued fits jobFits entryFits nodeFits bindingFits
+    admitted with headed tableWith storeWith bindingsWith entryRow nodeRow putRow zeros
 number-over = refl
 
 -- an e line after an n line
 order-broken : meant (106 ∷ 111 ∷ 98 ∷ 9 ∷ 49 ∷ 9 ∷ 48 ∷ 9 ∷ 48 ∷ 9 ∷ 52 ∷ 10 ∷ 110 ∷ 9 ∷ 49 ∷ 10 ∷ 101 ∷ 9 ∷ 48 ∷ 9 ∷ 48 ∷ 10 ∷ []) ≡ bad 3
-unfolding meant readLines parts lineOf nameOf letterOf entryNumbers numbersOf numberOf valued fits jobFits entryFits nodeFits bindingFits admitted with headed tableWith storeWith bindingsWith entryRow nodeRow putRow zeros
+unfolding meant readLines parts lineOf nameOf letterOf entryNumbers numbersOf numberOf valued fits jobFits entryFits nodeFits bindingFits
+    admitted with headed tableWith storeWith bindingsWith entryRow nodeRow putRow zeros
 order-broken = refl
 
 -- variables that do not rise
 not-rising : meant (106 ∷ 111 ∷ 98 ∷ 9 ∷ 49 ∷ 9 ∷ 48 ∷ 9 ∷ 48 ∷ 9 ∷ 52 ∷ 10 ∷ 98 ∷ 9 ∷ 51 ∷ 9 ∷ 48 ∷ 10 ∷ 98 ∷ 9 ∷ 51 ∷ 9 ∷ 49 ∷ 10 ∷ []) ≡ bad 3
-unfolding meant readLines parts lineOf nameOf letterOf entryNumbers numbersOf numberOf valued fits jobFits entryFits nodeFits bindingFits admitted with headed tableWith storeWith bindingsWith entryRow nodeRow putRow zeros
+unfolding meant readLines parts lineOf nameOf letterOf entryNumbers numbersOf numberOf valued fits jobFits entryFits nodeFits bindingFits
+    admitted with headed tableWith storeWith bindingsWith entryRow nodeRow putRow zeros
 not-rising = refl
 
 -- a seventh child
 eighth-number : meant (106 ∷ 111 ∷ 98 ∷ 9 ∷ 49 ∷ 9 ∷ 48 ∷ 9 ∷ 48 ∷ 9 ∷ 52 ∷ 10 ∷ 110 ∷ 9 ∷ 49 ∷ 9 ∷ 48 ∷ 9 ∷ 48 ∷ 9 ∷ 48 ∷ 9 ∷ 48 ∷ 9 ∷ 48 ∷ 9 ∷ 48 ∷ 9 ∷ 48 ∷ 10 ∷ []) ≡ bad 2
-unfolding meant readLines parts lineOf nameOf letterOf entryNumbers numbersOf numberOf valued fits jobFits entryFits nodeFits bindingFits admitted with headed tableWith storeWith bindingsWith entryRow nodeRow putRow zeros
+unfolding meant readLines parts lineOf nameOf letterOf entryNumbers numbersOf numberOf valued fits jobFits entryFits nodeFits bindingFits
+    admitted with headed tableWith storeWith bindingsWith entryRow nodeRow putRow zeros
 eighth-number = refl
 
 -- document 01's answer to its job: the store's four nodes, and nothing bound

@@ -25,7 +25,8 @@ use Rattle.meaning.specs.Derivation.{history, nowhere}
 use Rattle.meaning.specs.Table as tables
 use Rattle.meaning.specs.Table.{table, tableBy, byKind, operands, six, PVAR, PCON}
 use Rattle.meaning.specs.Plan.{Keep, keep, drop as give, Plan, ret, fail, miss, stuck, look, make, ask}
-use Rattle.meaning.specs.Rules.{Visit, apply, match, build, compare, Do, does, strategy, matching, building, comparing, variable, needed, when, whenAt, given, walk, again, oneOf, someOf, zip, nth, put}
+use Rattle.meaning.specs.Rules.{Visit, apply, match, build, compare, Do, does, strategy, matching, building, comparing, variable, needed}
+use Rattle.meaning.specs.Rules.{when, whenAt, given, walk, again, oneOf, someOf, zip, nth, put}
 use Rattle.meaning.specs.Limits.{Limit, Res, ended, lost, cut, Store, closed}
 use Rattle.meaning.specs.Steps.{Frame as Level, Next, over, next, roomy, advance, onto, settle, enter, one, steps, start}
 use Rattle.meaning.specs.Store.{Input, Accepted, bindings, deepest, on}

@@ -293,7 +293,8 @@ module _ (sh : Bool) (t w k : List ℕ) (i : ℕ) (m : Machine) (r : Turn) (lent
       → Carried sh t w k i m r m′ w k′
   unfolding acts
   carried-unscoped {m′} {kept} {mask} {k′} l e small z g c d =
-      let f : Copied k (8 * (10 * i + 2)) recordFrom (bitAnd (maskAt k (10 * i)) (r .mask)) k′ = subst (λ (n : ℕ). Copied k (8 * (10 * i + 2)) recordFrom n k′) (g ∙ ap (λ (n : ℕ). bitAnd n (r .mask)) z) c in
+      let f : Copied k (8 * (10 * i + 2)) recordFrom (bitAnd (maskAt k (10 * i)) (r .mask)) k′ = subst
+      (λ (n : ℕ). Copied k (8 * (10 * i + 2)) recordFrom n k′) (g ∙ ap (λ (n : ℕ). bitAnd n (r .mask)) z) c in
       let kind : keptBy k m i ≡ keptAt k (10 * i) = ap (λ c. if c then keptAt k (10 * i) else present k m) (lt-ltb i 4095 l) in
       carried-ret (omega arith) e (ap (λ b. ret (r .y) (masked (r .mask) b (present k m))) kind) d (c .long) (λ j h. c .other j (inl h))
       (ap (λ (n : ℕ). heldAt k′ recordFrom (bitOr (bitAnd (m .mask) (18446744073709551615 - r .mask)) n))

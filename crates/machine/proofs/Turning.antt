@@ -89,7 +89,10 @@ keeps-is t (suc (suc (suc (suc (suc (suc (suc (suc (suc (suc (suc (suc (suc (suc
 keeps-is t (suc (suc (suc (suc (suc (suc (suc (suc (suc (suc (suc (suc (suc (suc (suc zero))))))))))))))) x y i r o b = refl
 keeps-is t (suc (suc (suc (suc (suc (suc (suc (suc (suc (suc (suc (suc (suc (suc (suc (suc zero)))))))))))))))) x y i r o b = refl
 keeps-is t (suc (suc (suc (suc (suc (suc (suc (suc (suc (suc (suc (suc (suc (suc (suc (suc (suc k))))))))))))))))) x y i r o b =
-    let n : eqb (suc (suc (suc (suc (suc (suc (suc (suc (suc (suc (suc (suc (suc (suc (suc (suc (suc k))))))))))))))))) 4 ≡ false = ne-eqb (suc (suc (suc (suc (suc (suc (suc (suc (suc (suc (suc (suc (suc (suc (suc (suc (suc k))))))))))))))))) 4 (λ (e : suc (suc (suc (suc (suc (suc (suc (suc (suc (suc (suc (suc (suc (suc (suc (suc (suc k)))))))))))))))) ≡ 4). omega arith) in
+    let n : eqb (suc (suc (suc (suc (suc (suc (suc (suc (suc (suc (suc (suc (suc (suc (suc (suc (suc k))))))))))))))))) 4
+    ≡ false =
+    ne-eqb (suc (suc (suc (suc (suc (suc (suc (suc (suc (suc (suc (suc (suc (suc (suc (suc (suc k))))))))))))))))) 4
+    (λ (e : suc (suc (suc (suc (suc (suc (suc (suc (suc (suc (suc (suc (suc (suc (suc (suc (suc k)))))))))))))))) ≡ 4). omega arith) in
     rw n refl
 
 -- a plan that gives a state back, told from the others
@@ -241,7 +244,8 @@ module _ (k k₁ : List ℕ) (i : ℕ) (m : Machine) (b : Kept) (few : i < 4095)
         with-row l =
             let n : eqb (wordAt k (10 * i) 0) 4 ≡ false = ne-eqb (wordAt k (10 * i) 0) 4 (λ (z : wordAt k (10 * i) 0 ≡ 4). omega arith) in
             let at : wordAt k₁ (10 * i) 3 ≡ wordAt k (10 * i) 3 = ap (λ r. getD r 3 0) head-same in
-            let put : rowAt k₁ (10 * i + 1) ≡ set (rowAt k (10 * i + 1)) (2 + wordAt k₁ (10 * i) 3 % 8) (m .y) = o .filled e (omega arith) ∙ ap (λ (j : ℕ). set (rowAt k (10 * i + 1)) (2 + j % 8) (m .y)) (sym at) in
+            let put : rowAt k₁ (10 * i + 1) ≡ set (rowAt k (10 * i + 1)) (2 + wordAt k₁ (10 * i) 3 % 8) (m .y) = o .filled e (omega arith)
+            ∙ ap (λ (j : ℕ). set (rowAt k (10 * i + 1)) (2 + j % 8) (m .y)) (sym at) in
             let r : Walks t (frameAt k (10 * i)) (m .y) a = subst (λ f. Walks t f (m .y) a)
             (λ z. record {
               what = getD (head-same z) 0 0;

@@ -32,7 +32,8 @@ use Rattle.meaning.specs.Above.{inStore, SameBelow, same-ended, same-los
 use Rattle.meaning.proofs.Tests.{impossible}
 use Rattle.meaning.proofs.Alike.{Holdable, Makeable, Worlds, ORel, o-none, o-some, LRel, l-nil, l-cons, BRel, QRel, q-apply, q-match, q-build, q-compare}
 use Rattle.meaning.proofs.Checked.{Filled, good-of-node, store-filled, inside, table-makeable}
-use Rattle.meaning.proofs.Words.{kept-refl, kept-trans, kept-word, kept-children, kept-filled, Below, below-none, below-more, children-below, length-row, new-kept, new-filled, new-constructor, new-count}
+use Rattle.meaning.proofs.Words.{kept-refl, kept-trans, kept-word, kept-children, kept-filled, Below, below-none, below-more}
+use Rattle.meaning.proofs.Words.{children-below, length-row, new-kept, new-filled, new-constructor, new-count}
 use Rattle.meaning.proofs.Simulates.{Makes, both-make, both-full, Simulation, Ends, e-ended, e-lost, e-cut, e-room, simulates}
 
 pub kept-sym : {w w′ : List ℕ} {m : ℕ} → Kept w m w′ → Kept w′ m w
@@ -158,7 +159,17 @@ module _ (Had : ℕ → ℕ → Type 0) (held : (c n : ℕ) → Had c n → Hold
   }
 
   abbrev backed : (v : Pair) (w w′ : List ℕ) → Kept (v .words) (v .mark) w → Kept (v .words′) (v .mark) w′ → Pair
-  backed v w w′ k k′ = record { words = w; words′ = w′; mark = v .mark; filled = kept-filled k (v .filled); each = kept-each k (v .each); own = F .own-kept k (v .own); same = kept-trans (omega arith) (kept-sym k) (kept-trans (omega arith) (v .same) k′) }
+  backed v w w′ k k′ =
+      record {
+        words = w;
+        words′ = w′;
+        mark = v .mark;
+        filled = kept-filled k (v .filled);
+        each = kept-each k (v .each);
+        own =
+            F .own-kept k (v .own);
+        same = kept-trans (omega arith) (kept-sym k) (kept-trans (omega arith) (v .same) k′);
+      }
 
   module _ {N : Type 0} (Λ : Notes N) where
     data At (v : Pair) : State N → State N → Type 0 where
@@ -213,14 +224,17 @@ module _ (Had : ℕ → ℕ → Type 0) (held : (c n : ℕ) → Had c n → Hold
             go : (f : Option ℕ) → F .node (v .words) (row c hs) (v .mark) ≡ f → (t : Bool) → leb (rows (v .words)) (v .mark) ≡ t
                 → Makes pairs (finding F Λ) (finding F Λ) ⊥ ⊥ At v (on (v .words) (v .mark) ν) (on (v .words′) (v .mark) ν) c hs gs
             go (some k) f t e =
-                both-make {v′ = v} (rw f) (rw (there (some k) f)) (pairs .ext-refl v) (rw (f, there (some k) f) (at-both ν)) (rw (f, there (some k) f) (record { is = refl; below = F .below (v .words) (row c hs) (v .mark) k f }))
+                both-make {v′ = v} (rw f) (rw (there (some k) f)) (pairs .ext-refl v) (rw (f, there (some k) f) (at-both ν))
+                (rw (f, there (some k) f) (record { is = refl; below = F .below (v .words) (row c hs) (v .mark) k f }))
             go none f true e = both-full (rw f e) (rw (there none f) (again true e))
             go none f false e =
                 let fits : 8 * v .mark + 8 ≤ length (v .words) = omega (arith, leb-false (rows (v .words)) (v .mark) e) in
                 let fits′ : 8 * v .mark + 8 ≤ length (v .words′) = omega (arith, v .same .long) in
                 both-make {v′ = grown v c hs o (list-below l) fits f} (rw f e) (rw (there none f) (again false e))
                 (record { more = omega arith; kept = new-kept (v .words) (v .mark) c hs (held c (length hs) o) fits; kept′ = new-kept (v .words′) (v .mark) c hs (held c (length hs) o) fits′ })
-                (rw (f, there none f) (subst (λ ks. At (grown v c hs o (list-below l) fits f) (on (putRow (v .words) (v .mark) (row c hs)) (v .mark + 1) ν) (on (putRow (v .words′) (v .mark) (row c ks)) (v .mark + 1) ν)) (list-same l) (at-both ν)))
+                (rw (f, there none f) (subst (λ ks. At (grown v c hs o (list-below l) fits f)
+                (on (putRow (v .words) (v .mark) (row c hs)) (v .mark + 1) ν)
+                (on (putRow (v .words′) (v .mark) (row c ks)) (v .mark + 1) ν)) (list-same l) (at-both ν)))
                 (rw (f, there none f) (record { is = refl; below = omega arith }))
 
         leaves : {v : Pair} {s s′ : State N} → At v s s′ → Over v (rest (s .words) (s .notes)) (rest (s′ .words) (s′ .notes))
@@ -266,7 +280,9 @@ module _ (Had : ℕ → ℕ → Type 0) (held : (c n : ℕ) → Had c n → Hold
     -- so is what they own
     own-left : {v : Pair} {r r′ : Ran N} → Ends below-mark v r r′ → (k u : ℕ) (b : Bindings ℕ) (s : State N) → r ≡ ended k b s u → Filled (s .words) (s .mark) × F .Own (s .words) (s .mark)
     unfolding below-mark
-    own-left (e-ended {v′ = v} e (at-both ν) n s) k u b t q = let z : on (v .words) (v .mark) ν ≡ t = cc in subst (λ (t : State N). Filled (t .words) (t .mark) × F .Own (t .words) (t .mark)) z (v .filled, v .own)
+    own-left (e-ended {v′ = v} e (at-both ν) n s) k u b t q =
+        let z : on (v .words) (v .mark) ν ≡ t = cc in subst (λ (t : State N). Filled (t .words) (t .mark) × F .Own (t .words) (t .mark)) z
+        (v .filled, v .own)
     own-left (e-lost o) k u b t q = impossible (cc)
     own-left (e-cut o) k u b t q = impossible (cc)
 
@@ -286,7 +302,13 @@ module _ (Had : ℕ → ℕ → Type 0) (held : (c n : ℕ) → Had c n → Hold
     both : (W : ℕ) (i : Input) (w : List ℕ) (ν : N) → AcceptedBy W i → Makeable Had (tableBy W (i .table)) → Each (i .store) (i .mark) → F .Own (i .store) (i .mark) → (k : Kept (i .store) (i .mark) w)
         → (v : Pair) × (v .words ≡ i .store) × (v .mark ≡ i .mark) × Ends below-mark v (foundBy W F Λ ν i) (foundBy W F Λ ν (inStore i w))
     unfolding bindings named below-mark
-    both W i w ν a mk f y k = (start, refl, refl, simulates below-mark (tableBy W (i .table)) mk deepest start _ _ _ _ (i .units) (q-apply (record { is = refl; below = a .subject }) bound) (at-both ν))
+    both W i w ν a mk f y k = (
+      start,
+      refl,
+      refl,
+      simulates below-mark (tableBy W (i .table)) mk deepest start _ _ _ _ (i .units)
+          (q-apply (record { is = refl; below = a .subject }) bound) (at-both ν),
+    )
       where
         start : Pair
         start = record { words = i .store; words′ = w; mark = i .mark; filled = store-filled (i .store) (i .mark) (a .store); each = f; own = y; same = k }
@@ -311,10 +333,14 @@ module _ (F : Finding) {N : Type 0} (Λ : Notes N) (W : ℕ) (i : Input) (w : Li
 
   pub found-leaves : Leaves (i .store) (i .mark) (foundBy W F Λ ν i)
   found-leaves =
-      subst (λ w. Leaves w (i .mark) (foundBy W F Λ ν i)) (beside-itself .1) (subst (λ m. Leaves (beside-itself .0 .words) m (foundBy W F Λ ν i)) (beside-itself .2) (left-sound Holdable (λ c n o. o) F Λ (beside-itself .3)))
+      subst (λ w. Leaves w (i .mark) (foundBy W F Λ ν i)) (beside-itself .1)
+      (subst (λ m. Leaves (beside-itself .0 .words) m (foundBy W F Λ ν i)) (beside-itself .2)
+      (left-sound Holdable (λ c n o. o) F Λ (beside-itself .3)))
 
 pub above-mark : Above-mark
-above-mark W N Λ ν i w a k = subst (λ r. SameBelow r (ranBy W Λ ν (inStore i w))) (is-plain W Λ ν i) (subst (SameBelow (foundBy W plain Λ ν i)) (is-plain W Λ ν (inStore i w)) (found-above plain Λ W i w ν a tt k))
+above-mark W N Λ ν i w a k =
+    subst (λ r. SameBelow r (ranBy W Λ ν (inStore i w))) (is-plain W Λ ν i)
+    (subst (SameBelow (foundBy W plain Λ ν i)) (is-plain W Λ ν (inStore i w)) (found-above plain Λ W i w ν a tt k))
 
 -- ---- a signature
 

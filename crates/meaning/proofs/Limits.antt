@@ -12,10 +12,13 @@ use Rattle.meaning.specs.Term.{Term}
 use Rattle.meaning.specs.Table.{Table}
 use Rattle.meaning.specs.Plan.{Keep, keep, drop, Plan, ret, fail, miss, stuck, look, make, ask}
 use Rattle.meaning.specs.Rules.{Visit, Do, does}
-use Rattle.meaning.specs.Derivation.{Out, done, failed, What, what, Fate, stays, goes, fails, in-flight, fate, Trace, over, missed, node, visit, staying, visits, depth, left, most, Notes, shut, noted, Values, terms, Der, d-ret, d-fail, d-miss, d-look, d-make, d-yes, d-no, trace as traceDer}
+use Rattle.meaning.specs.Derivation.{Out, done, failed, What, what, Fate, stays, goes, fails, in-flight, fate, Trace, over, missed}
+use Rattle.meaning.specs.Derivation.{node, visit, staying, visits, depth, left, most, Notes, shut, noted, Values, terms, Der, d-ret}
+use Rattle.meaning.specs.Derivation.{d-fail, d-miss, d-look, d-make, d-yes, d-no, trace as traceDer}
 use Rattle.meaning.specs.Limits.{Limit, units, room, nesting as nested, unbound, Res, ended, lost, cut, Counted, at, counting, roomFor, settled, after, closed, runPlan, run}
 use Rattle.meaning.specs.System.{Env, _⊢_⇒_, trace as traceOf}
-use Rattle.meaning.specs.Beginning.{Stop, before-visit, before-node, at-unbound, Begun, b-visit, b-node, b-unbound, b-look, b-make, b-in, b-yes, b-no, trace as traceBegun, level as levelBegun, Given, Fits, stop, Met}
+use Rattle.meaning.specs.Beginning.{Stop, before-visit, before-node, at-unbound, Begun, b-visit, b-node, b-unbound, b-look, b-make}
+use Rattle.meaning.specs.Beginning.{b-in, b-yes, b-no, trace as traceBegun, level as levelBegun, Given, Fits, stop, Met}
 use Rattle.meaning.specs.Demands.{Rules-agree, whole as wholeOf, Says, Demand-2-values}
 
 -- ---- what a trace counts
@@ -200,7 +203,8 @@ module _ {H B Q : Type 0} (W : Values H Q) (R : Q → Plan H B Q) {N : Type 0} (
   -- of a visit
   abbrev RightVisit : ℕ → Q → ℕ → N → ℕ → Answer N H B → Type 0
   RightVisit n q m ν u (ended h b s u′) =
-      (d : Goes W R (R q) (out (done h b))) × Fits (given size n m u) (whole (W .name q) stays (trace d)) u′ × (s .mark ≡ m + left (trace d)) × (s .notes ≡ noted Λ (whole (W .name q) stays (trace d)) ν)
+      (d : Goes W R (R q) (out (done h b))) × Fits (given size n m u) (whole (W .name q) stays (trace d)) u′
+      × (s .mark ≡ m + left (trace d)) × (s .notes ≡ noted Λ (whole (W .name q) stays (trace d)) ν)
   RightVisit n q m ν u (lost l u′) = (d : Goes W R (R q) (out failed)) × Fits (given size n m u) (whole (W .name q) fails (trace d)) u′ × (l ≡ noted Λ (whole (W .name q) fails (trace d)) ν)
   RightVisit n q m ν u (cut c l u′) = (t : Keep) (k : H → B → Plan H B Q) (p : Plan H B Q) → Right n (ask t q k p) m ν u (cut c l u′)
 
@@ -235,7 +239,8 @@ module _ {H B Q : Type 0} (W : Values H Q) (R : Q → Plan H B Q) {N : Type 0} (
   unfolding noted
   noted-then w f s t ν = refl
 
-  right-yes : (n m m′ : ℕ) (ν ν′ : N) (u u′ : ℕ) (t : Keep) (q : Q) (k : H → B → Plan H B Q) (p : Plan H B Q) (h : H) (b : B) (d : Goes W R (R q) (out (done h b))) (r : Answer N H B) → m′ ≡ m + staying (fate t) (left (trace d))
+  right-yes : (n m m′ : ℕ) (ν ν′ : N) (u u′ : ℕ) (t : Keep) (q : Q) (k : H → B → Plan H B Q) (p : Plan H B Q) (h : H) (b : B)
+      (d : Goes W R (R q) (out (done h b))) (r : Answer N H B) → m′ ≡ m + staying (fate t) (left (trace d))
       → ν′ ≡ noted Λ (whole (W .name q) stays (trace d)) ν → Fits (given size n m u) (whole (W .name q) stays (trace d)) u′ → Right n (k h b) m′ ν′ u′ r → Right n (ask t q k p) m ν u r
   unfolding trace level left
   right-yes n m m′ ν ν′ u u′ t q k p h b d r e z f s = record {
@@ -255,7 +260,8 @@ module _ {H B Q : Type 0} (W : Values H Q) (R : Q → Plan H B Q) {N : Type 0} (
     notes = s .notes ∙ ap (noted Λ (trace (s .way))) z ∙ sym (noted-then (W .name q) fails (trace d) (trace (s .way)) ν);
   }
 
-  right-in : (n m : ℕ) (ν : N) (u : ℕ) (q : Q) (c : Limit) (l : N) (u′ : ℕ) → Right n (R q) m (Λ .begins (W .name q) ν) u (cut c l u′) → (t : Keep) (k : H → B → Plan H B Q) (p : Plan H B Q) → Right (suc n) (ask t q k p) m ν (suc u) (cut c l u′)
+  right-in : (n m : ℕ) (ν : N) (u : ℕ) (q : Q) (c : Limit) (l : N) (u′ : ℕ) → Right n (R q) m (Λ .begins (W .name q) ν) u (cut c l u′)
+      → (t : Keep) (k : H → B → Plan H B Q) (p : Plan H B Q) → Right (suc n) (ask t q k p) m ν (suc u) (cut c l u′)
   unfolding trace level left staying noted shut
   right-in n m ν u q c l u′ s t k p = record {
     way = g-in (s .way);
@@ -302,7 +308,9 @@ module _ {H B Q : Type 0} (W : Values H Q) (R : Q → Plan H B Q) {N : Type 0} (
   right-plan n ev ih (miss p) m ν u i = record { way = g-miss; fits = fits-missed size n m u p i; meets = tt; notes = refl }
   right-plan n ev ih (stuck v) m ν u i = record { way = g-unbound; fits = fits-over size n m u i; meets = tt; notes = refl }
   right-plan n ev ih (look h k) m ν u i = right-look n m ν u h k (runPlan (counting W Λ size) ev (k (W .con h) (W .kids h)) (at m ν) u) (right-plan n ev ih (k (W .con h) (W .kids h)) m ν u i)
-  right-plan n ev ih (make c hs k) m ν u i = right-room n m ν u c hs k (leb size m) refl (runPlan (counting W Λ size) ev (k (W .mk c hs)) (at (suc m) ν) u) i (λ j. right-plan n ev ih (k (W .mk c hs)) (suc m) ν u j)
+  right-plan n ev ih (make c hs k) m ν u i =
+      right-room n m ν u c hs k (leb size m) refl (runPlan (counting W Λ size) ev (k (W .mk c hs)) (at (suc m) ν) u) i
+      (λ j. right-plan n ev ih (k (W .mk c hs)) (suc m) ν u j)
   right-plan n ev ih (ask t q k p) m ν u i =
       right-ask n m ν u t q k p (ev q (at m ν) u) i (ih q m ν u i)
       (λ h b s′ u′. runPlan (counting W Λ size) ev (k h b) s′ u′) (λ h b s′ u′ j. right-plan n ev ih (k h b) (s′ .mark) (s′ .notes) u′ j)
@@ -315,7 +323,8 @@ module _ {H B Q : Type 0} (W : Values H Q) (R : Q → Plan H B Q) {N : Type 0} (
   right-run zero q m ν (suc u) i = λ t k p. record { way = g-visit; fits = fits-over size zero m (suc u) i; meets = (omega arith, refl); notes = refl }
   right-run (suc n) q m ν zero i = λ t k p. record { way = g-visit; fits = fits-over size (suc n) m zero i; meets = refl; notes = refl }
   right-run (suc n) q m ν (suc u) i =
-      right-out n m ν u q (runPlan (counting W Λ size) (run (counting W Λ size) R n) (R q) (at m (Λ .begins (W .name q) ν)) u) (right-plan n (run (counting W Λ size) R n) (right-run n) (R q) m (Λ .begins (W .name q) ν) u i)
+      right-out n m ν u q (runPlan (counting W Λ size) (run (counting W Λ size) R n) (R q) (at m (Λ .begins (W .name q) ν)) u)
+      (right-plan n (run (counting W Λ size) R n) (right-run n) (R q) m (Λ .begins (W .name q) ν) u i)
 
   -- ---- what is so is answered
 
@@ -356,12 +365,14 @@ module _ {H B Q : Type 0} (W : Values H Q) (R : Q → Plan H B Q) {N : Type 0} (
   unfolding after
   after-yes t m ν ν′ v x r h b f g e = rw (e, after) (ap (λ y. f h b y v) (settled-is t m ν ν′ x))
 
-  after-no : (t : Keep) (m : ℕ) (ν ν′ : N) (v : ℕ) (r : Answer N H B) (f : H → B → Counted N → ℕ → Answer N H B) (g : Counted N → ℕ → Answer N H B) → r ≡ lost ν′ v → after (counting W Λ size) t (at m ν) r f g ≡ g (at m ν′) v
+  after-no : (t : Keep) (m : ℕ) (ν ν′ : N) (v : ℕ) (r : Answer N H B) (f : H → B → Counted N → ℕ → Answer N H B)
+      (g : Counted N → ℕ → Answer N H B) → r ≡ lost ν′ v → after (counting W Λ size) t (at m ν) r f g ≡ g (at m ν′) v
   unfolding after
   after-no t m ν ν′ v r f g e = rw (e, after)
 
   -- nothing catches a cut-off
-  after-cut : (t : Keep) (m : ℕ) (ν : N) (r r′ : Answer N H B) (f : H → B → Counted N → ℕ → Answer N H B) (g : Counted N → ℕ → Answer N H B) {w : Stop} → Of r′ (stops w) → r ≡ r′ → after (counting W Λ size) t (at m ν) r f g ≡ r′
+  after-cut : (t : Keep) (m : ℕ) (ν : N) (r r′ : Answer N H B) (f : H → B → Counted N → ℕ → Answer N H B) (g : Counted N → ℕ → Answer N H B)
+      {w : Stop} → Of r′ (stops w) → r ≡ r′ → after (counting W Λ size) t (at m ν) r f g ≡ r′
   unfolding after
   after-cut t m ν r _ f g of-units e = rw (e, after)
   after-cut t m ν r _ f g of-room e = rw (e, after)
@@ -380,21 +391,29 @@ module _ {H B Q : Type 0} (W : Values H Q) (R : Q → Plan H B Q) {N : Type 0} (
   answered : (n : ℕ) {p : Plan H B Q} {e : End H B} (s : Goes W R p e) (r : Answer N H B) → Of r e → (m : ℕ) (ν : N) (u : ℕ) → Fits (given size n m u) (trace s) (rest r)
       → Meets (given size n m u) r (level s) (left (trace s)) → notesOf r ≡ noted Λ (trace s) ν → runPlan (counting W Λ size) (run (counting W Λ size) R n) p (at m ν) u ≡ r
   unfolding runPlan trace level visits depth left most staying noted shut closed fate
-  answered n (g-ret {h = h} {b = b}) (ended _ _ s′ u′) of-ended m ν u f x o = let y : m ≡ s′ .mark = omega arith in let z : u ≡ u′ = omega (arith, f .units) in λ i. ended h b (at (y i) (sym o i)) (z i)
+  answered n (g-ret {h = h} {b = b}) (ended _ _ s′ u′) of-ended m ν u f x o =
+      let y : m ≡ s′ .mark = omega arith in let z : u ≡ u′ = omega (arith, f .units) in λ i. ended h b (at (y i) (sym o i)) (z i)
   answered n g-fail (lost l u′) of-lost m ν u f x o = let z : u ≡ u′ = omega (arith, f .units) in λ i. lost (sym o i) (z i)
   answered n g-miss (lost l u′) of-lost m ν u f x o = let z : u ≡ u′ = omega (arith, f .units) in λ i. lost (sym o i) (z i)
-  answered n (g-visit {t = t} {q = q}) (cut _ l u′) of-units m ν u f x o = after-cut t m ν _ (cut units l u′) _ _ of-units (run-no-units n q m ν u (omega (arith, f .units)) ∙ (let z : 0 ≡ u′ = omega arith in λ i. cut units (sym o i) (z i)))
-  answered n (g-visit {t = t} {q = q}) (cut _ l u′) of-nesting m ν u f x o = after-cut t m ν _ (cut nested l u′) _ _ of-nesting (run-too-deep n q m ν u (omega (arith, f .units)) (omega arith) ∙ (let z : u ≡ u′ = omega (arith, f .units) in λ i. cut nested (sym o i) (z i)))
+  answered n (g-visit {t = t} {q = q}) (cut _ l u′) of-units m ν u f x o =
+      after-cut t m ν _ (cut units l u′) _ _ of-units (run-no-units n q m ν u (omega (arith, f .units))
+      ∙ (let z : 0 ≡ u′ = omega arith in λ i. cut units (sym o i) (z i)))
+  answered n (g-visit {t = t} {q = q}) (cut _ l u′) of-nesting m ν u f x o =
+      after-cut t m ν _ (cut nested l u′) _ _ of-nesting
+      (run-too-deep n q m ν u (omega (arith, f .units)) (omega arith)
+      ∙ (let z : u ≡ u′ = omega (arith, f .units) in λ i. cut nested (sym o i) (z i)))
   answered n g-node (cut _ l u′) of-room m ν u f x o = no-room m ν u _ (omega arith) ∙ (let z : u ≡ u′ = omega (arith, f .units) in λ i. cut room (sym o i) (z i))
   answered n (g-unbound {v = v}) (cut _ l u′) of-unbound m ν u f x o = let z : u ≡ u′ = omega (arith, f .units) in λ i. cut (unbound v) (sym o i) (z i)
   answered n (g-look s) r a m ν u f x o = answered n s r a m ν u f x o
   answered n (g-make s) r a m ν u f x o =
       room-left m ν u _ (omega (arith, f .room))
-      ∙ answered n s r a (suc m) ν u (record { units = f .units; room = omega (arith, f .room); nesting = f .nesting }) (meets-shift size n m (suc m) u u (level s) (suc (left (trace s))) (left (trace s)) r (omega arith) x) o
+      ∙ answered n s r a (suc m) ν u (record { units = f .units; room = omega (arith, f .room); nesting = f .nesting })
+      (meets-shift size n m (suc m) u u (level s) (suc (left (trace s))) (left (trace s)) r (omega arith) x) o
   answered zero (g-in s) r a m ν u f x o = absurd (omega (arith, f .nesting))
   answered (suc n) (g-in {t = t} {q = q} s) r a m ν u f x o =
       after-cut t m ν _ r _ _ a (run-counted n q m ν u (visits (trace s) + rest r) (omega (arith, f .units))
-      ∙ ap (closed (counting W Λ size) q) (answered n s r a m (Λ .begins (W .name q) ν) (visits (trace s) + rest r) (record { units = refl; room = omega (arith, f .room); nesting = omega (arith, f .nesting) })
+      ∙ ap (closed (counting W Λ size) q) (answered n s r a m (Λ .begins (W .name q) ν) (visits (trace s) + rest r)
+      (record { units = refl; room = omega (arith, f .room); nesting = omega (arith, f .nesting) })
       (meets-in size n m (visits (trace s) + rest r) u (level s) (left (trace s)) (left (trace s) + 0) r a (omega arith) x) o)
       ∙ closed-cut q r a)
   answered zero (g-yes d s) r a m ν u f x o = absurd (omega (arith, f .nesting))
@@ -403,7 +422,8 @@ module _ {H B Q : Type 0} (W : Values H Q) (R : Q → Plan H B Q) {N : Type 0} (
       let ν₁ : N = noted Λ (trace d) (Λ .begins (W .name q) ν) in
       let ν₂ : N = Λ .ends (W .name q) true ν₁ in
       after-yes t m ν ν₂ v (left (trace d)) _ h b _ _ (run-counted n q m ν u (visits (trace d) + v) (omega (arith, f .units))
-      ∙ ap (closed (counting W Λ size) q) (answered n d (ended h b (at (m + left (trace d)) ν₁) v) of-ended m (Λ .begins (W .name q) ν) (visits (trace d) + v) (record { units = refl; room = omega (arith, f .room); nesting = omega (arith, f .nesting) }) refl refl))
+      ∙ ap (closed (counting W Λ size) q) (answered n d (ended h b (at (m + left (trace d)) ν₁) v) of-ended m (Λ .begins (W .name q) ν)
+      (visits (trace d) + v) (record { units = refl; room = omega (arith, f .room); nesting = omega (arith, f .nesting) }) refl refl))
       ∙ answered (suc n) s r a (m + staying (fate t) (left (trace d))) ν₂ v (record { units = refl; room = omega (arith, f .room); nesting = omega (arith, f .nesting) })
       (meets-shift size (suc n) m (m + staying (fate t) (left (trace d))) u v (level s) (staying (fate t) (left (trace d)) + left (trace s)) (left (trace s)) r (omega arith) x)
       (o ∙ ap (noted Λ (trace s)) (sym (noted-fate t (W .name q) (trace d) ν)))
@@ -412,7 +432,8 @@ module _ {H B Q : Type 0} (W : Values H Q) (R : Q → Plan H B Q) {N : Type 0} (
       let v : ℕ = visits (trace s) + rest r in
       let ν₁ : N = noted Λ (trace d) (Λ .begins (W .name q) ν) in
       after-no t m ν (Λ .ends (W .name q) false ν₁) v _ _ _ (run-counted n q m ν u (visits (trace d) + v) (omega (arith, f .units))
-      ∙ ap (closed (counting W Λ size) q) (answered n d (lost ν₁ v) of-lost m (Λ .begins (W .name q) ν) (visits (trace d) + v) (record { units = refl; room = omega (arith, f .room); nesting = omega (arith, f .nesting) }) tt refl))
+      ∙ ap (closed (counting W Λ size) q) (answered n d (lost ν₁ v) of-lost m (Λ .begins (W .name q) ν) (visits (trace d) + v)
+      (record { units = refl; room = omega (arith, f .room); nesting = omega (arith, f .nesting) }) tt refl))
       ∙ answered (suc n) s r a m (Λ .ends (W .name q) false ν₁) v (record { units = refl; room = omega (arith, f .room); nesting = omega (arith, f .nesting) })
       (meets-shift size (suc n) m m u v (level s) (0 + left (trace s)) (left (trace s)) r (omega arith) x) o
 
@@ -426,7 +447,8 @@ module _ {H B Q : Type 0} (W : Values H Q) (R : Q → Plan H B Q) {N : Type 0} (
       same (lost l v) = refl
       same (cut c l v) = refl
 
-  answered-visit : (n : ℕ) (q : Q) (m : ℕ) (ν : N) (u : ℕ) (r : Answer N H B) (s : Goes W R (ask keep q ret fail) (endOf r)) → Fits (given size n m u) (trace s) (rest r) → Meets (given size n m u) r (level s) (left (trace s))
+  answered-visit : (n : ℕ) (q : Q) (m : ℕ) (ν : N) (u : ℕ) (r : Answer N H B) (s : Goes W R (ask keep q ret fail) (endOf r))
+      → Fits (given size n m u) (trace s) (rest r) → Meets (given size n m u) r (level s) (left (trace s))
       → notesOf r ≡ noted Λ (trace s) ν → run (counting W Λ size) R n q (at m ν) u ≡ r
   answered-visit n q m ν u r s f x o = sym (asked-alone n q m ν u) ∙ answered n s r (of-end r) m ν u f x o
 
@@ -470,7 +492,9 @@ module _ (agree : Rules-agree) (T : Table) where
   goes-of-begun (b-look b) = let s = goes-of-begun b in (g-look (s .0), s .1, s .2)
   goes-of-begun (b-make b) = let s = goes-of-begun b in (g-make (s .0), ap node (s .1), s .2)
   goes-of-begun (b-in {q = q} b) = let s = goes-of-begun b in (g-in (s .0), (λ i. visit (what q) in-flight (s .1 i) over), ap suc (s .2))
-  goes-of-begun (b-yes {t = t} {q = q} {h = h} {b = c} r b) = let d = goes-of-rule q (done h c) r in let s = goes-of-begun b in (g-yes (d .0) (s .0), (λ i. visit (what q) (fate t) (d .1 i) (s .1 i)), s .2)
+  goes-of-begun (b-yes {t = t} {q = q} {h = h} {b = c} r b) =
+      let d = goes-of-rule q (done h c) r in let s = goes-of-begun b in
+      (g-yes (d .0) (s .0), (λ i. visit (what q) (fate t) (d .1 i) (s .1 i)), s .2)
   goes-of-begun (b-no {q = q} r b) = let d = goes-of-rule q failed r in let s = goes-of-begun b in (g-no (d .0) (s .0), (λ i. visit (what q) fails (d .1 i) (s .1 i)), s .2)
 
   begun-of-goes : {p : Do Term} {w : Stop} (s : Goes terms (does T) p (stops w)) → (b : Begun T p w) × (traceBegun b ≡ trace s) × (levelBegun b ≡ level s)
@@ -481,15 +505,22 @@ module _ (agree : Rules-agree) (T : Table) where
   begun-of-goes (g-look s) = let b = begun-of-goes s in (b-look (b .0), b .1, b .2)
   begun-of-goes (g-make s) = let b = begun-of-goes s in (b-make (b .0), ap node (b .1), b .2)
   begun-of-goes (g-in {q = q} s) = let b = begun-of-goes s in (b-in (b .0), (λ i. visit (what q) in-flight (b .1 i) over), ap suc (b .2))
-  begun-of-goes (g-yes {t = t} {q = q} {h = h} {b = c} d s) = let r = rule-of-goes q (done h c) d in let b = begun-of-goes s in (b-yes (r .0) (b .0), (λ i. visit (what q) (fate t) (r .1 i) (b .1 i)), b .2)
+  begun-of-goes (g-yes {t = t} {q = q} {h = h} {b = c} d s) =
+      let r = rule-of-goes q (done h c) d in let b = begun-of-goes s in
+      (b-yes (r .0) (b .0), (λ i. visit (what q) (fate t) (r .1 i) (b .1 i)), b .2)
   begun-of-goes (g-no {q = q} d s) = let r = rule-of-goes q failed d in let b = begun-of-goes s in (b-no (r .0) (b .0), (λ i. visit (what q) fails (r .1 i) (b .1 i)), b .2)
 
   module _ {N : Type 0} (Λ : Notes N) (ν : N) (g : Given) (q : Visit Term) where
     says : (r : Answer N Term Env) → RightVisit terms (does T) Λ (g .size) (g .nesting) q (g .mark) ν (g .units) r → Says Λ ν T g q r
     unfolding left staying
     says (ended t b m u) (d, f, e, o) =
-        let r = rule-of-goes q (done t b) d in
-        (r .0, subst (λ x. Fits g (wholeOf q stays x) u) (sym (r .1)) f, subst (λ x. m .mark ≡ g .mark + (left x + 0)) (sym (r .1)) (omega arith), subst (λ x. m .notes ≡ noted Λ (wholeOf q stays x) ν) (sym (r .1)) o)
+        let r = rule-of-goes q (done t b) d in (
+          r .0,
+          subst (λ x. Fits g (wholeOf q stays x) u) (sym (r .1)) f,
+          subst (λ x. m .mark ≡ g .mark + (left x + 0)) (sym (r .1))
+              (omega arith),
+          subst (λ x. m .notes ≡ noted Λ (wholeOf q stays x) ν) (sym (r .1)) o,
+        )
     says (lost l u) (d, f, o) = let r = rule-of-goes q failed d in (r .0, subst (λ x. Fits g (wholeOf q fails x) u) (sym (r .1)) f, subst (λ x. l ≡ noted Λ (wholeOf q fails x) ν) (sym (r .1)) o)
     says (cut c l u) s =
         let z = s keep ret fail in
@@ -504,7 +535,8 @@ module _ (agree : Rules-agree) (T : Table) where
         (subst (λ x. Fits g (wholeOf q stays x) u) (sym (d .1)) f) (subst (λ x. m .mark ≡ g .mark + (left x + 0)) (sym (d .1)) e) (subst (λ x. m .notes ≡ noted Λ (wholeOf q stays x) ν) (sym (d .1)) o)
     said (lost l u) (r, f, o) =
         let d = goes-of-rule q failed r in
-        answered-visit terms (does T) Λ (g .size) (g .nesting) q (g .mark) ν (g .units) (lost l u) (g-no (d .0) g-fail) (subst (λ x. Fits g (wholeOf q fails x) u) (sym (d .1)) f) tt (subst (λ x. l ≡ noted Λ (wholeOf q fails x) ν) (sym (d .1)) o)
+        answered-visit terms (does T) Λ (g .size) (g .nesting) q (g .mark) ν (g .units) (lost l u) (g-no (d .0) g-fail)
+        (subst (λ x. Fits g (wholeOf q fails x) u) (sym (d .1)) f) tt (subst (λ x. l ≡ noted Λ (wholeOf q fails x) ν) (sym (d .1)) o)
     said (cut c l u) (b, f, x, o) =
         let s = goes-of-begun b in
         answered-visit terms (does T) Λ (g .size) (g .nesting) q (g .mark) ν (g .units) (cut c l u) (s .0)
@@ -512,5 +544,8 @@ module _ (agree : Rules-agree) (T : Table) where
 
 -- Demand 2, terms as values.
 pub demand-2-values : Rules-agree → Demand-2-values
-demand-2-values agree N Λ ν T g q r i =
-    ((λ e. says agree T Λ ν g q r (subst (λ r. RightVisit terms (does T) Λ (g .size) (g .nesting) q (g .mark) ν (g .units) r) e (right-run terms (does T) Λ (g .size) (g .nesting) q (g .mark) ν (g .units) i))), said agree T Λ ν g q r)
+demand-2-values agree N Λ ν T g q r i = (
+  (λ e. says agree T Λ ν g q r (subst (λ r. RightVisit terms (does T) Λ (g .size) (g .nesting) q (g .mark) ν (g .units) r) e
+      (right-run terms (does T) Λ (g .size) (g .nesting) q (g .mark) ν (g .units) i))),
+  said agree T Λ ν g q r,
+)

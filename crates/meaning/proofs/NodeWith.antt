@@ -62,7 +62,9 @@ nodeWith-next w r (suc k) h = let e : suc k - 1 ≡ k = omega arith in rw e refl
 
 -- eight words that are one by one the same
 pub eight-same : (w w′ : List ℕ) (k : ℕ) → ((j : ℕ) → j < 8 → wordAt w k j ≡ wordAt w′ k j) → eight w k ≡ eight w′ k
-eight-same w w′ k o = λ z. o 0 (omega arith) z ∷ o 1 (omega arith) z ∷ o 2 (omega arith) z ∷ o 3 (omega arith) z ∷ o 4 (omega arith) z ∷ o 5 (omega arith) z ∷ o 6 (omega arith) z ∷ o 7 (omega arith) z ∷ []
+eight-same w w′ k o =
+    λ z. o 0 (omega arith) z ∷ o 1 (omega arith) z ∷ o 2 (omega arith) z ∷ o 3 (omega arith) z ∷ o 4 (omega arith) z ∷ o 5 (omega arith) z
+    ∷ o 6 (omega arith) z ∷ o 7 (omega arith) z ∷ []
 
 -- it is told by the nodes below the mark
 pub nodeWith-same : (w w′ r : List ℕ) (m : ℕ) → ((k : ℕ) → k < m → eight w′ k ≡ eight w k) → nodeWith w′ r m ≡ nodeWith w r m

@@ -37,7 +37,10 @@ eight-row w k n = λ i. constructorOf w k ∷ sym count i ∷ rest i
     word (suc (suc (suc (suc (suc (suc i)))))) h = absurd (omega arith)
 
     rest : six w k ≡ children w k ++ replicate (6 - length (children w k)) 0
-    rest = ext-getD 0 (six w k) (children w k ++ replicate (6 - length (children w k)) 0) (sym (simp (length-append, length-replicate) (omega (arith, count, n .holdable .count)))) (λ i h. ⊎-elim (used i) (unused i h) (below-or-from i (childCount w k)))
+    rest =
+        ext-getD 0 (six w k) (children w k ++ replicate (6 - length (children w k)) 0)
+        (sym (simp (length-append, length-replicate) (omega (arith, count, n .holdable .count))))
+        (λ i h. ⊎-elim (used i) (unused i h) (below-or-from i (childCount w k)))
       where
         used : (i : ℕ) → i < childCount w k → getD (six w k) i 0 ≡ getD (children w k ++ replicate (6 - length (children w k)) 0) i 0
         used i l = sym (List·getD-append (children w k) (replicate (6 - length (children w k)) 0) 0 i (omega (arith, count)) ∙ getD-take (childCount w k) (six w k) i 0 l)
@@ -70,7 +73,8 @@ module _ {w : List ℕ} {m : ℕ} (f : Filled w m) (d : Distinct w m) where
       let t : mk (constructorOf w j) (map (term w) (children w j)) ≡ mk (constructorOf w k) (map (term w) (children w k)) = sym (term-node f j h) ∙ e ∙ term-node f k l in
       let c : constructorOf w j ≡ constructorOf w k = sym (con-mk _ _) ∙ ap con t ∙ con-mk _ _ in
       let ts : map (term w) (children w j) ≡ map (term w) (children w k) = sym (kids-mk _ _) ∙ ap kids t ∙ kids-mk _ _ in
-      let hs : children w j ≡ children w k = same-numbers (children-below (f .node j h)) (children-below (f .node k l)) (λ x y p q z. below-bound b x y (omega arith) (omega arith) (omega arith) z) ts in
+      let hs : children w j ≡ children w k = same-numbers (children-below (f .node j h)) (children-below (f .node k l))
+      (λ x y p q z. below-bound b x y (omega arith) (omega arith) (omega arith) z) ts in
       one-node j k h l (eight-row w j (f .node j h) ∙ (λ i. row (c i) (hs i)) ∙ sym (eight-row w k (f .node k l)))
 
   pub equal-numbers : (j k : ℕ) → j < m → k < m → term w j ≡ term w k → j ≡ k

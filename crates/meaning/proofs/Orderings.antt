@@ -12,7 +12,9 @@ use Rattle.meaning.specs.Rules.{apply, strategy, does}
 use Rattle.meaning.specs.Derivation.{Out, done, failed, Trace, terms, Der}
 use Rattle.meaning.specs.System.{Env, _∶_is_, _⊢_⇒_, id-done, seq-then, seq-failed}
 use Rattle.meaning.specs.Demands.{Either-order, Demand-3}
-use Rattle.meaning.specs.Orderings.{Site, Every, every-none, every-more, Outside, Separate, separate-none, separate-more, Stands, Alone, Reordered, none-left, first-stays, first-two, one-by-one, InOrder, order-none, order-last, order-more, EveryOrder, Demand-3-all, Orders-agree}
+use Rattle.meaning.specs.Orderings.{Site, Every, every-none, every-more, Outside, Separate, separate-none, separate-more, Stands}
+use Rattle.meaning.specs.Orderings.{Alone, Reordered, none-left, first-stays, first-two, one-by-one, InOrder, order-none, order-last}
+use Rattle.meaning.specs.Orderings.{order-more, EveryOrder, Demand-3-all, Orders-agree}
 use Rattle.meaning.proofs.Tests.{impossible}
 use Rattle.meaning.proofs.Deterministic.{done-failed, deterministic}
 use Rattle.meaning.proofs.Inversion.{Asked, on-success, on-failure, ret-inv, fail-inv, ask-inv}

@@ -10,8 +10,11 @@ use native.Mathlib.Omega.{arith}
 use Rattle.meaning.specs.Term.{Term, con, kids, mk}
 use Rattle.meaning.specs.Table.{Strategy, ID, FAIL, TEST, NOT, SEQ, CHOICE, LEFT, REC, CALL, PATH, CONG, ALL, ONE, SOME, MATCH, BUILD, SCOPE, WHERE, Pattern, PVAR, PCON, Table}
 use Rattle.meaning.specs.Plan.{Keep, keep, drop, ret, fail, miss, stuck, look, make, ask}
-use Rattle.meaning.specs.Rules.{Visit, apply, match, build, compare, Do, nth, put, zip, agree, when, given, again, walk, oneOf, someOf, strategy, variable, whenAt, matching, needed, building, comparing, does}
-use Rattle.meaning.specs.Derivation.{Out, done, failed, What, entry, pattern, pair, what, Fate, stays, goes, fails, fate, Trace, over, missed, node, visit, terms, Der, d-ret, d-fail, d-miss, d-look, d-make, d-yes, d-no, trace as traceDer}
+use Rattle.meaning.specs.Rules.{Visit, apply, match, build, compare, Do, nth, put, zip, agree, when, given, again, walk, oneOf}
+use Rattle.meaning.specs.Rules.{someOf, strategy, variable, whenAt, matching, needed, building, comparing, does}
+use Rattle.meaning.specs.Derivation.{Out, done, failed, What, entry, pattern, pair, what, Fate, stays, goes, fails, fate, Trace}
+use Rattle.meaning.specs.Derivation.{over, missed, node, visit, terms, Der, d-ret, d-fail, d-miss, d-look, d-make, d-yes, d-no}
+use Rattle.meaning.specs.Derivation.{trace as traceDer}
 use Rattle.meaning.specs.System
 use Rattle.meaning.specs.System.{Env, Task, Agree, renewed, _∶_is_, _∶_reads_, _⊢_⇒_, Each, Stopped, First, AllFail, Tried, ending, last, renewing, trace, each, stopped, first, allFail, tried}
 use Rattle.meaning.specs.Demands.{Rules-agree}
@@ -95,7 +98,8 @@ module _ (T : Table) where
     planned (System.left-second {o = o} e r r′) = rw e (ask-no (planned r) (last-runs o (planned r′)))
     planned (System.rec-body {o = o} e r) = rw e (last-runs o (planned r))
     planned (System.call-rec {o = o} e r) = rw e (last-runs o (planned r))
-    planned (System.path-done {i = i} {t = t} {g = g} {g′ = g′} {b′ = b′} e n r q) = rw e (look-ends (rw n (ask-yes (planned r) (rw q (again-makes t (put (kids t) i g′) b′ (put-nonempty (kids t) i g g′ n))))))
+    planned (System.path-done {i = i} {t = t} {g = g} {g′ = g′} {b′ = b′} e n r q) =
+        rw e (look-ends (rw n (ask-yes (planned r) (rw q (again-makes t (put (kids t) i g′) b′ (put-nonempty (kids t) i g g′ n))))))
     planned (System.path-failed e n r) = rw e (look-ends (rw n (ask-no (planned r) fail-ends)))
     planned (System.path-none e n) = rw e (look-ends (rw n fail-ends))
     planned (System.cong-done {t = t} {ts = ts} {b′ = b′} e a rs q) = rw e (look-ends (rw (agree-yes, q) (each-planned rs [] (again t (con t)) (again-runs t ts b′))))
@@ -126,7 +130,8 @@ module _ (T : Table) where
     planned (System.compare-other n) = look-ends (look-ends (rw agree-no fail-ends))
 
     -- where the visits all succeed the walk goes on to what follows them
-    each-planned : {qs : List Task} {b b′ : Env} {ts : List Term} {o : Out Term Env} {n : Trace} (rs : Each T qs b ts b′) (gs : List Term) (k : List Term → Env → Do Term) → Runs (k (gs ++ ts) b′) o n → Runs (walk qs gs b k) o (each rs n)
+    each-planned : {qs : List Task} {b b′ : Env} {ts : List Term} {o : Out Term Env} {n : Trace} (rs : Each T qs b ts b′) (gs : List Term)
+        (k : List Term → Env → Do Term) → Runs (k (gs ++ ts) b′) o n → Runs (walk qs gs b k) o (each rs n)
     each-planned System.each-none gs k z = rw append-nil at z
     each-planned (System.each-more r rs) gs k z = ask-yes (planned r) (each-planned rs _ k (rw append-assoc z))
 
@@ -136,7 +141,8 @@ module _ (T : Table) where
     stopped-planned (System.stopped-later r rs) gs k = ask-yes (planned r) (stopped-planned rs _ k)
 
     -- ONE makes the term anew with the leftmost child that succeeds
-    first-planned : {y : ℕ} {ts ts′ : List Term} {b b′ : Env} (rs : First T y ts b ts′ b′) (gs : List Term) (t : Term) → Runs (oneOf y gs ts b (again t (con t))) (done (mk (con t) (gs ++ ts′)) b′) (first rs)
+    first-planned : {y : ℕ} {ts ts′ : List Term} {b b′ : Env} (rs : First T y ts b ts′ b′) (gs : List Term) (t : Term)
+        → Runs (oneOf y gs ts b (again t (con t))) (done (mk (con t) (gs ++ ts′)) b′) (first rs)
     first-planned (System.first-here {t′ = t′} {ts = ts} r) gs t = ask-yes (planned r) (again-makes t _ _ (append-nonempty gs t′ ts))
     first-planned (System.first-later {t = g} {ts′ = ts′} r rs) gs t = ask-no (planned r) (rw append-assoc at (first-planned rs (gs ++ (g ∷ [])) t))
 
@@ -151,7 +157,8 @@ module _ (T : Table) where
     some-failed-planned (System.fail-more r rs) gs k = ask-no (planned r) (some-failed-planned rs _ k)
 
     -- SOME makes the term anew where a child succeeds
-    tried-planned : {y n : ℕ} {ts ts′ : List Term} {b b′ : Env} (rs : Tried T y ts b ts′ b′ n) (s : Bool) (gs : List Term) (t : Term) → Enough s gs n → Runs (someOf y s gs ts b (again t (con t))) (done (mk (con t) (gs ++ ts′)) b′) (tried rs)
+    tried-planned : {y n : ℕ} {ts ts′ : List Term} {b b′ : Env} (rs : Tried T y ts b ts′ b′ n) (s : Bool) (gs : List Term) (t : Term)
+        → Enough s gs n → Runs (someOf y s gs ts b (again t (con t))) (done (mk (con t) (gs ++ ts′)) b′) (tried rs)
     tried-planned System.tried-none true gs t h = rw append-nil (again-makes t gs _ h)
     tried-planned System.tried-none false gs t h = absurd (omega arith)
     tried-planned (System.tried-new {t′ = t′} r rs) s gs t h = ask-yes (planned r) (rw append-assoc at (tried-planned rs true (gs ++ (t′ ∷ [])) t (append-nonempty gs t′ [])))
@@ -220,7 +227,8 @@ module _ (T : Table) where
     when-tells-at q true p y n = y refl
     when-tells-at q false p y n = n refl
 
-    agree-tells-at : {A : Type 0} (q c : ℕ) (xs : List A) (t : Term) (p : Do Term) → (Agree c xs t → Tells P p) → ((Agree c xs t → ⊥) → P failed (missed q)) → Tells P (whenAt q (agree c xs (con t) (kids t)) p)
+    agree-tells-at : {A : Type 0} (q c : ℕ) (xs : List A) (t : Term) (p : Do Term) → (Agree c xs t → Tells P p)
+        → ((Agree c xs t → ⊥) → P failed (missed q)) → Tells P (whenAt q (agree c xs (con t) (kids t)) p)
     agree-tells-at q c xs t p y n = when-tells-at q _ p (λ e. y (agree-true c xs t e)) (λ e. n (agree-false c xs t e))
 
     -- the same by whether there is a term
@@ -260,7 +268,8 @@ module _ (T : Table) where
   unfolding someOf when what fate tried
   some-tells-more P x gs [] b t h y = again-tells-made P t gs b h (rw append-nil at (y [] b 0 System.tried-none))
   some-tells-more P x gs (g ∷ hs) b t h y = (
-    λ g′ b′ r. some-tells-more (Then (entry x) stays (trace r) P) x (gs ++ (g′ ∷ [])) hs b′ t (append-nonempty gs g′ []) (λ ts b″ n rs. rw append-assoc (y (g′ ∷ ts) b″ (suc n) (System.tried-new r rs))),
+    λ g′ b′ r. some-tells-more (Then (entry x) stays (trace r) P) x (gs ++ (g′ ∷ [])) hs b′ t (append-nonempty gs g′ [])
+        (λ ts b″ n rs. rw append-assoc (y (g′ ∷ ts) b″ (suc n) (System.tried-new r rs))),
     λ r. some-tells-more (Then (entry x) fails (trace r) P) x (gs ++ (g ∷ [])) hs b t (append-nonempty gs g []) (λ ts b′ n rs. rw append-assoc (y (g ∷ ts) b′ n (System.tried-kept r rs))),
   )
 
@@ -295,13 +304,22 @@ module _ (T : Table) where
     strategy-tells (CALL y) e = last-tells Applied (apply y t b) (λ o r. (System.call-rec e r, refl))
     strategy-tells (PATH i y) e =
         given-tells Applied (nth (kids t) i) _
-        (λ g n. (λ g′ b′ r. again-tells-made (Then (entry y) stays (trace r) Applied) t (put (kids t) i g′) b′ (put-nonempty (kids t) i g g′ n) (System.path-done e n r refl, refl), λ r. (System.path-failed e n r, refl)))
+        (λ g n. (
+          λ g′ b′ r. again-tells-made (Then (entry y) stays (trace r) Applied) t (put (kids t) i g′) b′
+              (put-nonempty (kids t) i g g′ n) (System.path-done e n r refl, refl),
+          λ r. (System.path-failed e n r, refl),
+        ))
         (λ n. (System.path-none e n, refl))
     strategy-tells (CONG c ys) e =
         agree-tells Applied c ys t _
-        (λ a. walk-tells Applied (zip apply ys (kids t)) [] b (again t (con t)) (λ ts b′ rs. again-tells (λ o n. Applied o (each rs n)) t ts b′ (System.cong-done e a rs refl, refl)) (λ rs. (System.cong-failed e a rs, refl)))
+        (λ a. walk-tells Applied (zip apply ys (kids t)) [] b (again t (con t))
+        (λ ts b′ rs. again-tells (λ o n. Applied o (each rs n)) t ts b′ (System.cong-done e a rs refl, refl))
+        (λ rs. (System.cong-failed e a rs, refl)))
         (λ n. (System.cong-other e n, refl))
-    strategy-tells (ALL y) e = walk-tells Applied (map (apply y) (kids t)) [] b (again t (con t)) (λ ts b′ rs. again-tells (λ o n. Applied o (each rs n)) t ts b′ (System.all-done e rs refl, refl)) (λ rs. (System.all-failed e rs, refl))
+    strategy-tells (ALL y) e =
+        walk-tells Applied (map (apply y) (kids t)) [] b (again t (con t))
+        (λ ts b′ rs. again-tells (λ o n. Applied o (each rs n)) t ts b′ (System.all-done e rs refl, refl))
+        (λ rs. (System.all-failed e rs, refl))
     strategy-tells (ONE y) e = one-tells Applied y [] (kids t) b t (λ ts b′ rs. (System.one-done e rs refl, refl)) (λ rs. (System.one-failed e rs, refl))
     strategy-tells (SOME y) e = some-tells Applied y [] (kids t) b t (λ ts b′ n rs. (System.some-done e rs refl, refl)) (λ rs. (System.some-failed e rs, refl))
     strategy-tells (MATCH p) e = last-tells Applied (match p t b) (λ o r. (System.match-root e r, refl))
@@ -310,9 +328,12 @@ module _ (T : Table) where
     strategy-tells (WHERE y) e = (λ t′ b′ r. (System.where-done e r, refl), λ r. (System.where-failed e r, refl))
 
   -- a bound variable met by MATCH ends as its comparison does
-  compared-tells : (p v : ℕ) (g t : Term) (b : Env) → T ∶ p reads PVAR v → b v ≡ some g → (o : Out Term Env) → o ≡ done t b → (r : T ⊢ compare g t b ⇒ o) → Derived (match p t b) o (visit pair stays (trace r) over)
+  compared-tells : (p v : ℕ) (g t : Term) (b : Env) → T ∶ p reads PVAR v → b v ≡ some g → (o : Out Term Env) → o ≡ done t b
+      → (r : T ⊢ compare g t b ⇒ o) → Derived (match p t b) o (visit pair stays (trace r) over)
   unfolding trace
-  compared-tells p v g t b e n o c = subst (λ (o : Out Term Env). (r : T ⊢ compare g t b ⇒ o) → Derived (match p t b) o (visit pair stays (trace r) over)) (sym c) (λ r. (System.match-same e n r, refl))
+  compared-tells p v g t b e n o c =
+      subst (λ (o : Out Term Env). (r : T ⊢ compare g t b ⇒ o) → Derived (match p t b) o (visit pair stays (trace r) over)) (sym c)
+      (λ r. (System.match-same e n r, refl))
 
   -- the plan of a variable met by MATCH tells what its rules derive
   variable-tells : (p v : ℕ) (x : Option Term) (t : Term) (b : Env) → T ∶ p reads PVAR v → b v ≡ x → Tells (Derived (match p t b)) (variable p x v t b)

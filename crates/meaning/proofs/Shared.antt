@@ -29,13 +29,17 @@ use Rattle.meaning.specs.Store.{children, row, State, on, Left, rest, st
 use Rattle.meaning.specs.Store.{ranBy}
 use Rattle.meaning.specs.Demands.{Says, limits, startVisit, Agreed, started, Either-order}
 use Rattle.meaning.specs.Above.{inStore, SameBelow, same-ended, same-lost, same-cut}
-use Rattle.meaning.specs.Shared.{eight, alike, nodeWith, fullFor, numberFor, stateFor, shared, sharedRanBy, Distinct, OneNode, One-node, Shared-leaves, Shared-obeyed, Shared-above, Spares, Shared-spares, sized, Shares, share-done, share-failed, share-cut, share-room, Demand-2-shared, Demand-3-shared}
+use Rattle.meaning.specs.Shared.{eight, alike, nodeWith, fullFor, numberFor, stateFor, shared, sharedRanBy, Distinct, OneNode}
+use Rattle.meaning.specs.Shared.{One-node, Shared-leaves, Shared-obeyed, Shared-above, Spares, Shared-spares, sized, Shares}
+use Rattle.meaning.specs.Shared.{share-done, share-failed, share-cut, share-room, Demand-2-shared, Demand-3-shared}
 use Rattle.meaning.specs.Shared.{standing, ranSharing, Not-shared, All-shared}
 use Rattle.meaning.proofs.Tests.{impossible}
 use Rattle.meaning.proofs.Alike.{Holdable, Makeable, Worlds, ORel, o-none, o-some, LRel, l-nil, l-cons, BRel, QRel, q-apply, q-match, q-build, q-compare}
 use Rattle.meaning.proofs.Checked.{Filled, good-of-node, store-filled, table-makeable}
 use Rattle.meaning.proofs.Words.{kept-refl, kept-trans, kept-word, kept-children, kept-filled, Below, below-none, below-more, children-below, length-row, new-kept, new-filled, term-node}
-use Rattle.meaning.proofs.Together.{Stored, state, Later, Names, in-use, stores, later-refl, backed, later-backed, names-below, names-terms, names-constructor, names-children, names-holdable, grown, later-grown, names-grown, same-what}
+use Rattle.meaning.proofs.Together.{Stored, state, Later, Names, in-use, stores, later-refl, backed, later-backed, names-below}
+use Rattle.meaning.proofs.Together.{names-terms, names-constructor, names-children, names-holdable, grown, later-grown, names-grown}
+use Rattle.meaning.proofs.Together.{same-what}
 use Rattle.meaning.proofs.Simulates.{Makes, both-make, both-full, first-full, second-full, Simulation, Ends, e-ended, e-lost, e-cut, e-early, e-room, simulates}
 use Rattle.meaning.proofs.NodeWith.{nodeWith-has, nodeWith-same, kept-eight, row-children, row-constructor, distinct-kept, distinct-put}
 use Rattle.meaning.proofs.Above.{Finding, foundBy, found-above, found-owns, found-leaves, found-obeys}
@@ -90,7 +94,9 @@ module _ (nodes size : ℕ) {N : Type 0} (Λ : Notes N) where
       holds : {v : Stored nodes} {s : State N} {s′ : Counted N} {h : ℕ} {g : Term} → At v s s′ → Names v h g → Holdable (constructorOf (s .words) h) (length (children (s .words) h))
       holds (at-marks ν i) n = names-holdable nodes n
 
-      makes : {v : Stored nodes} {s : State N} {s′ : Counted N} (c : ℕ) (hs : List ℕ) (gs : List Term) → At v s s′ → Holdable c (length hs) → LRel (stores nodes) v hs gs → Makes (stores nodes) (shared Λ) (counting terms Λ size) (nodes < size) (Unit {0}) At v s s′ c hs gs
+      makes : {v : Stored nodes} {s : State N} {s′ : Counted N} (c : ℕ) (hs : List ℕ) (gs : List Term) → At v s s′ → Holdable c (length hs)
+          → LRel (stores nodes) v hs gs → Makes (stores nodes) (shared Λ) (counting terms Λ size) (nodes < size) (Unit {0}) At v s s′ c hs
+          gs
       makes {v} c hs gs (at-marks {m = m} ν i) o l = go (leb size m) refl (nodeWith (v .words) (row c hs) (v .mark)) refl (leb (rows (v .words)) (v .mark)) refl
         where
           go : (f : Bool) → leb size m ≡ f → (t : Option ℕ) → nodeWith (v .words) (row c hs) (v .mark) ≡ t → (y : Bool) → leb (rows (v .words)) (v .mark) ≡ y
@@ -106,12 +112,14 @@ module _ (nodes size : ℕ) {N : Type 0} (Λ : Notes N) where
           go false f none e true z = first-full (omega (arith, leb-false size m f, leb-true (rows (v .words)) (v .mark) z, v .long)) (rw e z)
           go false f none e false z =
               let free : v .mark < nodes = omega (arith, leb-false (rows (v .words)) (v .mark) z, v .long) in
-              both-make {v′ = grown nodes v c hs gs o free l} (rw e z) f (later-grown nodes v c hs gs o free l) (rw e (at-marks {m = suc m} ν (omega arith))) (rw e (names-grown nodes v c hs gs o free l))
+              both-make {v′ = grown nodes v c hs gs o free l} (rw e z) f (later-grown nodes v c hs gs o free l)
+              (rw e (at-marks {m = suc m} ν (omega arith))) (rw e (names-grown nodes v c hs gs o free l))
 
       leaves : {v : Stored nodes} {s : State N} {s′ : Counted N} → At v s s′ → Over v (rest (s .words) (s .notes)) (s′ .notes)
       leaves (at-marks ν i) = record { kept = kept-refl _ _; notes = refl }
 
-      backs : {v : Stored nodes} {s : State N} {s′ : Counted N} {l : Left N} {l′ : N} → At v s s′ → Over v l l′ → (v′ : Stored nodes) × Later v v′ × At v′ (on (l .words) (s .mark) (l .notes)) (at (s′ .mark) l′)
+      backs : {v : Stored nodes} {s : State N} {s′ : Counted N} {l : Left N} {l′ : N} → At v s s′ → Over v l l′ → (v′ : Stored nodes)
+          × Later v v′ × At v′ (on (l .words) (s .mark) (l .notes)) (at (s′ .mark) l′)
       backs {v} {l = l} (at-marks {m = m} ν i) o = (
         backed nodes v (l .words) (o .kept),
         later-backed nodes v (l .words) (o .kept),
@@ -121,10 +129,12 @@ module _ (nodes size : ℕ) {N : Type 0} (Λ : Notes N) where
       misses : {v : Stored nodes} {s : State N} {s′ : Counted N} (p : ℕ) → At v s s′ → At v (shared Λ .missed p s) (counting terms Λ size .missed p s′)
       misses p (at-marks ν i) = at-marks (Λ .missed p ν) i
 
-      begins : {v : Stored nodes} {s : State N} {s′ : Counted N} {q : Visit ℕ} {q′ : Visit Term} → QRel (stores nodes) v q q′ → At v s s′ → At v (shared Λ .begins q s) (counting terms Λ size .begins q′ s′)
+      begins : {v : Stored nodes} {s : State N} {s′ : Counted N} {q : Visit ℕ} {q′ : Visit Term} → QRel (stores nodes) v q q′ → At v s s′
+          → At v (shared Λ .begins q s) (counting terms Λ size .begins q′ s′)
       begins {v} {q = q} r (at-marks {m = m} ν i) = subst (λ w. At v (state v (Λ .begins (what q) ν)) (at m (Λ .begins w ν))) (same-what nodes Λ r) (at-marks _ i)
 
-      ends : {v v′ : Stored nodes} {s : State N} {s′ : Counted N} {q : Visit ℕ} {q′ : Visit Term} → QRel (stores nodes) v q q′ → At v′ s s′ → At v′ (shared Λ .ends q s) (counting terms Λ size .ends q′ s′)
+      ends : {v v′ : Stored nodes} {s : State N} {s′ : Counted N} {q : Visit ℕ} {q′ : Visit Term} → QRel (stores nodes) v q q′ → At v′ s s′
+          → At v′ (shared Λ .ends q s) (counting terms Λ size .ends q′ s′)
       ends {v′ = v} {q = q} r (at-marks {m = m} ν i) = subst (λ w. At v (state v (Λ .ends (what q) true ν)) (at m (Λ .ends w true ν))) (same-what nodes Λ r) (at-marks _ i)
 
 -- ---- room enough
@@ -167,7 +177,8 @@ module _ {N : Type 0} (Λ : Notes N) where
   enough-always : (r : Answer) → Roomy r → Enough (λ size. r) r
   enough-always r o = record { least = 0; same = λ size l. refl; roomy = o }
 
-  module _ (ev : ℕ → Visit Term → Counted N → ℕ → Answer) (ev′ : Visit Term → Counted N → ℕ → Answer) (asked : (q : Visit Term) (s : Counted N) (u : ℕ) → Enough (λ size. ev size q s u) (ev′ q s u)) where
+  module _ (ev : ℕ → Visit Term → Counted N → ℕ → Answer) (ev′ : Visit Term → Counted N → ℕ → Answer)
+      (asked : (q : Visit Term) (s : Counted N) (u : ℕ) → Enough (λ size. ev size q s u) (ev′ q s u)) where
     plan-enough : (p : Do Term) (s : Counted N) (u : ℕ) → Enough (λ size. runPlan (counting terms Λ size) (ev size) p s u) (runPlan boundless ev′ p s u)
     unfolding runPlan roomFor after settled
     plan-enough (ret h b) s u = enough-always _ tt
@@ -190,7 +201,9 @@ module _ {N : Type 0} (Λ : Notes N) where
         go : (r : Answer) → ev′ q s u ≡ r
             → ((h : Term) (b : Env) (s′ : Counted N) (v : ℕ) → Enough (λ size. runPlan (counting terms Λ size) (ev size) (k h b) s′ v) (runPlan boundless ev′ (k h b) s′ v))
             → ((s′ : Counted N) (v : ℕ) → Enough (λ size. runPlan (counting terms Λ size) (ev size) p s′ v) (runPlan boundless ev′ p s′ v))
-            → Enough (λ size. after (counting terms Λ size) t s (ev size q s u) (λ h b s′ v. runPlan (counting terms Λ size) (ev size) (k h b) s′ v) (λ s′ v. runPlan (counting terms Λ size) (ev size) p s′ v))
+            → Enough (λ size. after (counting terms Λ size) t s (ev size q s u)
+            (λ h b s′ v. runPlan (counting terms Λ size) (ev size) (k h b) s′ v)
+            (λ s′ v. runPlan (counting terms Λ size) (ev size) p s′ v))
             (after boundless t s r (λ h b s′ v. runPlan boundless ev′ (k h b) s′ v) (λ s′ v. runPlan boundless ev′ p s′ v))
         go (ended h b s′ v) x y n =
             let e = y h b (settled boundless t s s′) v in
@@ -257,7 +270,9 @@ module _ (nodes : ℕ) {N : Type 0} (Λ : Notes N) where
       subst (λ t. Shares (ended t c (at m ν) u) (ended (term (v′ .words) h) (λ y. termOf (v′ .words) (b y)) (at (v′ .mark) ν) u)) (n .is)
       (subst (λ c. Shares (ended (term (v′ .words) h) c (at m ν) u) (ended (term (v′ .words) h) (λ y. termOf (v′ .words) (b y)) (at (v′ .mark) ν) u)) (fun-ext (λ x. named-term (s x))) (share-done i))
   shares (e-lost {l = l} {u = u} o) z = subst (λ n. Shares (lost n u) (lost (l .notes) u)) (o .notes) share-failed
-  shares (e-cut {x = c} {l = l} {u = u} o) z = subst (λ n. Shares (cut c n u) (cut c (l .notes) u)) (o .notes) (share-cut (other-limit (l .notes) u c (subst (λ n. Roomy Λ (cut c n u)) (sym (o .notes)) z)))
+  shares (e-cut {x = c} {l = l} {u = u} o) z =
+      subst (λ n. Shares (cut c n u) (cut c (l .notes) u)) (o .notes)
+      (share-cut (other-limit (l .notes) u c (subst (λ n. Roomy Λ (cut c n u)) (sym (o .notes)) z)))
   shares (e-early y) z = share-room
   shares (e-room y) z = absurd z
 
@@ -291,7 +306,8 @@ demand-2-shared W N Λ ν i a =
     )
 
 -- what the variant answers is so, with some room
-told : {N : Type 0} (Λ : Notes N) (W : ℕ) (i : Input) (ν : N) → AcceptedBy W i → (r : Res Term Env (Counted N) N) × (size : ℕ) × Says Λ ν (tableBy W (i .table)) (sized size i) (startVisit i) r × Shares r (value (sharedRanBy W Λ ν i))
+told : {N : Type 0} (Λ : Notes N) (W : ℕ) (i : Input) (ν : N) → AcceptedBy W i → (r : Res Term Env (Counted N) N) × (size : ℕ)
+    × Says Λ ν (tableBy W (i .table)) (sized size i) (startVisit i) r × Shares r (value (sharedRanBy W Λ ν i))
 told {N} Λ W i ν a =
     let (enough, f) = demand-2-shared W N Λ ν i a in
     let size = max enough (i .mark) in

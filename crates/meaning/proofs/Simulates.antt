@@ -15,7 +15,8 @@ use Rattle.meaning.proofs.Alike.{Makeable, Worlds, LRel, BRel, QRel, PR
 module _ {H G S S′ L L′ : Type 0} (K : Worlds H G) (M : Store H (Visit H) S L) (M′ : Store G (Visit G) S′ L′) (Early Loose : Type 0) (At : K .World → S → S′ → Type 0) where
   -- one node more: in both, in neither, or one is full where it may be
   pub data Makes (v : K .World) (s : S) (s′ : S′) (c : ℕ) (hs : List H) (gs : List G) : Type 0 where
-    both-make : {v′ : K .World} → M .full s c hs ≡ false → M′ .full s′ c gs ≡ false → K .Ext v v′ → At v′ (M .put s c hs) (M′ .put s′ c gs) → K .Rel v′ (M .new s c hs) (M′ .new s′ c gs) → Makes v s s′ c hs gs
+    both-make : {v′ : K .World} → M .full s c hs ≡ false → M′ .full s′ c gs ≡ false → K .Ext v v′ → At v′ (M .put s c hs) (M′ .put s′ c gs)
+        → K .Rel v′ (M .new s c hs) (M′ .new s′ c gs) → Makes v s s′ c hs gs
     both-full : M .full s c hs ≡ true → M′ .full s′ c gs ≡ true → Makes v s s′ c hs gs
     first-full : Early → M .full s c hs ≡ true → Makes v s s′ c hs gs
     second-full : Loose → M′ .full s′ c gs ≡ true → Makes v s s′ c hs gs
@@ -45,7 +46,8 @@ module _ {H G S S′ L L′ : Type 0} {K : Worlds H G} {M : Store H (Visit H) S 
 
   -- two runs end alike
   pub data Ends (v : K .World) : Ran → Ran′ → Type 0 where
-    e-ended : {v′ : K .World} {s : S} {s′ : S′} {h : H} {g : G} {b : Bindings H} {c : Bindings G} {u : ℕ} → K .Ext v v′ → A .At v′ s s′ → K .Rel v′ h g → BRel K v′ b c → Ends v (ended h b s u) (ended g c s′ u)
+    e-ended : {v′ : K .World} {s : S} {s′ : S′} {h : H} {g : G} {b : Bindings H} {c : Bindings G} {u : ℕ} → K .Ext v v′ → A .At v′ s s′
+        → K .Rel v′ h g → BRel K v′ b c → Ends v (ended h b s u) (ended g c s′ u)
     e-lost : {l : L} {l′ : L′} {u : ℕ} → A .Over v l l′ → Ends v (lost l u) (lost l′ u)
     e-cut : {x : Limit} {l : L} {l′ : L′} {u : ℕ} → A .Over v l l′ → Ends v (cut x l u) (cut x l′ u)
     e-early : {l : L} {r′ : Ran′} {u : ℕ} → Early → Ends v (cut room l u) r′
@@ -67,7 +69,8 @@ module _ {H G S S′ L L′ : Type 0} {K : Worlds H G} {M : Store H (Visit H) S 
     not-then : {l : L} {l′ : L′} (u : ℕ) → A .Over v l l′ → Ends v (g (M .back s l) u) (g′ (M′ .back s′ l′) u)
     not-then u o = let (v′, e, b) = A .backs a o in sooner-ends e (no v′ _ _ u e b)
 
-    kept-ends : {r : Ran} {r′ : Ran′} → ((v′ : K .World) (h : H) (k : G) (b : Bindings H) (c : Bindings G) (t : S) (t′ : S′) (u : ℕ) → K .Ext v v′ → K .Rel v′ h k → BRel K v′ b c → A .At v′ t t′ → Ends v′ (f h b t u) (f′ k c t′ u))
+    kept-ends : {r : Ran} {r′ : Ran′} → ((v′ : K .World) (h : H) (k : G) (b : Bindings H) (c : Bindings G) (t : S) (t′ : S′) (u : ℕ)
+        → K .Ext v v′ → K .Rel v′ h k → BRel K v′ b c → A .At v′ t t′ → Ends v′ (f h b t u) (f′ k c t′ u))
         → Ends v r r′ → Ends v (after M keep s r f g) (after M′ keep s′ r′ f′ g′)
     unfolding after settled
     kept-ends yes-then (e-ended {v′ = v′} {u = u} e b n z) = sooner-ends e (yes-then v′ _ _ _ _ _ _ u e n z b)
@@ -76,7 +79,8 @@ module _ {H G S S′ L L′ : Type 0} {K : Worlds H G} {M : Store H (Visit H) S 
     kept-ends yes-then (e-early z) = e-early z
     kept-ends yes-then (e-room z) = e-room z
 
-    dropped-ends : {r : Ran} {r′ : Ran′} → ((v′ : K .World) (h : H) (k : G) (b : Bindings H) (c : Bindings G) (t : S) (t′ : S′) (u : ℕ) → K .Ext v v′ → A .At v′ t t′ → Ends v′ (f h b t u) (f′ k c t′ u))
+    dropped-ends : {r : Ran} {r′ : Ran′} → ((v′ : K .World) (h : H) (k : G) (b : Bindings H) (c : Bindings G) (t : S) (t′ : S′) (u : ℕ)
+        → K .Ext v v′ → A .At v′ t t′ → Ends v′ (f h b t u) (f′ k c t′ u))
         → Ends v r r′ → Ends v (after M drop s r f g) (after M′ drop s′ r′ f′ g′)
     unfolding after settled
     dropped-ends yes-then (e-ended {u = u} e b n z) = let (v′, e′, b′) = A .backs a (A .sooner e (A .leaves b)) in sooner-ends e′ (yes-then v′ _ _ _ _ _ _ u e′ b′)
@@ -86,7 +90,9 @@ module _ {H G S S′ L L′ : Type 0} {K : Worlds H G} {M : Store H (Visit H) S 
     dropped-ends yes-then (e-room z) = e-room z
 
   -- related plans end alike where the visits do
-  plan-ends : (ev : Visit H → S → ℕ → Ran) (ev′ : Visit G → S′ → ℕ → Ran′) → Together ev ev′ → {v : K .World} {p : Do H} {p′ : Do G} {s : S} {s′ : S′} → PRel K v p p′ → A .At v s s′ → (u : ℕ) → Ends v (runPlan M ev p s u) (runPlan M′ ev′ p′ s′ u)
+  plan-ends : (ev : Visit H → S → ℕ → Ran) (ev′ : Visit G → S′ → ℕ → Ran′) → Together ev ev′
+      → {v : K .World} {p : Do H} {p′ : Do G} {s : S} {s′ : S′} → PRel K v p p′ → A .At v s s′ → (u : ℕ)
+      → Ends v (runPlan M ev p s u) (runPlan M′ ev′ p′ s′ u)
   unfolding runPlan roomFor
   plan-ends ev ev′ z {v} (p-ret n b) a u = e-ended (K .ext-refl v) a n b
   plan-ends ev ev′ z p-fail a u = e-lost (A .leaves a)
@@ -98,9 +104,11 @@ module _ {H G S S′ L L′ : Type 0} {K : Worlds H G} {M : Store H (Visit H) S 
   plan-ends ev ev′ z {v} {s = s} {s′ = s′} (p-make {c = c} {hs = hs} {gs = gs} {k = k} {k′ = k′} o l f) a u =
       go (λ v′ e b n. plan-ends ev ev′ z (f v′ (M .new s c hs) (M′ .new s′ c gs) e n) b u) (A .makes c hs gs a o l)
     where
-      go : ((v′ : K .World) → K .Ext v v′ → A .At v′ (M .put s c hs) (M′ .put s′ c gs) → K .Rel v′ (M .new s c hs) (M′ .new s′ c gs) → Ends v′ (runPlan M ev (k (M .new s c hs)) (M .put s c hs) u) (runPlan M′ ev′ (k′ (M′ .new s′ c gs)) (M′ .put s′ c gs) u))
+      go : ((v′ : K .World) → K .Ext v v′ → A .At v′ (M .put s c hs) (M′ .put s′ c gs) → K .Rel v′ (M .new s c hs) (M′ .new s′ c gs)
+          → Ends v′ (runPlan M ev (k (M .new s c hs)) (M .put s c hs) u) (runPlan M′ ev′ (k′ (M′ .new s′ c gs)) (M′ .put s′ c gs) u))
           → Makes K M M′ Early Loose (A .At) v s s′ c hs gs
-          → Ends v (roomFor (M .full s c hs) (M .left s) u (runPlan M ev (k (M .new s c hs)) (M .put s c hs) u)) (roomFor (M′ .full s′ c gs) (M′ .left s′) u (runPlan M′ ev′ (k′ (M′ .new s′ c gs)) (M′ .put s′ c gs) u))
+          → Ends v (roomFor (M .full s c hs) (M .left s) u (runPlan M ev (k (M .new s c hs)) (M .put s c hs) u))
+          (roomFor (M′ .full s′ c gs) (M′ .left s′) u (runPlan M′ ev′ (k′ (M′ .new s′ c gs)) (M′ .put s′ c gs) u))
       go y (both-make {v′ = v′} x x′ e b n) = rw (x, x′) (sooner-ends e (y v′ e b n))
       go y (both-full x x′) = rw (x, x′) (e-cut (A .leaves a))
       go y (first-full w x) = rw x (e-early w)

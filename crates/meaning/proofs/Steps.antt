@@ -96,7 +96,8 @@ module _ {H B Q S L : Type 0} (M : Store H Q S L) (R : Q → Plan H B Q) where
   room-few true n r x z = tt
   room-few false n r x z = z
 
-  advance-few : (m : ℕ) (fs : List (Frame H B Q S)) → ((r : Res H B S L) → unitsOf r ≤ m → Few m (settle M R fs r)) → (n : ℕ) (p : Plan H B Q) (s : S) (u : ℕ) → u ≤ m → Few m (advance M R (settle M R fs) n fs p s u)
+  advance-few : (m : ℕ) (fs : List (Frame H B Q S)) → ((r : Res H B S L) → unitsOf r ≤ m → Few m (settle M R fs r))
+      → (n : ℕ) (p : Plan H B Q) (s : S) (u : ℕ) → u ≤ m → Few m (advance M R (settle M R fs) n fs p s u)
   unfolding advance
   advance-few m fs z n (ret h b) s u i = z _ i
   advance-few m fs z n fail s u i = z _ i

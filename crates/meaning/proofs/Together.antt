@@ -21,9 +21,11 @@ use Rattle.meaning.specs.System.{Env}
 use Rattle.meaning.specs.Store.{children, row, State, on, Left, rest, stored, term, Ran, Kept}
 use Rattle.meaning.proofs.Terms.{list-unlist}
 use Rattle.meaning.proofs.Limits.{Answer}
-use Rattle.meaning.proofs.Alike.{Holdable, Makeable, Worlds, LRel, l-nil, l-cons, BRel, QRel, PRel, q-apply, q-match, q-build, q-compare, p-ret, p-fail, p-miss, p-stuck, p-look, p-make, p-ask, p-test, p-does}
+use Rattle.meaning.proofs.Alike.{Holdable, Makeable, Worlds, LRel, l-nil, l-cons, BRel, QRel, PRel, q-apply, q-match, q-build}
+use Rattle.meaning.proofs.Alike.{q-compare, p-ret, p-fail, p-miss, p-stuck, p-look, p-make, p-ask, p-test, p-does}
 use Rattle.meaning.proofs.Checked.{Filled}
-use Rattle.meaning.proofs.Words.{kept-refl, kept-trans, kept-filled, Below, below-none, below-more, map-below, children-below, new-kept, new-filled, new-constructor, new-children, term-node, kept-term}
+use Rattle.meaning.proofs.Words.{kept-refl, kept-trans, kept-filled, Below, below-none, below-more, map-below, children-below}
+use Rattle.meaning.proofs.Words.{new-kept, new-filled, new-constructor, new-children, term-node, kept-term}
 
 -- a store with room for `size` nodes, good below the mark
 pub record Stored (size : ℕ) : Type 0 where
@@ -135,7 +137,8 @@ module _ (size : ℕ) where
   module _ {N : Type 0} (Λ : Notes N) where
     -- two runs from the store v that end alike
     pub data EndAlike (v : Stored size) : Ran N → Answer N Term Env → Type 0 where
-      a-ended : {v′ : Stored size} {k u : ℕ} {t : Term} {b : Bindings ℕ} {c : Env} {ν : N} → Later v v′ → Names v′ k t → BRel stores v′ b c → EndAlike v (ended k b (state v′ ν) u) (ended t c (at (v′ .mark) ν) u)
+      a-ended : {v′ : Stored size} {k u : ℕ} {t : Term} {b : Bindings ℕ} {c : Env} {ν : N} → Later v v′ → Names v′ k t → BRel stores v′ b c
+          → EndAlike v (ended k b (state v′ ν) u) (ended t c (at (v′ .mark) ν) u)
       a-lost : {w : List ℕ} {u : ℕ} {ν : N} → Kept (v .words) (v .mark) w → EndAlike v (lost (rest w ν) u) (lost ν u)
       a-cut : {x : Limit} {w : List ℕ} {u : ℕ} {ν : N} → Kept (v .words) (v .mark) w → EndAlike v (cut x (rest w ν) u) (cut x ν u)
 
@@ -158,7 +161,8 @@ module _ (size : ℕ) where
     module _ (v : Stored size) (f : ℕ → Bindings ℕ → State N → ℕ → Ran N) (f′ : Term → Env → Counted N → ℕ → Answer N Term Env) (g : State N → ℕ → Ran N) (g′ : Counted N → ℕ → Answer N Term Env)
         (no : (w : List ℕ) (p : Kept (v .words) (v .mark) w) (ν : N) (u : ℕ) → EndAlike (backed v w p) (g (on w (v .mark) ν) u) (g′ (at (v .mark) ν) u)) (ν₀ : N) where
       alike-ask : {r : Ran N} {r′ : Answer N Term Env} → EndAlike v r r′
-          → ((v′ : Stored size) (k : ℕ) (t : Term) (b : Bindings ℕ) (c : Env) (ν : N) (u : ℕ) → Later v v′ → Names v′ k t → BRel stores v′ b c → EndAlike v′ (f k b (state v′ ν) u) (f′ t c (at (v′ .mark) ν) u))
+          → ((v′ : Stored size) (k : ℕ) (t : Term) (b : Bindings ℕ) (c : Env) (ν : N) (u : ℕ) → Later v v′ → Names v′ k t
+          → BRel stores v′ b c → EndAlike v′ (f k b (state v′ ν) u) (f′ t c (at (v′ .mark) ν) u))
           → EndAlike v (after (stored Λ) keep (state v ν₀) r f g) (after (counting terms Λ size) keep (at (v .mark) ν₀) r′ f′ g′)
       unfolding after settled
       alike-ask (a-ended {v′ = v′} {u = u} {ν = ν} e n s) yes-then = alike-before e (yes-then v′ _ _ _ _ ν u e n s)
@@ -166,7 +170,8 @@ module _ (size : ℕ) where
       alike-ask (a-cut p) yes-then = a-cut p
 
       alike-test : {r : Ran N} {r′ : Answer N Term Env} → EndAlike v r r′
-          → ((w : List ℕ) (p : Kept (v .words) (v .mark) w) (k : ℕ) (t : Term) (b : Bindings ℕ) (c : Env) (ν : N) (u : ℕ) → EndAlike (backed v w p) (f k b (on w (v .mark) ν) u) (f′ t c (at (v .mark) ν) u))
+          → ((w : List ℕ) (p : Kept (v .words) (v .mark) w) (k : ℕ) (t : Term) (b : Bindings ℕ) (c : Env) (ν : N) (u : ℕ)
+          → EndAlike (backed v w p) (f k b (on w (v .mark) ν) u) (f′ t c (at (v .mark) ν) u))
           → EndAlike v (after (stored Λ) drop (state v ν₀) r f g) (after (counting terms Λ size) drop (at (v .mark) ν₀) r′ f′ g′)
       unfolding after settled
       alike-test (a-ended {v′ = v′} {u = u} {ν = ν} e n s) yes-then = alike-before (later-backed v (v′ .words) (e .kept)) (yes-then (v′ .words) (e .kept) _ _ _ _ ν u)
@@ -174,7 +179,8 @@ module _ (size : ℕ) where
       alike-test (a-cut p) yes-then = a-cut p
 
     -- related plans end alike where the visits do
-    alike-plan : (ev : Visit ℕ → State N → ℕ → Ran N) (ev′ : Visit Term → Counted N → ℕ → Answer N Term Env) → Together ev ev′ → {v : Stored size} {p : Do ℕ} {p′ : Do Term} → PRel stores v p p′ → (ν : N) (u : ℕ)
+    alike-plan : (ev : Visit ℕ → State N → ℕ → Ran N) (ev′ : Visit Term → Counted N → ℕ → Answer N Term Env) → Together ev ev′
+        → {v : Stored size} {p : Do ℕ} {p′ : Do Term} → PRel stores v p p′ → (ν : N) (u : ℕ)
         → EndAlike v (runPlan (stored Λ) ev p (state v ν) u) (runPlan (counting terms Λ size) ev′ p′ (at (v .mark) ν) u)
     unfolding runPlan
     alike-plan ev ev′ z {v} (p-ret n s) ν u = a-ended {v′ = v} (later-refl v) n s
@@ -182,7 +188,8 @@ module _ (size : ℕ) where
     alike-plan ev ev′ z {v} (p-miss y) ν u = a-lost (kept-refl (v .words) (v .mark))
     alike-plan ev ev′ z {v} (p-stuck y) ν u = a-cut (kept-refl (v .words) (v .mark))
     alike-plan ev ev′ z {v} (p-look {h = h} {g = t} {k = k} {k′ = k′} n f) ν u =
-        subst (λ c. EndAlike v (runPlan (stored Λ) ev (k (constructorOf (v .words) h) (children (v .words) h)) (state v ν) u) (runPlan (counting terms Λ size) ev′ (k′ c (kids t)) (at (v .mark) ν) u)) (sym (names-constructor n))
+        subst (λ c. EndAlike v (runPlan (stored Λ) ev (k (constructorOf (v .words) h) (children (v .words) h)) (state v ν) u)
+        (runPlan (counting terms Λ size) ev′ (k′ c (kids t)) (at (v .mark) ν) u)) (sym (names-constructor n))
         (alike-plan ev ev′ z (f (constructorOf (v .words) h) (children (v .words) h) (kids t) (names-holdable n) (names-children n)) ν u)
     alike-plan ev ev′ z {v} (p-make {c = c} {hs = hs} {gs = gs} {k = k} {k′ = k′} o l f) ν u =
         subst (λ n. EndAlike v (roomFor (leb (rows (v .words)) (v .mark)) (rest (v .words) ν) u (runPlan (stored Λ) ev (k (v .mark)) (on (putRow (v .words) (v .mark) (row c hs)) (v .mark + 1) ν) u))
@@ -190,7 +197,9 @@ module _ (size : ℕ) where
         (alike-room (leb (rows (v .words)) (v .mark)) ν u _ _ (λ e.
         let room : v .mark < size = omega (arith, leb-false (rows (v .words)) (v .mark) e, v .long) in
         alike-before (later-grown v c hs gs o room l)
-        (subst (λ m. EndAlike (grown v c hs gs o room l) (runPlan (stored Λ) ev (k (v .mark)) (on (putRow (v .words) (v .mark) (row c hs)) (v .mark + 1) ν) u) (runPlan (counting terms Λ size) ev′ (k′ (mk c gs)) (at m ν) u)) (add-one (v .mark))
+        (subst (λ m. EndAlike (grown v c hs gs o room l) (runPlan (stored Λ) ev (k (v .mark))
+        (on (putRow (v .words) (v .mark) (row c hs)) (v .mark + 1) ν) u)
+        (runPlan (counting terms Λ size) ev′ (k′ (mk c gs)) (at m ν) u)) (add-one (v .mark))
         (alike-plan ev ev′ z (f (grown v c hs gs o room l) (v .mark) (mk c gs) (later-grown v c hs gs o room l) (names-grown v c hs gs o room l)) ν u))))
     alike-plan ev ev′ z {v} (p-ask {q = q} {q′ = q′} r f g) ν u =
         alike-ask v _ _ _ _ (λ w p ν′ u′. alike-plan ev ev′ z (g (backed v w p) (later-backed v w p)) ν′ u′) ν (z v q q′ ν u r)
@@ -207,7 +216,8 @@ module _ (size : ℕ) where
     same-what (q-build r s) = refl
     same-what (q-compare r r′ s) = refl
 
-    alike-closed : {v : Stored size} {q : Visit ℕ} {q′ : Visit Term} {r : Ran N} {r′ : Answer N Term Env} → QRel stores v q q′ → EndAlike v r r′ → EndAlike v (closed (stored Λ) q r) (closed (counting terms Λ size) q′ r′)
+    alike-closed : {v : Stored size} {q : Visit ℕ} {q′ : Visit Term} {r : Ran N} {r′ : Answer N Term Env} → QRel stores v q q′
+        → EndAlike v r r′ → EndAlike v (closed (stored Λ) q r) (closed (counting terms Λ size) q′ r′)
     unfolding closed
     alike-closed {v} {q} e (a-ended {v′ = v′} {k = k} {u = u} {t = t} {b = b} {c = c} {ν = ν} f n s) =
         subst (λ w. EndAlike v (ended k b (state v′ (Λ .ends (what q) true ν)) u) (ended t c (at (v′ .mark) (Λ .ends w true ν)) u)) (same-what e) (a-ended {v′ = v′} f n s)
@@ -221,5 +231,7 @@ module _ (size : ℕ) where
     together T o zero v q q′ ν (suc u) r = a-cut (kept-refl (v .words) (v .mark))
     together T o (suc n) v q q′ ν zero r = a-cut (kept-refl (v .words) (v .mark))
     together T o (suc n) v q q′ ν (suc u) r =
-        alike-closed r (subst (λ w. EndAlike v (runPlan (stored Λ) (run (stored Λ) (does T) n) (does T q) (state v (Λ .begins (what q) ν)) u) (runPlan (counting terms Λ size) (run (counting terms Λ size) (does T) n) (does T q′) (at (v .mark) (Λ .begins w ν)) u)) (same-what r)
+        alike-closed r (subst (λ w. EndAlike v (runPlan (stored Λ) (run (stored Λ) (does T) n) (does T q) (state v (Λ .begins (what q) ν))
+        u) (runPlan (counting terms Λ size) (run (counting terms Λ size) (does T) n) (does T q′) (at (v .mark) (Λ .begins w ν)) u))
+        (same-what r)
         (alike-plan (run (stored Λ) (does T) n) (run (counting terms Λ size) (does T) n) (together T o n) (p-does T o r) (Λ .begins (what q) ν) u))

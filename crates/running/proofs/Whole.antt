@@ -86,7 +86,8 @@ own-store zero n w l = absurd (omega arith)
 own-store (suc r) n w l = refl
 
 -- the table is held in c, the bindings and the mark in st, the subject and the units in g; the store's words are those of w, which is lent
-module _ (i : Input) (a : Accepted i) (c w st : List ℕ) (room top n g : ℕ) (same : table c ≡ table (i .table)) (entries : Entries c) (hints : Hinted c) (o : Opened (i .bindings) (i .mark) room top n st)
+module _ (i : Input) (a : Accepted i) (c w st : List ℕ) (room top n g : ℕ) (same : table c ≡ table (i .table)) (entries : Entries c)
+    (hints : Hinted c) (o : Opened (i .bindings) (i .mark) room top n st)
     (fits : FitsRoom room w (i .mark) top n) (own : ownWords room n w ≡ i .store) (few : i .units < 4294967296) (ge : g ≡ packed (i .subject) (i .units)) where
   subject-is : nodeIn g ≡ i .subject
   subject-is = ap nodeIn ge ∙ node-packed (i .subject) (i .units) few
@@ -124,14 +125,16 @@ module _ (i : Input) (a : Accepted i) (c w st : List ℕ) (room top n g : ℕ) (
   unfolding visit ranBy sharedRanBy
   beneath zero e =
       (λ z. ownRan (e z) n (run stored (does (table c)) 4096 (apply (i .start) (i .subject) (bindings (i .bindings))) (on w (at (i .mark) (lending nowhere (e z) top n))) (i .units)))
-      ∙ lent-is-shared places (table c) (makeable c entries) (bindings (i .bindings)) (i .subject) (i .start) 4096 (i .units) nowhere n w (i .mark) top (subst (λ r. FitsRoom r w (i .mark) top n) e fits) good bounded (a .subject)
+      ∙ lent-is-shared places (table c) (makeable c entries) (bindings (i .bindings)) (i .subject) (i .start) 4096 (i .units) nowhere n w
+      (i .mark) top (subst (λ r. FitsRoom r w (i .mark) top n) e fits) good bounded (a .subject)
       ∙ (λ z. run (shared places) (does (same z)) 4096 (apply (i .start) (i .subject) (bindings (i .bindings))) (onWords (own-is z) (i .mark) nowhere) (i .units))
     where
       own-is : take (8 * n) w ≡ i .store
       own-is = subst (λ r. ownWords r n w ≡ i .store) e own
   beneath (suc r) e =
       (λ z. ownRan (e z) n (run stored (does (table c)) 4096 (apply (i .start) (i .subject) (bindings (i .bindings))) (on w (at (i .mark) (lending nowhere (e z) top n))) (i .units)))
-      ∙ lent-is-plain places (table c) (makeable c entries) (bindings (i .bindings)) (i .subject) (i .start) 4096 (i .units) nowhere r n w (i .mark) top (subst (λ r. FitsRoom r w (i .mark) top n) e fits) good bounded (a .subject)
+      ∙ lent-is-plain places (table c) (makeable c entries) (bindings (i .bindings)) (i .subject) (i .start) 4096 (i .units) nowhere r n w
+      (i .mark) top (subst (λ r. FitsRoom r w (i .mark) top n) e fits) good bounded (a .subject)
       ∙ (λ z. run (plain places) (does (same z)) 4096 (apply (i .start) (i .subject) (bindings (i .bindings))) (onWords (own-is z) (i .mark) nowhere) (i .units))
     where
       own-is : w ≡ i .store
@@ -157,7 +160,8 @@ module _ (i : Input) (a : Accepted i) (c w st : List ℕ) (room top n g : ℕ) (
 pub store-small : (i : Input) → Accepted i → rows (i .store) < 4294967296
 store-small i a = omega (arith, storePasses (i .store) (i .mark) .0 (ap (λ (c : Checked). c .answer) (a .store)) .0 .0 .most)
 
-module _ (i : Input) (a : Accepted i) (c st : List ℕ) (n g : ℕ) (same : table c ≡ table (i .table)) (entries : Entries c) (hints : Hinted c) (ne : n ≡ rows (i .store)) (o : Opened (i .bindings) (i .mark) n 0 0 st)
+module _ (i : Input) (a : Accepted i) (c st : List ℕ) (n g : ℕ) (same : table c ≡ table (i .table)) (entries : Entries c) (hints : Hinted c)
+    (ne : n ≡ rows (i .store)) (o : Opened (i .bindings) (i .mark) n 0 0 st)
     (few : i .units < 4294967296) (ge : g ≡ packed (i .subject) (i .units)) where
   some-nodes : 0 < n
   some-nodes = omega (arith, a .subject, storePasses (i .store) (i .mark) .0 (ap (λ (c : Checked). c .answer) (a .store)) .0 .1)
@@ -188,7 +192,8 @@ ready-missing st p r = record {
 -- What the engine answers, read, as a run's end: the numbers are those of the end, and the units left are at most those given. No
 -- match has given up when it begins.
 module _ (c w st : List ℕ) (e k u : ℕ) (few : u < 4294967296) (got : ℕ) (g : ℕ) (ge : g ≡ packed k u) (ready : Ready c w st e (packed k u)) (st′ w′ : List ℕ)
-    (gives : Gives (visit c 4096 (apply e (nodeIn g) (held (missing st nowhere))) w (standing (missing st nowhere)) (unitsIn g)) (missing st nowhere) got st′ w′) (a : Answer) (read : a ≡ answerOf got) where
+    (gives : Gives (visit c 4096 (apply e (nodeIn g) (held (missing st nowhere))) w (standing (missing st nowhere)) (unitsIn g))
+    (missing st nowhere) got st′ w′) (a : Answer) (read : a ≡ answerOf got) where
   abbrev lentRun : LentRan
   lentRun = visit c 4096 (apply e k (held st)) w (missedAt nowhere (standing st)) u
 
@@ -342,7 +347,8 @@ module _ (room : ℕ) (i : Input) (a : Accepted i) (r : Outcome) (st w : List �
       let h : b′ ≡ i .bindings = n (λ z. omega (arith, ap (λ (r : Outcome). r .answer) p, limit-answer c)) in
       λ z. atReturn (p z) (clearedFrom (q z) (8 * p z .mark)) (h z)
 
-  pub comes-back : (b′ : List ℕ) → (r .answer ≡ 0 → b′ ≡ bindingWords variables (held st)) → ((r .answer ≡ 0 → ⊥) → b′ ≡ i .bindings) → atReturn r (clearedFrom w (8 * r .mark)) b′ ≡ returned i (ranFor room i)
+  pub comes-back : (b′ : List ℕ) → (r .answer ≡ 0 → b′ ≡ bindingWords variables (held st)) → ((r .answer ≡ 0 → ⊥) → b′ ≡ i .bindings)
+      → atReturn r (clearedFrom w (8 * r .mark)) b′ ≡ returned i (ranFor room i)
   comes-back b′ y n = come (ranFor room i) refl b′ y n
 
 -- a refusal, and none

@@ -111,7 +111,8 @@ module _ (line : List ℕ) (i : ℕ) (l : i < length line) (tab : getD line i 0 
       → e ≡ (i + 1) + length (upTo 9 (drop (i + 1) line))
       → (i < e) × (e ≤ length line) × (e < length line → getD line e 0 ≡ 9)
   field-end e z =
-      let b : length (upTo 9 (drop (i + 1) line)) ≤ length line - (i + 1) = subst (λ (m : ℕ). length (upTo 9 (drop (i + 1) line)) ≤ m) (length-drop (i + 1) line) (length-upTo 9 (drop (i + 1) line)) in (
+      let b : length (upTo 9 (drop (i + 1) line)) ≤ length line - (i + 1) = subst (λ (m : ℕ). length (upTo 9 (drop (i + 1) line)) ≤ m)
+      (length-drop (i + 1) line) (length-upTo 9 (drop (i + 1) line)) in (
         omega arith,
         omega arith,
         λ m. ap (λ (k : ℕ). getD line k 0) z ∙ sym (getD-drop (i + 1) line (length (upTo 9 (drop (i + 1) line))) 0) ∙ upTo-stops 9 (drop (i + 1) line) (rw (length-drop (i + 1) line) (omega arith)),

@@ -34,5 +34,12 @@ answerText =
     ∷ 110 ∷ 9 ∷ 53 ∷ 9 ∷ 49 ∷ 9 ∷ 48 ∷ 10 ∷ []
 
 job-answered : answerTo jobText ≡ answerText
-unfolding every rejected putRow clearedFrom lines kindLine kind sortOf takes word-number countFits argumentFitsBy operandPlacedBy operandSortedBy operandsFaultBy unusedZeroBy faultBy goodEntryBy goodNode tableLengthFits storeLengthFits tableCheckedBy storeChecked bind has masked byKind tableBy nth put zip agree when again walk strategy variable whenAt matching needed building does roomFor settled after runPlan closed run row named bindings ranBy number bindingWord bindingWords returnedBy sizesFitBy boundBelow isStart startFits wordsRefusedBy refusedWithBy runWithBy parts valued numberOf numbersOf digits letterOf nameOf jobFits entryFits nodeFits bindingFits fits entryNumbers lineOf entryRow nodeRow zeros admitted headed tableWith storeWith bindingsWith with readLines meant nameText numbersText lineText written nodeShown nodeNumbers nodeLines bindingLine bindingLines shown answerLine answered runText meantText answerTo
+unfolding every rejected putRow clearedFrom lines kindLine kind sortOf takes word-number countFits argumentFitsBy operandPlacedBy
+    operandSortedBy operandsFaultBy unusedZeroBy faultBy goodEntryBy goodNode tableLengthFits storeLengthFits tableCheckedBy storeChecked
+    bind has masked byKind tableBy nth put zip agree when again walk strategy variable whenAt matching needed building does roomFor settled
+    after runPlan closed run row named bindings ranBy number bindingWord bindingWords returnedBy sizesFitBy boundBelow isStart startFits
+    wordsRefusedBy refusedWithBy runWithBy parts valued numberOf numbersOf digits letterOf nameOf jobFits entryFits nodeFits bindingFits
+    fits entryNumbers lineOf entryRow nodeRow zeros admitted headed tableWith storeWith bindingsWith with readLines meant nameText
+    numbersText lineText written nodeShown nodeNumbers nodeLines bindingLine bindingLines shown answerLine answered runText meantText
+    answerTo
 job-answered = refl

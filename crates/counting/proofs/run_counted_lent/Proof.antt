@@ -36,7 +36,8 @@ returns-2 c =
     let is = c .before .before .before .refusal .ensures in
     ap (λ r. countedAtReturn r (a .store .now) (a .bindings .now) (a .counts .now)) (c .refused2 .ensures)
     ∙ counted-refused g i (a .counts .now) (c .before .before .before .refusal .result)
-    (refused-before (verdict g i (a .counts .now)) _ (a .counts .now) (c .before .before .before .before .before .before .if1 .left) (λ z. c .before .if2 .taken (ap (λ (c : Checked). c .answer) is ∙ z))
+    (refused-before (verdict g i (a .counts .now)) _ (a .counts .now) (c .before .before .before .before .before .before .if1 .left)
+    (λ z. c .before .if2 .taken (ap (λ (c : Checked). c .answer) is ∙ z))
     ∙ sym is)
     (c .before .if2 .taken)
 
@@ -55,15 +56,23 @@ returns-3 c =
     let passed = sym (ap (λ (c : Checked). c .answer) (c .before .before .before .before .before .before .before .refusal .ensures)) ∙ c .before .before .before .before .before .if2 .left in
     ap (λ r. countedAtReturn r (a .store .now) (a .bindings .now) (a .counts .now)) (c .refused3 .ensures)
     ∙ counted-refused g i (a .counts .now) (c .before .before .before .check-counts .result)
-    (refused-counts (verdict g i (a .counts .now)) _ (a .counts .now) (c .before .before .before .before .before .before .before .before .before .before .if1 .left) passed ∙ sym (c .before .before .before .check-counts .ensures)) (c .before .if3 .taken)
+    (refused-counts (verdict g i (a .counts .now)) _ (a .counts .now)
+    (c .before .before .before .before .before .before .before .before .before .before .if1 .left) passed
+    ∙ sym (c .before .before .before .check-counts .ensures)) (c .before .if3 .taken)
 
 run-on-requires : tie.Need-run-on-requires
 run-on-requires c κs =
     let a = c .before .before .before .before .before .before .before .before .before .before .before .before .before .before .before .before .before .before .args in
     let g = lentIf (a .signed) (a .signature .now) in
     let i = input (a .table .now) (a .store .now) (a .bindings .now) (a .mark) (a .start) (a .subject) (a .units) in
-    let ac = counted-accepted g i (a .counts .now) _ (c .before .before .before .before .before .before .before .before .before .refusal .ensures) (c .before .before .before .before .before .before .before .if2 .left) in
-    (ac, c .before .before .before .before .before .before .before .before .before .before .before .before .if1 .left, counts-room i (a .counts .now) ac (c .before .before .before .before .before .before .before .before .before .before .before .before .if1 .left) (sym (ap (λ (c : Checked). c .answer) (c .before .before .before .before .before .check-counts .ensures)) ∙ c .before .before .before .if3 .left))
+    let ac = counted-accepted g i (a .counts .now) _ (c .before .before .before .before .before .before .before .before .before .refusal .ensures) (c .before .before .before .before .before .before .before .if2 .left) in (
+      ac,
+      c .before .before .before .before .before .before .before .before .before .before .before .before .if1 .left,
+      counts-room i
+          (a .counts .now) ac (c .before .before .before .before .before .before .before .before .before .before .before .before .if1 .left)
+          (sym (ap (λ (c : Checked). c .answer) (c .before .before .before .before .before .check-counts .ensures))
+          ∙ c .before .before .before .if3 .left),
+    )
 
 returns-4 : tie.Need-returns-4
 returns-4 c =
@@ -73,7 +82,8 @@ returns-4 c =
     let passed = sym (ap (λ (c : Checked). c .answer) (c .before .before .before .before .before .before .before .before .before .before .before .before .before .before .before .before .refusal .ensures)) ∙ c .before .before .before .before .before .before .before .before .before .before .before .before .before .before .if2 .left in
     c .before .before .before .before .before .before .run-on .ensures
     ∙ counted-run g i (a .counts .now)
-    (ap (λ (c : Checked). c .answer) (refused-counts (verdict g i (a .counts .now)) _ (a .counts .now) (c .before .before .before .before .before .before .before .before .before .before .before .before .before .before .before .before .before .before .before .if1 .left) passed ∙ sym (c .before .before .before .before .before .before .before .before .before .before .before .before .check-counts .ensures))
+    (ap (λ (c : Checked). c .answer) (refused-counts (verdict g i (a .counts .now)) _ (a .counts .now)
+    (c .before .before .before .before .before .before .before .before .before .before .before .before .before .before .before .before .before .before .before .if1 .left) passed ∙ sym (c .before .before .before .before .before .before .before .before .before .before .before .before .check-counts .ensures))
     ∙ c .before .before .before .before .before .before .before .before .before .before .if3 .left)
 
 pub run-counted-lent-spec : {M : Type 1} → statement M

@@ -42,7 +42,9 @@ returns c =
     ∙ indexed-counted-refused g i (drop k w) (a .counts .now) (checked 2 0) (refused-length _ _ (a .counts .now) (c .before .if1 .taken)) (λ e. omega arith)
 
 slice-aggregate-indexed-refusal : tie.Need-slice-aggregate-indexed-refusal
-slice-aggregate-indexed-refusal c = sym (length-take-le (c .before .store-words .result) (c .before .before .before .before .before .before .before .before .args .lent .now) (omega (arith, c .before .store-words .ensures)))
+slice-aggregate-indexed-refusal c =
+    sym (length-take-le (c .before .store-words .result)
+    (c .before .before .before .before .before .before .before .before .args .lent .now) (omega (arith, c .before .store-words .ensures)))
 
 returns-2 : tie.Need-returns-2
 returns-2 c =
@@ -80,12 +82,16 @@ returns-3 c =
     let g = lentIf (a .signed) (a .signature .now) in
     let i = input (a .table .now) (take k w) (a .bindings .now) (a .mark) (a .start) (a .subject) (a .units) in
     let own = c .before .before .before .before .before .before .before .before .before .before .store-words .ensures in
-    let is = refused-is g (a .table .now) w (a .bindings .now) (a .mark) (a .start) (a .subject) (a .units) k (c .before .before .before .before .before .before .before .before .before .before .store-words .result)
-    (c .before .before .before .before .before .before .before .indexed-refusal .result) own (c .before .before .before .before .before .before .before .indexed-refusal .ensures (drop k w) (a .units) (drop-size k _ w own)) in
+    let is = refused-is g (a .table .now) w (a .bindings .now) (a .mark) (a .start) (a .subject) (a .units) k
+    (c .before .before .before .before .before .before .before .before .before .before .store-words .result)
+    (c .before .before .before .before .before .before .before .indexed-refusal .result) own
+    (c .before .before .before .before .before .before .before .indexed-refusal .ensures (drop k w) (a .units) (drop-size k _ w own)) in
     let passed = sym (ap (λ (c : Checked). c .answer) is) ∙ c .before .before .before .before .before .if2 .left in
     ap (λ r. indexedCountedAtReturn r (take k w) (a .bindings .now) (a .counts .now) (drop k w)) (c .refused3 .ensures)
     ∙ indexed-counted-refused g i (drop k w) (a .counts .now) (c .before .before .before .check-counts .result)
-    (refused-counts (indexedRefused g i (drop k w)) _ (a .counts .now) (c .before .before .before .before .before .before .before .before .before .before .before .if1 .left) passed ∙ sym (c .before .before .before .check-counts .ensures)) (c .before .if3 .taken)
+    (refused-counts (indexedRefused g i (drop k w)) _ (a .counts .now)
+    (c .before .before .before .before .before .before .before .before .before .before .before .if1 .left) passed
+    ∙ sym (c .before .before .before .check-counts .ensures)) (c .before .if3 .taken)
 
 slice-aggregate-run-on : tie.Need-slice-aggregate-run-on
 slice-aggregate-run-on c =
@@ -99,8 +105,11 @@ run-on-requires c κs =
     let g = lentIf (a .signed) (a .signature .now) in
     let i = input (a .table .now) (take k w) (a .bindings .now) (a .mark) (a .start) (a .subject) (a .units) in
     let own = c .before .before .before .before .before .before .before .before .before .before .before .before .before .before .before .before .store-words .ensures in
-    let is = refused-is g (a .table .now) w (a .bindings .now) (a .mark) (a .start) (a .subject) (a .units) k (c .before .before .before .before .before .before .before .before .before .before .before .before .before .before .before .before .store-words .result)
-    (c .before .before .before .before .before .before .before .before .before .before .before .before .before .indexed-refusal .result) own (c .before .before .before .before .before .before .before .before .before .before .before .before .before .indexed-refusal .ensures (drop k w) (a .units) (drop-size k _ w own)) in
+    let is = refused-is g (a .table .now) w (a .bindings .now) (a .mark) (a .start) (a .subject) (a .units) k
+    (c .before .before .before .before .before .before .before .before .before .before .before .before .before .before .before .before .store-words .result)
+    (c .before .before .before .before .before .before .before .before .before .before .before .before .before .indexed-refusal .result) own
+    (c .before .before .before .before .before .before .before .before .before .before .before .before .before .indexed-refusal .ensures
+    (drop k w) (a .units) (drop-size k _ w own)) in
     let ac = accepted g i (drop k w) _ is (c .before .before .before .before .before .before .before .before .before .before .before .if2 .left) in
     let mine = ap (take (c .before .before .before .before .before .before .before .before .before .before .before .before .before .before .before .before .store-words .result)) (c .before .before .before .before .before .clear-from .ensures) ∙ own-before w k _ own in (
       subst (λ s. Accepted (input (a .table .now) s (a .bindings .now) (a .mark) (a .start) (a .subject) (a .units))) (sym mine) ac,
@@ -116,16 +125,20 @@ returns-4 c =
     let g = lentIf (a .signed) (a .signature .now) in
     let i = input (a .table .now) (take k w) (a .bindings .now) (a .mark) (a .start) (a .subject) (a .units) in
     let own = c .before .before .before .before .before .before .before .before .before .before .before .before .before .before .before .before .before .before .before .before .before .before .before .store-words .ensures in
-    let is = refused-is g (a .table .now) w (a .bindings .now) (a .mark) (a .start) (a .subject) (a .units) k (c .before .before .before .before .before .before .before .before .before .before .before .before .before .before .before .before .before .before .before .before .before .before .before .store-words .result)
+    let is = refused-is g (a .table .now) w (a .bindings .now) (a .mark) (a .start) (a .subject) (a .units) k
+    (c .before .before .before .before .before .before .before .before .before .before .before .before .before .before .before .before .before .before .before .before .before .before .before .store-words .result)
     (c .before .before .before .before .before .before .before .before .before .before .before .before .before .before .before .before .before .before .before .before .indexed-refusal .result) own (c .before .before .before .before .before .before .before .before .before .before .before .before .before .before .before .before .before .before .before .before .indexed-refusal .ensures (drop k w) (a .units) (drop-size k _ w own)) in
-    let passed = sym (ap (λ (c : Checked). c .answer) is) ∙ c .before .before .before .before .before .before .before .before .before .before .before .before .before .before .before .before .before .before .if2 .left in
+    let passed = sym (ap (λ (c : Checked). c .answer) is)
+    ∙ c .before .before .before .before .before .before .before .before .before .before .before .before .before .before .before .before .before .before .if2 .left in
     let mine = ap (take (c .before .before .before .before .before .before .before .before .before .before .before .before .before .before .before .before .before .before .before .before .before .before .before .store-words .result)) (c .before .before .before .before .before .before .before .before .before .before .before .before .clear-from .ensures) ∙ own-before w k _ own in
-    let long = c .before .before .before .before .before .before .run-on .kept .1 .0 ∙ ap (λ v. length (take (c .before .before .before .before .before .before .before .before .before .before .before .before .before .before .before .before .before .before .before .before .before .before .before .store-words .result) v)) (c .before .before .before .before .before .before .before .before .before .before .before .before .clear-from .ensures) ∙ own-long w k _ own in
+    let long = c .before .before .before .before .before .before .run-on .kept .1 .0
+    ∙ ap (λ v. length (take (c .before .before .before .before .before .before .before .before .before .before .before .before .before .before .before .before .before .before .before .before .before .before .before .store-words .result) v)) (c .before .before .before .before .before .before .before .before .before .before .before .before .clear-from .ensures) ∙ own-long w k _ own in
     let ended : List ℕ → Input = λ s. input (a .table .now) s (a .bindings .now) (a .mark) (a .start) (a .subject) (a .units) in
     ended-with w k _ own _ long _ _ _ _ _ (c .before .before .before .before .before .before .before .before .before .before .before .before .clear-from .ensures)
     (c .before .before .before .before .before .before .run-on .ensures ∙ ap (λ s. countedEnd (ended s) (ranIf true (ended s)) (a .counts .now)) mine)
     ∙ indexed-counted-run g i (drop k w) (a .counts .now)
-    (ap (λ (c : Checked). c .answer) (refused-counts (indexedRefused g i (drop k w)) _ (a .counts .now) (c .before .before .before .before .before .before .before .before .before .before .before .before .before .before .before .before .before .before .before .before .before .before .before .before .if1 .left) passed
+    (ap (λ (c : Checked). c .answer) (refused-counts (indexedRefused g i (drop k w)) _ (a .counts .now)
+    (c .before .before .before .before .before .before .before .before .before .before .before .before .before .before .before .before .before .before .before .before .before .before .before .before .if1 .left) passed
     ∙ sym (c .before .before .before .before .before .before .before .before .before .before .before .before .before .before .before .before .check-counts .ensures)) ∙ c .before .before .before .before .before .before .before .before .before .before .before .before .before .before .if3 .left)
 
 pub run-indexed-counted-lent-spec : {M : Type 1} → statement M

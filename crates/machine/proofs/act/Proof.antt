@@ -10,7 +10,8 @@ use Rattle.meaning.specs.Store.{row}
 use Rattle.meaning.specs.Shared.{nodeWith}
 use Rattle.machine.specs.Stack.{rowAt, frameAt, present}
 use Rattle.machine.specs.Machine.{Opened, Carried}
-use Rattle.machine.proofs.Stacked.{carried-done, carried-failed, carried-missed, carried-stuck, carried-bound, carried-made, carried-asked, carried-deepest-in, carried-unscoped, carried-unscoped-deepest}
+use Rattle.machine.proofs.Stacked.{carried-done, carried-failed, carried-missed, carried-stuck, carried-bound, carried-made}
+use Rattle.machine.proofs.Stacked.{carried-asked, carried-deepest-in, carried-unscoped, carried-unscoped-deepest}
 use Rattle.machine.proofs.Standing.{none-shared, found-shared, node-found, node-none}
 use borrow.Author.Needs.{needs}
 use Rattle.machine.proofs.act.Statement.{statement}
@@ -42,9 +43,12 @@ returns : tie.Need-returns
 unfolding acts
 returns c =
     let a = c .before .before .before .before .before .before .before .before .before .before .before .before .args in
-    carried-made _ _ _ _ _ _ _ (c .before .before .before .before .before .before .before .before .before .before .before .before .pre .1) (c .before .before .before .before .before .before .before .enum-told6 .given .1) refl refl refl
+    carried-made _ _ _ _ _ _ _ (c .before .before .before .before .before .before .before .before .before .before .before .before .pre .1)
+    (c .before .before .before .before .before .before .before .enum-told6 .given .1) refl refl refl
     (node-found _ _ _ (a .m) (a .t .x ∷ 0 ∷ 0 ∷ 0 ∷ 0 ∷ 0 ∷ 0 ∷ 0 ∷ []) _
-    (found-shared _ _ (a .i) (a .m) (a .t .x ∷ 0 ∷ 0 ∷ 0 ∷ 0 ∷ 0 ∷ 0 ∷ 0 ∷ []) (c .before .before .before .before .before .before .if1 .taken) (c .before .before .before .before .standing-leaf .ensures) (c .before .before .found .given .1))
+    (found-shared _ _ (a .i) (a .m) (a .t .x ∷ 0 ∷ 0 ∷ 0 ∷ 0 ∷ 0 ∷ 0 ∷ 0 ∷ [])
+    (c .before .before .before .before .before .before .if1 .taken) (c .before .before .before .before .standing-leaf .ensures)
+    (c .before .before .found .given .1))
     (c .state4 .ensures))
 
 returns-2 : tie.Need-returns-2
@@ -53,7 +57,8 @@ returns-2 c =
     let a = c .before .before .before .before .before .before .before .before .before .before .before .before .before .args in
     let r = rowAt (a .work .now) (10 * a .i + 1) in
     carried-made _ _ _ _ _ _ _ (c .before .before .before .before .before .before .before .before .before .before .before .before .before .pre .1) (c .before .before .before .before .before .before .before .before .enum-told8 .given .1) refl refl refl
-    (node-found _ _ _ (a .m) r _ (found-shared _ _ (a .i) (a .m) r (c .before .before .before .before .before .before .before .if2 .taken) (c .before .before .before .before .standing-row .ensures) (c .before .before .found2 .given .1)) (c .state5 .ensures))
+    (node-found _ _ _ (a .m) r _ (found-shared _ _ (a .i) (a .m) r (c .before .before .before .before .before .before .before .if2 .taken)
+    (c .before .before .before .before .standing-row .ensures) (c .before .before .found2 .given .1)) (c .state5 .ensures))
 
 returns-3 : tie.Need-returns-3
 returns-3 c =
@@ -61,7 +66,9 @@ returns-3 c =
     (c .before .before .before .before .before .before .before .kept-mask .ensures) refl (c .before .before .before .before .copy-words .ensures) refl
 
 returns-4 : tie.Need-returns-4
-returns-4 c = carried-done _ _ _ _ _ _ _ (c .before .before .before .before .before .before .pre .1) (c .before .before .before .before .before .before .pre .0) (c .before .enum-told .given .1) (c .state .ensures)
+returns-4 c =
+    carried-done _ _ _ _ _ _ _ (c .before .before .before .before .before .before .pre .1)
+    (c .before .before .before .before .before .before .pre .0) (c .before .enum-told .given .1) (c .state .ensures)
 
 returns-5 : tie.Need-returns-5
 returns-5 c = carried-failed _ _ _ _ _ _ _ (c .before .before .before .before .before .before .pre .1) (c .before .enum-told2 .given .1) (c .state2 .ensures)
@@ -73,7 +80,9 @@ returns-7 : tie.Need-returns-7
 returns-7 c = carried-stuck _ _ _ _ _ _ _ (c .before .before .before .before .before .before .pre .1) (c .before .enum-told4 .given .1) (c .state3 .ensures)
 
 returns-8 : tie.Need-returns-8
-returns-8 c = carried-bound _ _ _ _ _ _ _ (c .before .before .before .before .before .before .before .pre .1) (c .before .before .before .before .before .before .before .pre .0) (c .before .before .enum-told5 .given .1) refl refl
+returns-8 c =
+    carried-bound _ _ _ _ _ _ _ (c .before .before .before .before .before .before .before .pre .1)
+    (c .before .before .before .before .before .before .before .pre .0) (c .before .before .enum-told5 .given .1) refl refl
 
 returns-9 : tie.Need-returns-9
 unfolding acts
@@ -84,7 +93,9 @@ returns-9 c =
     (λ w. found-shared (a .shares) (a .store .now) (a .i) (a .m) r (w .0 .taken) (w .2 .ensures) (w .4 .given .1))
     (λ w. none-shared (a .shares) (a .store .now) (a .i) (a .m) r (w .left))
     (c .before .before .before .before .if1 .came) in
-    carried-made _ _ _ _ _ _ _ (c .before .before .before .before .before .before .before .before .before .before .pre .1) (c .before .before .before .before .before .enum-told6 .given .1) refl refl refl (node-none _ _ _ _ _ none-stands (c .before .before .put-node .ensures))
+    carried-made _ _ _ _ _ _ _ (c .before .before .before .before .before .before .before .before .before .before .pre .1)
+    (c .before .before .before .before .before .enum-told6 .given .1) refl refl refl
+    (node-none _ _ _ _ _ none-stands (c .before .before .put-node .ensures))
 
 returns-10 : tie.Need-returns-10
 unfolding acts
@@ -97,7 +108,8 @@ returns-10 c =
     (w .3 .ensures ∙ ap (λ r. nodeWith (a .store .now) (row (getD r 0 0) (kids r)) (a .m .mark)) (sym is)) (w .5 .given .1))
     (λ w. none-shared (a .shares) (a .store .now) (a .i) (a .m) r (w .left))
     (c .before .before .before .before .before .before .if2 .came) in
-    carried-made _ _ _ _ _ _ _ (c .before .before .before .before .before .before .before .before .before .before .before .before .pre .1) (c .before .before .before .before .before .before .before .enum-told8 .given .1) refl (ap (λ r. getD r 0 0) is) (ap kids is)
+    carried-made _ _ _ _ _ _ _ (c .before .before .before .before .before .before .before .before .before .before .before .before .pre .1)
+    (c .before .before .before .before .before .before .before .enum-told8 .given .1) refl (ap (λ r. getD r 0 0) is) (ap kids is)
     (node-none _ _ _ _ _ none-stands (c .before .before .put-node2 .ensures))
 
 same-length-9 : tie.Need-same-length-9
@@ -111,13 +123,18 @@ returns-11 c =
     let told = c .before .before .before .before .enum-told10 .given .1 in
     ⊎-elim
     (λ w.
-    carried-asked _ _ _ _ (a .i) _ (a .t) (c .before .before .before .before .before .before .before .before .before .pre .1) {g = frame} (w .0 .taken) told refl (small (c .before .before .before .before .before .before .before .before .before))
+    carried-asked _ _ _ _ (a .i) _ (a .t) (c .before .before .before .before .before .before .before .before .before .pre .1) {g = frame}
+    (w .0 .taken) told refl (small (c .before .before .before .before .before .before .before .before .before))
     (subst (Opened (a .work .now) (10 * a .i) frame (present (a .work .now) (a .m)) (a .m .mark)) (sym (w .6)) (w .3 .ensures)) refl)
-    (λ w. carried-deepest-in _ _ _ _ (a .i) _ (a .t) (c .before .before .before .before .before .before .before .before .before .pre .1) frame (w .1) (omega (arith, w .0 .left)) told refl (small (c .before .before .before .before .before .before .before .before .before)) refl)
+    (λ w. carried-deepest-in _ _ _ _ (a .i) _ (a .t) (c .before .before .before .before .before .before .before .before .before .pre .1)
+    frame (w .1) (omega (arith, w .0 .left)) told refl
+    (small (c .before .before .before .before .before .before .before .before .before)) refl)
     (c .before .before .before .if3 .came)
 
 same-length-10 : tie.Need-same-length-10
-same-length-10 c = ⊎-elim (λ w. ap length (w .5) ∙ w .2 .ensures (c .before .before .before .before .before .before .before .before .before .args .t) refl .long) (λ w. ap length (w .1)) (c .before .before .before .if4 .came)
+same-length-10 c =
+    ⊎-elim (λ w. ap length (w .5) ∙ w .2 .ensures (c .before .before .before .before .before .before .before .before .before .args .t)
+    refl .long) (λ w. ap length (w .1)) (c .before .before .before .if4 .came)
 
 returns-12 : tie.Need-returns-12
 unfolding acts
@@ -127,15 +144,20 @@ returns-12 c =
     let told = c .before .before .before .before .enum-told11 .given .1 in
     ⊎-elim
     (λ w.
-    carried-asked _ _ _ _ (a .i) _ (a .t) (c .before .before .before .before .before .before .before .before .before .pre .1) {g = frame} (w .0 .taken) told refl (small (c .before .before .before .before .before .before .before .before .before))
+    carried-asked _ _ _ _ (a .i) _ (a .t) (c .before .before .before .before .before .before .before .before .before .pre .1) {g = frame}
+    (w .0 .taken) told refl (small (c .before .before .before .before .before .before .before .before .before))
     (subst (Opened (a .work .now) (10 * a .i) frame (present (a .work .now) (a .m)) (a .m .mark)) (sym (w .5)) (w .2 .ensures (a .t) refl))
     refl)
-    (λ w. carried-deepest-in _ _ _ _ (a .i) _ (a .t) (c .before .before .before .before .before .before .before .before .before .pre .1) frame (w .1) (omega (arith, w .0 .left)) told refl (small (c .before .before .before .before .before .before .before .before .before)) refl)
+    (λ w. carried-deepest-in _ _ _ _ (a .i) _ (a .t) (c .before .before .before .before .before .before .before .before .before .pre .1)
+    frame (w .1) (omega (arith, w .0 .left)) told refl
+    (small (c .before .before .before .before .before .before .before .before .before)) refl)
     (c .before .before .before .if4 .came)
 
 returns-13 : tie.Need-returns-13
 returns-13 c =
-    carried-unscoped-deepest _ _ _ _ _ _ _ (c .before .before .before .before .before .before .before .pre .1) (c .before .before .before .before .before .before .before .pre .0) (omega (arith, c .before .if5 .left)) (c .before .before .enum-told12 .given .1) (c .state6 .ensures)
+    carried-unscoped-deepest _ _ _ _ _ _ _ (c .before .before .before .before .before .before .before .pre .1)
+    (c .before .before .before .before .before .before .before .pre .0) (omega (arith, c .before .if5 .left))
+    (c .before .before .enum-told12 .given .1) (c .state6 .ensures)
 
 pub act-spec : {M : Type 1} → statement M
 act-spec =

@@ -33,7 +33,8 @@ same-length-2 c = c .before .before .before .before .loop .inv .0 .work
 
 returns : tie.Need-returns Inv-loop μ-loop
 returns c =
-    gone-asking (c .before .before .before .before .loop .inv .1) (inl (c .if2 .taken)) (c .before .before .if1 .taken) (stopped-asking (c .before .before .before .before .loop .inv .0) (inl (c .if2 .taken)) (c .before .before .if1 .taken))
+    gone-asking (c .before .before .before .before .loop .inv .1) (inl (c .if2 .taken)) (c .before .before .if1 .taken)
+    (stopped-asking (c .before .before .before .before .loop .inv .0) (inl (c .if2 .taken)) (c .before .before .if1 .taken))
 
 same-length-3 : tie.Need-same-length-3 Inv-loop μ-loop
 same-length-3 c = c .before .before .before .before .before .before .loop .inv .0 .store
@@ -48,7 +49,9 @@ returns-2 c =
 
 sub-m : tie.Need-sub-m Inv-loop μ-loop
 sub-m c =
-    ⊎-elim (λ z. omega arith) (λ z. absurd (c .before .before .before .if2 .left (omega (arith, c .before .before .before .before .before .before .before .loop .inv .0 .rest)))) (below-or-from 0 (c .before .before .before .before .before .before .before .loop .m .fuel))
+    ⊎-elim (λ z. omega arith) (λ z. absurd (c .before .before .before .if2 .left
+    (omega (arith, c .before .before .before .before .before .before .before .loop .inv .0 .rest))))
+    (below-or-from 0 (c .before .before .before .before .before .before .before .loop .m .fuel))
 
 same-length-5 : tie.Need-same-length-5 Inv-loop μ-loop
 same-length-5 c = c .before .before .before .before .loop .inv .0 .store
@@ -101,14 +104,21 @@ same-length-10 : tie.Need-same-length-10 Inv-loop μ-loop
 same-length-10 c = c .before .before .before .before .before .turned .ensures .work ∙ c .before .before .before .before .before .before .before .before .before .before .loop .inv .0 .work
 
 returns-5 : tie.Need-returns-5 Inv-loop μ-loop
-returns-5 c = gone-once (c .before .before .before .before .before .before .before .before .before .before .loop .inv .1) (c .if6 .taken) (comes (c .before .before .before .before .before .before .before .before)) (c .before .before .before .before .before .turned .ensures)
+returns-5 c =
+    gone-once (c .before .before .before .before .before .before .before .before .before .before .loop .inv .1) (c .if6 .taken)
+    (comes (c .before .before .before .before .before .before .before .before)) (c .before .before .before .before .before .turned .ensures)
 
 loop-less : tie.Need-loop-less Inv-loop μ-loop
-loop-less c = nearer (c .before .before .before .before .before .before .before .before .before .before .loop .inv .0) _ _ (comes (c .before .before .before .before .before .before .before .before)) _ (c .before .before .before .before .before .turned .ensures)
+loop-less c =
+    nearer (c .before .before .before .before .before .before .before .before .before .before .loop .inv .0) _ _
+    (comes (c .before .before .before .before .before .before .before .before)) _
+    (c .before .before .before .before .before .turned .ensures)
 
 loop-again : tie.Need-loop-again Inv-loop μ-loop
 loop-again c = (
-  further (c .before .before .before .before .before .before .before .before .before .before .loop .inv .0) _ _ (comes (c .before .before .before .before .before .before .before .before)) _ (c .before .before .before .before .before .turned .ensures),
+  further (c .before .before .before .before .before .before .before .before .before .before .loop .inv .0) _ _
+      (comes (c .before .before .before .before .before .before .before .before)) _
+      (c .before .before .before .before .before .turned .ensures),
   λ e. absurd (true≢false (sym e ∙ c .if6 .left)),
 )
 

@@ -14,7 +14,9 @@ sub-t27 c =
     let at-answer-of = at-a .before .before in
     let at-apply = at-answer-of .before .before .before in
     let start = at-apply .before .before .before .before .before .before in
-    done-left (start .args .code .now) (start .args .store .now) (start .args .st .now) _ _ _ (start .fits .units .fits) _ _ (at-apply .before .done .ensures) (start .pre) _ _ (at-apply .apply .ensures) _ (at-answer-of .answer-of .ensures) _ _ (at-a .a .given .1)
+    done-left (start .args .code .now) (start .args .store .now) (start .args .st .now) _ _ _ (start .fits .units .fits) _ _
+    (at-apply .before .done .ensures) (start .pre) _ _ (at-apply .apply .ensures) _ (at-answer-of .answer-of .ensures) _ _
+    (at-a .a .given .1)
 
 sub-t31 : tie.Need-sub-t31
 sub-t31 c =
@@ -22,7 +24,9 @@ sub-t31 c =
     let at-answer-of = at-a .before .before in
     let at-apply = at-answer-of .before .before .before in
     let start = at-apply .before .before .before .before .before .before in
-    failed-left (start .args .code .now) (start .args .store .now) (start .args .st .now) _ _ _ (start .fits .units .fits) _ _ (at-apply .before .done .ensures) (start .pre) _ _ (at-apply .apply .ensures) _ (at-answer-of .answer-of .ensures) _ (at-a .a2 .given .1)
+    failed-left (start .args .code .now) (start .args .store .now) (start .args .st .now) _ _ _ (start .fits .units .fits) _ _
+    (at-apply .before .done .ensures) (start .pre) _ _ (at-apply .apply .ensures) _ (at-answer-of .answer-of .ensures) _
+    (at-a .a2 .given .1)
 
 sub-t36 : tie.Need-sub-t36
 sub-t36 c =
@@ -30,7 +34,9 @@ sub-t36 c =
     let at-answer-of = at-a .before .before in
     let at-apply = at-answer-of .before .before .before in
     let start = at-apply .before .before .before .before .before .before in
-    cut-left (start .args .code .now) (start .args .store .now) (start .args .st .now) _ _ _ (start .fits .units .fits) _ _ (at-apply .before .done .ensures) (start .pre) _ _ (at-apply .apply .ensures) _ (at-answer-of .answer-of .ensures) _ (at-a .a3 .given .1)
+    cut-left (start .args .code .now) (start .args .store .now) (start .args .st .now) _ _ _ (start .fits .units .fits) _ _
+    (at-apply .before .done .ensures) (start .pre) _ _ (at-apply .apply .ensures) _ (at-answer-of .answer-of .ensures) _
+    (at-a .a3 .given .1)
 
 returns : tie.Need-returns
 returns c =
@@ -38,7 +44,9 @@ returns c =
     let at-answer-of = at-a .before .before in
     let at-apply = at-answer-of .before .before .before in
     let start = at-apply .before .before .before .before .before .before in
-    done-ends (start .args .code .now) (start .args .store .now) (start .args .st .now) _ _ _ (start .fits .units .fits) _ _ (at-apply .before .done .ensures) (start .pre) _ _ (at-apply .apply .ensures) _ (at-answer-of .answer-of .ensures) _ _ (at-a .a .given .1)
+    done-ends (start .args .code .now) (start .args .store .now) (start .args .st .now) _ _ _ (start .fits .units .fits) _ _
+    (at-apply .before .done .ensures) (start .pre) _ _ (at-apply .apply .ensures) _ (at-answer-of .answer-of .ensures) _ _
+    (at-a .a .given .1)
 
 returns-2 : tie.Need-returns-2
 returns-2 c =
@@ -46,7 +54,9 @@ returns-2 c =
     let at-answer-of = at-a .before .before in
     let at-apply = at-answer-of .before .before .before in
     let start = at-apply .before .before .before .before .before .before in
-    failed-ends (start .args .code .now) (start .args .store .now) (start .args .st .now) _ _ _ (start .fits .units .fits) _ _ (at-apply .before .done .ensures) (start .pre) _ _ (at-apply .apply .ensures) _ (at-answer-of .answer-of .ensures) _ (at-a .a2 .given .1)
+    failed-ends (start .args .code .now) (start .args .store .now) (start .args .st .now) _ _ _ (start .fits .units .fits) _ _
+    (at-apply .before .done .ensures) (start .pre) _ _ (at-apply .apply .ensures) _ (at-answer-of .answer-of .ensures) _
+    (at-a .a2 .given .1)
 
 returns-3 : tie.Need-returns-3
 returns-3 c =
@@ -54,7 +64,9 @@ returns-3 c =
     let at-answer-of = at-a .before .before in
     let at-apply = at-answer-of .before .before .before in
     let start = at-apply .before .before .before .before .before .before in
-    cut-ends (start .args .code .now) (start .args .store .now) (start .args .st .now) _ _ _ (start .fits .units .fits) _ _ (at-apply .before .done .ensures) (start .pre) _ _ (at-apply .apply .ensures) _ (at-answer-of .answer-of .ensures) _ (at-a .a3 .given .1) _ _ (c .before .cut-answer .ensures) (c .cut-place .ensures)
+    cut-ends (start .args .code .now) (start .args .store .now) (start .args .st .now) _ _ _ (start .fits .units .fits) _ _
+    (at-apply .before .done .ensures) (start .pre) _ _ (at-apply .apply .ensures) _ (at-answer-of .answer-of .ensures) _
+    (at-a .a3 .given .1) _ _ (c .before .cut-answer .ensures) (c .cut-place .ensures)
 
 pub run-accepted-spec : {M : Type 1} → statement M
 run-accepted-spec =

@@ -114,7 +114,12 @@ returns-4 c = (
 )
 
 end-requires : tie.Need-end-requires Inv-loop μ-loop
-end-requires c κs = (c .before .before .before .before .before .before .before .before .loop .inv .0 .low (omega (arith, c .before .before .before .before .before .before .if1 .left)), omega (arith, c .before .before .before .before .before .before .before .before .loop .inv .0 .long))
+end-requires c κs = (
+  c .before .before .before .before .before .before .before .before .loop .inv .0 .low
+      (omega (arith, c .before .before .before .before .before .before .if1 .left)),
+  omega
+      (arith, c .before .before .before .before .before .before .before .before .loop .inv .0 .long),
+)
 
 comes : (c : tie.Joined1 Inv-loop μ-loop) → Comes (c .before .before .loop .m) (c .before .before .loop .s) (c .before .before .loop .kept)
     (c .before .before .loop .counts) (c .if1 .s) (c .if1 .kept) (c .if1 .counts)

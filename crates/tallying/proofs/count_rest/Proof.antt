@@ -15,16 +15,28 @@ returns : tie.Need-returns
 returns c = c .before .before .fly .ensures ∙ rest-asked _ _ (c .before .before .before .before .before .before .before .before .args .m) (c .before .before .before .before .if1 .taken)
 
 end-requires : tie.Need-end-requires
-end-requires c κs = (c .before .before .before .before .before .before .before .pre .1 (omega (arith, c .before .before .before .if1 .left)), c .before .before .before .before .before .before .before .pre .2)
+end-requires c κs = (
+  c .before .before .before .before .before .before .before .pre .1 (omega (arith, c .before .before .before .if1 .left)),
+  c .before .before .before .before .before .before .before .pre .2,
+)
 
 returns-2 : tie.Need-returns-2
-returns-2 c = c .before .before .end .ensures ∙ rest-ended _ _ (c .before .before .before .before .before .before .before .before .before .before .args .m) (c .before .before .before .before .before .before .if1 .left) (c .before .before .before .before .if2 .taken)
+returns-2 c =
+    c .before .before .end .ensures ∙ rest-ended _ _ (c .before .before .before .before .before .before .before .before .before .before .args .m) (c .before .before .before .before .before .before .if1 .left) (c .before .before .before .before .if2 .taken)
 
 fly-requires-2 : tie.Need-fly-requires-2
-fly-requires-2 c κs = (omega (arith, c .before .before .before .before .before .before .before .before .pre .1 (omega (arith, c .before .before .before .before .if1 .left))), c .before .before .before .before .before .before .before .before .pre .2)
+fly-requires-2 c κs = (
+  omega (
+    arith,
+    c .before .before .before .before .before .before .before .before .pre .1
+        (omega (arith, c .before .before .before .before .if1 .left)),
+  ),
+  c .before .before .before .before .before .before .before .before .pre .2,
+)
 
 returns-3 : tie.Need-returns-3
-returns-3 c = c .before .before .fly2 .ensures ∙ rest-cut _ _ (c .before .before .before .before .before .before .before .before .before .before .before .args .m) (c .before .before .before .before .before .if2 .left)
+returns-3 c =
+    c .before .before .fly2 .ensures ∙ rest-cut _ _ (c .before .before .before .before .before .before .before .before .before .before .before .args .m) (c .before .before .before .before .before .if2 .left)
 
 pub count-rest-spec : {M : Type 1} → statement M
 count-rest-spec =

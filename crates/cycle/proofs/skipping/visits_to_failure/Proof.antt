@@ -30,7 +30,8 @@ returns-5 c =
     let at-entry2 = at-agree .before in
     let at-entry = at-entry2 .before .before in
     let start = at-entry .before .before in
-    skips-hint (start .pre .0) (start .pre .1) (start .pre .3) (at-entry .entry .ensures) (at-entry2 .entry2 .ensures) (sym (at-agree .agree .ensures) ∙ at-if2 .if2 .left) (omega (arith, c .if4 .left)) (omega (arith, at-if3 .if3 .left))
+    skips-hint (start .pre .0) (start .pre .1) (start .pre .3) (at-entry .entry .ensures) (at-entry2 .entry2 .ensures)
+    (sym (at-agree .agree .ensures) ∙ at-if2 .if2 .left) (omega (arith, c .if4 .left)) (omega (arith, at-if3 .if3 .left))
 
 pub visits-to-failure-spec : {M : Type 1} → statement M
 visits-to-failure-spec =

@@ -34,4 +34,5 @@ use Walk.{walk-closed}
 pub +apply+apply-first+apply-in-scope+apply-loop+begin-seq+cong+guard+hiding+keep-subject+one+path+rule+scope+walk-spec : {M : Type 1} → statement M
 +apply+apply-first+apply-in-scope+apply-loop+begin-seq+cong+guard+hiding+keep-subject+one+path+rule+scope+walk-spec =
     close μ-apply μ-apply-first μ-apply-in-scope μ-apply-loop μ-begin-seq μ-cong μ-guard μ-hiding μ-keep-subject μ-one μ-path μ-rule μ-scope μ-walk
-    apply-closed apply-first-closed apply-in-scope-closed apply-loop-closed begin-seq-closed cong-closed guard-closed hiding-closed keep-subject-closed one-closed path-closed rule-closed scope-closed walk-closed
+    apply-closed apply-first-closed apply-in-scope-closed apply-loop-closed begin-seq-closed cong-closed guard-closed hiding-closed
+    keep-subject-closed one-closed path-closed rule-closed scope-closed walk-closed

@@ -11,13 +11,22 @@ returns : tie.Need-returns
 returns c = ahead-none
 
 returns-2 : tie.Need-returns-2
-returns-2 c = ahead-hint (c .before .before .before .before .pre .0) (c .before .before .before .before .pre .1) (inl (sym (c .before .before .kind .ensures) ∙ c .before .match .keys1)) (omega (arith, c .before .before .before .if1 .left)) (c .entry .ensures)
+returns-2 c =
+    ahead-hint (c .before .before .before .before .pre .0) (c .before .before .before .before .pre .1)
+    (inl (sym (c .before .before .kind .ensures) ∙ c .before .match .keys1)) (omega (arith, c .before .before .before .if1 .left))
+    (c .entry .ensures)
 
 returns-3 : tie.Need-returns-3
-returns-3 c = ahead-hint (c .before .before .before .before .pre .0) (c .before .before .before .before .pre .1) (inr (inr (sym (c .before .before .kind .ensures) ∙ c .before .match .keys2))) (omega (arith, c .before .before .before .if1 .left)) (c .entry2 .ensures)
+returns-3 c =
+    ahead-hint (c .before .before .before .before .pre .0) (c .before .before .before .before .pre .1)
+    (inr (inr (sym (c .before .before .kind .ensures) ∙ c .before .match .keys2))) (omega (arith, c .before .before .before .if1 .left))
+    (c .entry2 .ensures)
 
 returns-4 : tie.Need-returns-4
-returns-4 c = ahead-hint (c .before .before .before .before .pre .0) (c .before .before .before .before .pre .1) (inr (inl (sym (c .before .before .kind .ensures) ∙ c .before .match .keys3))) (omega (arith, c .before .before .before .if1 .left)) (c .entry3 .ensures)
+returns-4 c =
+    ahead-hint (c .before .before .before .before .pre .0) (c .before .before .before .before .pre .1)
+    (inr (inl (sym (c .before .before .kind .ensures) ∙ c .before .match .keys3))) (omega (arith, c .before .before .before .if1 .left))
+    (c .entry3 .ensures)
 
 returns-5 : tie.Need-returns-5
 returns-5 c = ahead-none

@@ -45,7 +45,9 @@ same-length c = c .before .before .before .before .before .before .loop .inv .1
 returns : tie.Need-returns Inv-loop μ-loop
 returns c =
     rejected-stop _ _ _ _ (c .before .before .before .before .before .before .loop .inv .3) (c .before .before .before .before .before .loop-test .taken)
-    (fresh-by _ (c .before .before .before .before .eight-words .result) (c .before .before .before .before .before .before .loop .k) (c .before .before .find .result) false (c .before .before .find .ensures) (c .before .before .before .before .eight-words .ensures) (ap (λ f. absent (placeOf f)) (c .enum-told .given .1)))
+    (fresh-by _ (c .before .before .before .before .eight-words .result) (c .before .before .before .before .before .before .loop .k)
+    (c .before .before .find .result) false (c .before .before .find .ensures) (c .before .before .before .before .eight-words .ensures)
+    (ap (λ f. absent (placeOf f)) (c .enum-told .given .1)))
 
 enum-told-2 : tie.Need-enum-told-2 Inv-loop μ-loop
 enum-told-2 c = search needs
@@ -54,7 +56,18 @@ home-of-requires : tie.Need-home-of-requires Inv-loop μ-loop
 home-of-requires c κs = c .before .before .before .before .before .before .loop .inv .2 .some
 
 link-requires : tie.Need-link-requires Inv-loop μ-loop
-link-requires c κs = (c .before .before .before .before .before .before .before .before .loop .inv .2 .long, place-below (c .before .before .before .before .before .before .before .before .before .before .before .args .n) (c .before .before .before .before .before .before .eight-words .result) (c .before .home-of .ensures) (c .before .before .before .before .before .before .before .before .loop .inv .2 .some), omega (arith, c .before .before .before .before .before .before .before .loop-test .taken, c .before .before .before .before .before .before .before .before .before .before .before .pre .1))
+link-requires c κs = (
+  c .before .before .before .before .before .before .before .before .loop .inv .2 .long,
+  place-below
+      (c .before .before .before .before .before .before .before .before .before .before .before .args .n)
+      (c .before .before .before .before .before .before .eight-words .result) (c .before .home-of .ensures)
+      (c .before .before .before .before .before .before .before .before .loop .inv .2 .some),
+  omega (
+    arith,
+    c .before .before .before .before .before .before .before .loop-test .taken,
+    c .before .before .before .before .before .before .before .before .before .before .before .pre .1,
+  ),
+)
 
 add-k : tie.Need-add-k Inv-loop μ-loop
 add-k c = omega arith
@@ -65,13 +78,29 @@ loop-less c = omega (arith, c .before .before .before .before .before .before .b
 loop-again : tie.Need-loop-again Inv-loop μ-loop
 loop-again c =
     let e : c .before .before .link .last .0 ≡ linked (c .before .before .before .before .before .before .before .before .before .before .before .loop .index) 0 (c .before .before .before .before .before .before .before .before .before .before .before .before .before .before .args .n) (place (c .before .before .before .before .before .before .before .before .before .before .before .before .before .before .args .store .now) (c .before .before .before .before .before .before .before .before .before .before .before .before .before .before .args .n) (c .before .before .before .before .before .before .before .before .before .before .before .loop .k)) (c .before .before .before .before .before .before .before .before .before .before .before .loop .k) =
-    c .before .before .link .ensures ∙ ap (λ q. linked (c .before .before .before .before .before .before .before .before .before .before .before .loop .index) 0 (c .before .before .before .before .before .before .before .before .before .before .before .before .before .before .args .n) q (c .before .before .before .before .before .before .before .before .before .before .before .loop .k)) (c .before .before .before .before .home-of .ensures ∙ ap (home (c .before .before .before .before .before .before .before .before .before .before .before .before .before .before .args .n)) (c .before .before .before .before .before .before .before .before .before .eight-words .ensures)) in
-    let h = indexed-linked (c .before .before .before .before .before .before .before .before .before .before .before .loop .inv .2) (omega (arith, c .before .before .before .before .before .before .before .before .before .before .loop-test .taken, c .before .before .before .before .before .before .before .before .before .before .before .before .before .before .pre .1)) in (
+    c .before .before .link .ensures ∙ ap (λ q. linked
+    (c .before .before .before .before .before .before .before .before .before .before .before .loop .index) 0
+    (c .before .before .before .before .before .before .before .before .before .before .before .before .before .before .args .n) q
+    (c .before .before .before .before .before .before .before .before .before .before .before .loop .k))
+    (c .before .before .before .before .home-of .ensures
+    ∙ ap (home (c .before .before .before .before .before .before .before .before .before .before .before .before .before .before .args .n)) (c .before .before .before .before .before .before .before .before .before .eight-words .ensures)) in
+    let h = indexed-linked (c .before .before .before .before .before .before .before .before .before .before .before .loop .inv .2)
+    (omega (
+      arith,
+      c .before .before .before .before .before .before .before .before .before .before .loop-test .taken,
+      c .before .before .before .before .before .before .before .before .before .before .before .before .before .before .pre .1,
+    )) in (
       omega (arith, c .before .before .before .before .before .before .before .before .before .before .loop-test .taken),
       ap length e ∙ length-linked _ _ _ _ _ ∙ c .before .before .before .before .before .before .before .before .before .before .before .loop .inv .1,
       subst (λ l. Indexed (c .before .before .before .before .before .before .before .before .before .before .before .before .before .before .args .store .now) l 0 (c .before .before .before .before .before .before .before .before .before .before .before .before .before .before .args .n) (c .before .before .before .before .before .before .before .before .before .before .before .loop .k + 1)) (sym e) (subst (Indexed _ _ 0 (c .before .before .before .before .before .before .before .before .before .before .before .before .before .before .args .n)) (sym (add-one (c .before .before .before .before .before .before .before .before .before .before .before .loop .k))) h),
-      rejected-turn _ _ _ _ (c .before .before .before .before .before .before .before .before .before .before .before .loop .inv .3) (c .before .before .before .before .before .before .before .before .before .before .loop-test .taken)
-          (fresh-by _ (c .before .before .before .before .before .before .before .before .before .eight-words .result) (c .before .before .before .before .before .before .before .before .before .before .before .loop .k) (c .before .before .before .before .before .before .before .find .result) true (c .before .before .before .before .before .before .before .find .ensures) (c .before .before .before .before .before .before .before .before .before .eight-words .ensures) (ap (λ f. absent (placeOf f)) (c .before .before .before .before .before .enum-told2 .given .1))),
+      rejected-turn _ _ _ _ (c .before .before .before .before .before .before .before .before .before .before .before .loop .inv .3)
+          (c .before .before .before .before .before .before .before .before .before .before .loop-test .taken)
+          (fresh-by _ (c .before .before .before .before .before .before .before .before .before .eight-words .result)
+          (c .before .before .before .before .before .before .before .before .before .before .before .loop .k)
+          (c .before .before .before .before .before .before .before .find .result) true
+          (c .before .before .before .before .before .before .before .find .ensures)
+          (c .before .before .before .before .before .before .before .before .before .eight-words .ensures)
+          (ap (λ f. absent (placeOf f)) (c .before .before .before .before .before .enum-told2 .given .1))),
     )
 
 same-length-2 : tie.Need-same-length-2 Inv-loop μ-loop

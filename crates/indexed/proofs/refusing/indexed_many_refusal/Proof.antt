@@ -21,15 +21,18 @@ returns-2 c = λ rs x u n e. rw (ne-eqb (length rs) (5 * length (c .before .befo
 
 returns-3 : tie.Need-returns-3
 unfolding indexedManyRefusedBy
-returns-3 c = λ rs x u n e. rw (eq-eqb (length rs) (5 * length (c .before .before .before .before .before .before .before .before .before .before .args .subjects .now)) (omega (arith, n, c .before .before .before .before .if1 .left, c .before .before .before .if2 .left)), ← c .before .before .indexed-words-refusal .ensures x e, ne-eqb _ 0 (c .if3 .taken))
+returns-3 c =
+    λ rs x u n e. rw (eq-eqb (length rs) (5 * length (c .before .before .before .before .before .before .before .before .before .before .args .subjects .now)) (omega (arith, n, c .before .before .before .before .if1 .left, c .before .before .before .if2 .left)), ← c .before .before .indexed-words-refusal .ensures x e, ne-eqb _ 0 (c .if3 .taken))
 
 returns-4 : tie.Need-returns-4
 unfolding indexedManyRefusedBy
-returns-4 c = λ rs x u n e. rw (eq-eqb (length rs) (5 * length (c .before .before .before .before .before .before .before .before .before .before .before .before .args .subjects .now)) (omega (arith, n, c .before .before .before .before .before .before .if1 .left, c .before .before .before .before .before .if2 .left)), ← c .before .before .before .before .indexed-words-refusal .ensures x e, eq-eqb _ 0 (c .before .before .if3 .left), ← c .before .starts-fit .ensures, not-true (c .before .starts-fit .result) (c .if4 .taken))
+returns-4 c =
+    λ rs x u n e. rw (eq-eqb (length rs) (5 * length (c .before .before .before .before .before .before .before .before .before .before .before .before .args .subjects .now)) (omega (arith, n, c .before .before .before .before .before .before .if1 .left, c .before .before .before .before .before .if2 .left)), ← c .before .before .before .before .indexed-words-refusal .ensures x e, eq-eqb _ 0 (c .before .before .if3 .left), ← c .before .starts-fit .ensures, not-true (c .before .starts-fit .result) (c .if4 .taken))
 
 returns-5 : tie.Need-returns-5
 unfolding indexedManyRefusedBy
-returns-5 c = λ rs x u n e. rw (eq-eqb (length rs) (5 * length (c .before .before .before .before .before .before .before .before .before .before .before .before .args .subjects .now)) (omega (arith, n, c .before .before .before .before .before .before .if1 .left, c .before .before .before .before .before .if2 .left)), ← c .before .before .before .before .indexed-words-refusal .ensures x e, eq-eqb _ 0 (c .before .before .if3 .left), ← c .before .starts-fit .ensures, not-false (c .before .starts-fit .result) (c .if4 .left))
+returns-5 c =
+    λ rs x u n e. rw (eq-eqb (length rs) (5 * length (c .before .before .before .before .before .before .before .before .before .before .before .before .args .subjects .now)) (omega (arith, n, c .before .before .before .before .before .before .if1 .left, c .before .before .before .before .before .if2 .left)), ← c .before .before .before .before .indexed-words-refusal .ensures x e, eq-eqb _ 0 (c .before .before .if3 .left), ← c .before .starts-fit .ensures, not-false (c .before .starts-fit .result) (c .if4 .left))
 
 pub indexed-many-refusal-spec : {M : Type 1} → statement M
 indexed-many-refusal-spec =

@@ -14,11 +14,25 @@ returns c = λ x u e. rw (← c .before .before .indexed-words-refusal .ensures 
 
 returns-2 : tie.Need-returns-2
 unfolding indexedRefusedBy
-returns-2 c = λ x u e. rw (← c .before .before .before .before .indexed-words-refusal .ensures x e, eq-eqb _ 0 (c .before .before .if1 .left), ← c .before .start-fits .ensures, not-true (c .before .start-fits .result) (c .if2 .taken))
+returns-2 c =
+    λ x u e. rw (
+      ← c .before .before .before .before .indexed-words-refusal .ensures x e,
+      eq-eqb _ 0 (c .before .before .if1 .left),
+      ←
+          c .before .start-fits .ensures,
+      not-true (c .before .start-fits .result) (c .if2 .taken),
+    )
 
 returns-3 : tie.Need-returns-3
 unfolding indexedRefusedBy
-returns-3 c = λ x u e. rw (← c .before .before .before .before .indexed-words-refusal .ensures x e, eq-eqb _ 0 (c .before .before .if1 .left), ← c .before .start-fits .ensures, not-false (c .before .start-fits .result) (c .if2 .left))
+returns-3 c =
+    λ x u e. rw (
+      ← c .before .before .before .before .indexed-words-refusal .ensures x e,
+      eq-eqb _ 0 (c .before .before .if1 .left),
+      ←
+          c .before .start-fits .ensures,
+      not-false (c .before .start-fits .result) (c .if2 .left),
+    )
 
 pub indexed-refusal-spec : {M : Type 1} → statement M
 indexed-refusal-spec =

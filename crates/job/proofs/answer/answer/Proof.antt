@@ -17,20 +17,40 @@ returns c =
     let at-shows = c .before in
     let at-put-line = at-shows .before .before .before in
     let start = at-put-line .before .before .before .before .before in
-    rw (answered-alone (start .args .a) (start .args .p) (start .args .s) (start .args .m) (start .args .u) (start .args .store .now) (start .args .bindings .now) (sym (at-shows .shows .ensures) ∙ not-true _ (c .if1 .taken))) (at-put-line .put-line .ensures)
+    rw (answered-alone (start .args .a) (start .args .p) (start .args .s) (start .args .m) (start .args .u) (start .args .store .now)
+    (start .args .bindings .now) (sym (at-shows .shows .ensures) ∙ not-true _ (c .if1 .taken))) (at-put-line .put-line .ensures)
 
 put-nodes-requires : tie.Need-put-nodes-requires
 put-nodes-requires c κs =
     let at-put-line = c .before .before .before .before .before in
     let start = at-put-line .before .before .before .before .before in
-    omega (arith, start .pre .0, start .pre .1, at-put-line .put-line .ensures .place, at-put-line .put-line .kept .0, length-answerLine (start .args .a) (start .args .p) (start .args .s) (start .args .m) (start .args .u))
+    omega (
+      arith,
+      start .pre .0,
+      start .pre .1,
+      at-put-line .put-line .ensures .place,
+      at-put-line .put-line .kept .0,
+      length-answerLine
+          (start .args .a) (start .args .p) (start .args .s) (start .args .m) (start .args .u),
+    )
 
 put-bindings-requires : tie.Need-put-bindings-requires
 put-bindings-requires c κs =
     let at-put-nodes = c .before .before .before in
     let at-put-line = at-put-nodes .before .before .before .before .before .before in
     let start = at-put-line .before .before .before .before .before in (
-      omega (arith, start .pre .0, start .pre .1, at-put-line .put-line .ensures .place, at-put-line .put-line .kept .0, length-answerLine (start .args .a) (start .args .p) (start .args .s) (start .args .m) (start .args .u), at-put-nodes .put-nodes .ensures .place, at-put-nodes .put-nodes .kept .0, length-nodes (start .args .store .now) (start .args .m)),
+      omega (
+        arith,
+        start .pre .0,
+        start .pre .1,
+        at-put-line .put-line .ensures .place,
+        at-put-line .put-line .kept .0,
+        length-answerLine
+            (start .args .a) (start .args .p) (start .args .s) (start .args .m) (start .args .u),
+        at-put-nodes .put-nodes .ensures .place,
+        at-put-nodes .put-nodes .kept .0,
+        length-nodes (start .args .store .now) (start .args .m),
+      ),
       start .pre .2,
     )
 
@@ -42,9 +62,25 @@ returns-2 c =
     let at-shows = at-if1 .before in
     let at-put-line = at-shows .before .before .before in
     let start = at-put-line .before .before .before .before .before in
-    rw (answered-shown (start .args .a) (start .args .p) (start .args .s) (start .args .m) (start .args .u) (start .args .store .now) (start .args .bindings .now) (sym (at-shows .shows .ensures) ∙ not-false _ (at-if1 .if1 .left)))
-    (put-more (omega (arith, start .pre .0, start .pre .1, length-answerLine (start .args .a) (start .args .p) (start .args .s) (start .args .m) (start .args .u), length-nodes (start .args .store .now) (start .args .m), length-append (answerLine (start .args .a ∷ start .args .p ∷ start .args .s ∷ start .args .m ∷ start .args .u ∷ [])) (written (nodeLines (start .args .store .now) (start .args .m)))))
-    (put-more (omega (arith, start .pre .0, length-answerLine (start .args .a) (start .args .p) (start .args .s) (start .args .m) (start .args .u))) (at-put-line .put-line .ensures) (at-put-nodes .put-nodes .ensures))
+    rw (answered-shown (start .args .a) (start .args .p) (start .args .s) (start .args .m) (start .args .u) (start .args .store .now)
+    (start .args .bindings .now) (sym (at-shows .shows .ensures) ∙ not-false _ (at-if1 .if1 .left)))
+    (put-more (omega (
+      arith,
+      start .pre .0,
+      start .pre .1,
+      length-answerLine (start .args .a) (start .args .p) (start .args .s)
+          (start .args .m) (start .args .u),
+      length-nodes (start .args .store .now) (start .args .m),
+      length-append
+          (answerLine (start .args .a ∷ start .args .p ∷ start .args .s ∷ start .args .m ∷ start .args .u ∷ []))
+          (written (nodeLines (start .args .store .now) (start .args .m))),
+    ))
+    (put-more (omega (
+      arith,
+      start .pre .0,
+      length-answerLine (start .args .a) (start .args .p) (start .args .s) (start .args .m)
+          (start .args .u),
+    )) (at-put-line .put-line .ensures) (at-put-nodes .put-nodes .ensures))
     (at-put-bindings .put-bindings .ensures))
 
 pub answer-spec : {M : Type 1} → statement M

@@ -6,7 +6,16 @@ use Rattle.job.proofs.answer.node_shown.Tie as tie
 
 returns : tie.Need-returns
 unfolding nodeShown
-returns c = rw (c .before .before .before .before .before .before .word .ensures, c .before .before .before .before .before .word2 .ensures, c .before .before .before .before .word3 .ensures, c .before .before .before .word4 .ensures, c .before .before .word5 .ensures, c .before .word6 .ensures, c .word7 .ensures)
+returns c =
+    rw (
+      c .before .before .before .before .before .before .word .ensures,
+      c .before .before .before .before .before .word2 .ensures,
+      c .before .before .before .before .word3 .ensures,
+      c .before .before .before .word4 .ensures,
+      c .before .before .word5 .ensures,
+      c .before .word6 .ensures,
+      c .word7 .ensures,
+    )
 
 pub node-shown-spec : {M : Type 1} → statement M
 node-shown-spec =

@@ -7,10 +7,20 @@ use Rattle.job.proofs.answer.put_binding.Statement.{statement}
 use Rattle.job.proofs.answer.put_binding.Tie as tie
 
 returns : tie.Need-returns
-returns c = rw (written-unbound (c .before .before .before .before .args .bindings .now) (c .before .before .before .before .args .v) (c .if1 .taken)) (put-none (c .before .before .before .before .args .buf .now) (c .before .before .before .before .args .at))
+returns c =
+    rw (written-unbound (c .before .before .before .before .args .bindings .now) (c .before .before .before .before .args .v)
+    (c .if1 .taken)) (put-none (c .before .before .before .before .args .buf .now) (c .before .before .before .before .args .at))
 
 put-rest-requires : tie.Need-put-rest-requires
-put-rest-requires c κs = (omega arith, omega (arith, c .before .before .before .before .before .before .before .before .before .pre .0, c .before .before .before .put-byte .ensures .place, c .before .before .before .put-byte .kept .0))
+put-rest-requires c κs = (
+  omega arith,
+  omega (
+    arith,
+    c .before .before .before .before .before .before .before .before .before .pre .0,
+    c .before .before .before .put-byte .ensures .place,
+    c .before .before .before .put-byte .kept .0,
+  ),
+)
 
 returns-2 : tie.Need-returns-2
 returns-2 c =

@@ -27,21 +27,38 @@ put-binding-requires : tie.Need-put-binding-requires Inv-loop μ-loop
 put-binding-requires c κs =
     let at-loop-test = c .before in
     let at-loop = at-loop-test .before in
-    let start = at-loop .before .before .before in
-    (omega (arith, start .pre .0, at-loop .loop .inv .1, at-loop .loop .inv .2 .place, length-bindings (start .args .bindings .now) (at-loop .loop .v), at-loop-test .loop-test .taken), omega (arith, start .pre .1, at-loop-test .loop-test .taken))
+    let start = at-loop .before .before .before in (
+      omega (
+        arith,
+        start .pre .0,
+        at-loop .loop .inv .1,
+        at-loop .loop .inv .2 .place,
+        length-bindings (start .args .bindings .now)
+            (at-loop .loop .v),
+        at-loop-test .loop-test .taken,
+      ),
+      omega (arith, start .pre .1, at-loop-test .loop-test .taken),
+    )
 
 loop-again : tie.Need-loop-again Inv-loop μ-loop
 loop-again c =
     let at-put-binding = c .before .before in
     let at-loop-test = at-put-binding .before .before in
     let at-loop = at-loop-test .before in
-    let start = at-loop .before .before .before in
-    (omega arith, at-put-binding .put-binding .kept .0 ∙ at-loop .loop .inv .1, bindings-more (start .args .bindings .now) (at-loop .loop .v) (omega (arith, start .pre .0, at-loop-test .loop-test .taken)) (at-loop .loop .inv .2) (at-put-binding .put-binding .ensures))
+    let start = at-loop .before .before .before in (
+      omega arith,
+      at-put-binding .put-binding .kept .0
+          ∙ at-loop .loop .inv .1,
+      bindings-more (start .args .bindings .now) (at-loop .loop .v)
+          (omega (arith, start .pre .0, at-loop-test .loop-test .taken)) (at-loop .loop .inv .2) (at-put-binding .put-binding .ensures),
+    )
 
 returns : tie.Need-returns Inv-loop μ-loop
 returns c =
     let e : c .before .loop .v ≡ variables = omega arith in
-    subst (λ (j : ℕ). Put (c .before .before .before .before .args .buf .now) (c .before .before .before .before .args .start) (written (bindingLines (c .before .before .before .before .args .bindings .now) j)) (c .before .loop .buf) (c .before .loop .at)) e (c .before .loop .inv .2)
+    subst (λ (j : ℕ). Put (c .before .before .before .before .args .buf .now) (c .before .before .before .before .args .start)
+    (written (bindingLines (c .before .before .before .before .args .bindings .now) j)) (c .before .loop .buf) (c .before .loop .at)) e
+    (c .before .loop .inv .2)
 
 pub put-bindings-spec : {M : Type 1} → statement M
 put-bindings-spec =

@@ -21,7 +21,16 @@ put-byte-requires-4 c κs =
     let at-put-byte2 = at-put-byte3 .before .before .before .before in
     let at-put-byte = at-put-byte2 .before .before .before .before in
     let start = at-put-byte .before .before .before in
-    omega (arith, start .pre, at-put-byte .put-byte .ensures .place, at-put-byte .put-byte .kept .0, at-put-byte2 .put-byte2 .ensures .place, at-put-byte2 .put-byte2 .kept .0, at-put-byte3 .put-byte3 .ensures .place, at-put-byte3 .put-byte3 .kept .0)
+    omega (
+      arith,
+      start .pre,
+      at-put-byte .put-byte .ensures .place,
+      at-put-byte .put-byte .kept .0,
+      at-put-byte2 .put-byte2 .ensures .place,
+      at-put-byte2 .put-byte2 .kept .0,
+      at-put-byte3 .put-byte3 .ensures .place,
+      at-put-byte3 .put-byte3 .kept .0,
+    )
 
 put-byte-requires-5 : tie.Need-put-byte-requires-5
 put-byte-requires-5 c κs =
@@ -30,7 +39,18 @@ put-byte-requires-5 c κs =
     let at-put-byte2 = at-put-byte3 .before .before .before .before in
     let at-put-byte = at-put-byte2 .before .before .before .before in
     let start = at-put-byte .before .before .before in
-    omega (arith, start .pre, at-put-byte .put-byte .ensures .place, at-put-byte .put-byte .kept .0, at-put-byte2 .put-byte2 .ensures .place, at-put-byte2 .put-byte2 .kept .0, at-put-byte3 .put-byte3 .ensures .place, at-put-byte3 .put-byte3 .kept .0, at-put-byte4 .put-byte4 .ensures .place, at-put-byte4 .put-byte4 .kept .0)
+    omega (
+      arith,
+      start .pre,
+      at-put-byte .put-byte .ensures .place,
+      at-put-byte .put-byte .kept .0,
+      at-put-byte2 .put-byte2 .ensures .place,
+      at-put-byte2 .put-byte2 .kept .0,
+      at-put-byte3 .put-byte3 .ensures .place,
+      at-put-byte3 .put-byte3 .kept .0,
+      at-put-byte4 .put-byte4 .ensures .place,
+      at-put-byte4 .put-byte4 .kept .0,
+    )
 
 put-byte-requires-6 : tie.Need-put-byte-requires-6
 put-byte-requires-6 c κs =
@@ -40,7 +60,20 @@ put-byte-requires-6 c κs =
     let at-put-byte2 = at-put-byte3 .before .before .before .before in
     let at-put-byte = at-put-byte2 .before .before .before .before in
     let start = at-put-byte .before .before .before in
-    omega (arith, start .pre, at-put-byte .put-byte .ensures .place, at-put-byte .put-byte .kept .0, at-put-byte2 .put-byte2 .ensures .place, at-put-byte2 .put-byte2 .kept .0, at-put-byte3 .put-byte3 .ensures .place, at-put-byte3 .put-byte3 .kept .0, at-put-byte4 .put-byte4 .ensures .place, at-put-byte4 .put-byte4 .kept .0, at-put-byte5 .put-byte5 .ensures .place, at-put-byte5 .put-byte5 .kept .0)
+    omega (
+      arith,
+      start .pre,
+      at-put-byte .put-byte .ensures .place,
+      at-put-byte .put-byte .kept .0,
+      at-put-byte2 .put-byte2 .ensures .place,
+      at-put-byte2 .put-byte2 .kept .0,
+      at-put-byte3 .put-byte3 .ensures .place,
+      at-put-byte3 .put-byte3 .kept .0,
+      at-put-byte4 .put-byte4 .ensures .place,
+      at-put-byte4 .put-byte4 .kept .0,
+      at-put-byte5 .put-byte5 .ensures .place,
+      at-put-byte5 .put-byte5 .kept .0,
+    )
 
 returns : tie.Need-returns
 returns c =
@@ -50,7 +83,10 @@ returns c =
     let at-put-byte3 = at-put-byte4 .before .before .before .before in
     let at-put-byte2 = at-put-byte3 .before .before .before .before in
     let at-put-byte = at-put-byte2 .before .before .before .before in
-    put-more (omega arith) (put-more (omega arith) (put-more (omega arith) (put-more (omega arith) (put-more (omega arith) (at-put-byte .put-byte .ensures) (at-put-byte2 .put-byte2 .ensures)) (at-put-byte3 .put-byte3 .ensures)) (at-put-byte4 .put-byte4 .ensures)) (at-put-byte5 .put-byte5 .ensures)) (at-put-byte6 .put-byte6 .ensures)
+    put-more (omega arith) (put-more (omega arith) (put-more (omega arith)
+    (put-more (omega arith) (put-more (omega arith) (at-put-byte .put-byte .ensures) (at-put-byte2 .put-byte2 .ensures))
+    (at-put-byte3 .put-byte3 .ensures)) (at-put-byte4 .put-byte4 .ensures)) (at-put-byte5 .put-byte5 .ensures))
+    (at-put-byte6 .put-byte6 .ensures)
 
 pub put-name-spec : {M : Type 1} → statement M
 put-name-spec =

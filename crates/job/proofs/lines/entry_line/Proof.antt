@@ -20,7 +20,8 @@ returns-3 : tie.Need-returns-3
 returns-3 c o e =
     let at-fits = c .before .before in
     let start = at-fits .before .before .before in
-    c .none3 .ensures ∙ entry-no-argument (start .args .kind) (start .args .argument) (start .args .next) (start .args .operands) o (sym (at-fits .argument-fits .ensures) ∙ not-true _ (c .before .if3 .taken))
+    c .none3 .ensures ∙ entry-no-argument (start .args .kind) (start .args .argument) (start .args .next) (start .args .operands) o
+    (sym (at-fits .argument-fits .ensures) ∙ not-true _ (c .before .if3 .taken))
 
 returns-4 : tie.Need-returns-4
 returns-4 c o e =

@@ -15,7 +15,14 @@ returns-2 c = rw (ne-eqb _ _ (c .before .before .if1 .left), ne-eqb _ _ (c .befo
 
 returns-3 : tie.Need-returns-3
 unfolding fits
-returns-3 c = rw (ne-eqb _ _ (c .before .before .before .if1 .left), ne-eqb _ _ (c .before .before .before .before .pre), ne-eqb _ _ (c .before .before .if2 .left), eq-eqb _ _ (c .before .if3 .taken)) (c .binding-fits .ensures)
+returns-3 c =
+    rw (
+      ne-eqb _ _ (c .before .before .before .if1 .left),
+      ne-eqb _ _ (c .before .before .before .before .pre),
+      ne-eqb _ _
+          (c .before .before .if2 .left),
+      eq-eqb _ _ (c .before .if3 .taken),
+    ) (c .binding-fits .ensures)
 
 returns-4 : tie.Need-returns-4
 unfolding fits

@@ -44,7 +44,8 @@ returns-2 c =
     let at-name = at-if1 .before in
     let at-next = at-name .before .before in
     let start = at-next .before .before in
-    bad-line (start .args .line .now) (at-next .next-at .result) (at-next .next-at .ensures) (at-name .name .result) (start .args .next) (at-numbers .numbers .result) (at-name .name .ensures) (ne-eqb _ _ (at-if1 .if1 .left)) (at-numbers .numbers .ensures)
+    bad-line (start .args .line .now) (at-next .next-at .result) (at-next .next-at .ensures) (at-name .name .result) (start .args .next)
+    (at-numbers .numbers .result) (at-name .name .ensures) (ne-eqb _ _ (at-if1 .if1 .left)) (at-numbers .numbers .ensures)
     (sym (at-fits .fits2 .ensures) ∙ not-true _ (c .if2 .taken))
 
 returns-3 : tie.Need-returns-3
@@ -55,7 +56,8 @@ returns-3 c =
     let at-name = at-if1 .before in
     let at-next = at-name .before .before in
     let start = at-next .before .before in
-    good-line (start .args .line .now) (at-next .next-at .result) (at-next .next-at .ensures) (at-name .name .result) (start .args .next) (at-numbers .numbers .result) (at-name .name .ensures) (ne-eqb _ _ (at-if1 .if1 .left)) (at-numbers .numbers .ensures)
+    good-line (start .args .line .now) (at-next .next-at .result) (at-next .next-at .ensures) (at-name .name .result) (start .args .next)
+    (at-numbers .numbers .result) (at-name .name .ensures) (ne-eqb _ _ (at-if1 .if1 .left)) (at-numbers .numbers .ensures)
     (sym (at-fits .fits2 .ensures) ∙ not-false _ (c .if2 .left))
 
 pub line-of-spec : {M : Type 1} → statement M

@@ -20,8 +20,12 @@ returns-2 c =
     let at-clear-all = at-if1 .before .before .before .before .before .before .before in
     let start = at-clear-all .before .before .before .before .before .before .before .before in
     right-bad _ (at-o .o .given .0 .0) _ _ _
-    (sym (meant-read (start .args .text .now) (at-clear-all .clear-all .last .0) (at-clear-all .clear-all .last .1 .0) (at-clear-all .clear-all .last .1 .1 .0) (at-if1 .if1 .left) (at-clear-all .clear-all .ensures .0) (at-clear-all .clear-all .ensures .1) (at-clear-all .clear-all .ensures .2))
-    ∙ holds-bad _ (at-read-lines .read-lines .result) (at-o .o .given .0 .0) (at-read-lines .read-lines .last .1 .0) (at-read-lines .read-lines .last .1 .1 .0) (at-read-lines .read-lines .last .1 .1 .1 .0) (at-read-lines .read-lines .ensures) (at-o .o .given .1))
+    (sym (meant-read (start .args .text .now) (at-clear-all .clear-all .last .0) (at-clear-all .clear-all .last .1 .0)
+    (at-clear-all .clear-all .last .1 .1 .0) (at-if1 .if1 .left) (at-clear-all .clear-all .ensures .0)
+    (at-clear-all .clear-all .ensures .1) (at-clear-all .clear-all .ensures .2))
+    ∙ holds-bad _ (at-read-lines .read-lines .result) (at-o .o .given .0 .0) (at-read-lines .read-lines .last .1 .0)
+    (at-read-lines .read-lines .last .1 .1 .0) (at-read-lines .read-lines .last .1 .1 .1 .0) (at-read-lines .read-lines .ensures)
+    (at-o .o .given .1))
     (at-clear-all2 .clear-all2 .ensures .0) (at-clear-all2 .clear-all2 .ensures .1) (at-clear-all2 .clear-all2 .ensures .2)
 
 returns-3 : tie.Need-returns-3
@@ -31,7 +35,11 @@ returns-3 c =
     let at-if1 = at-read-lines .before .before .before .before in
     let at-clear-all = at-if1 .before .before .before .before .before .before .before in
     let start = at-clear-all .before .before .before .before .before .before .before .before in
-    holds-read (meant-read (start .args .text .now) (at-clear-all .clear-all .last .0) (at-clear-all .clear-all .last .1 .0) (at-clear-all .clear-all .last .1 .1 .0) (at-if1 .if1 .left) (at-clear-all .clear-all .ensures .0) (at-clear-all .clear-all .ensures .1) (at-clear-all .clear-all .ensures .2)) (at-read-lines .read-lines .result) (at-o2 .o2 .given .0 .0) (at-read-lines .read-lines .last .1 .0) (at-read-lines .read-lines .last .1 .1 .0) (at-read-lines .read-lines .last .1 .1 .1 .0) (at-read-lines .read-lines .ensures) (at-o2 .o2 .given .1)
+    holds-read (meant-read (start .args .text .now) (at-clear-all .clear-all .last .0) (at-clear-all .clear-all .last .1 .0)
+    (at-clear-all .clear-all .last .1 .1 .0) (at-if1 .if1 .left) (at-clear-all .clear-all .ensures .0)
+    (at-clear-all .clear-all .ensures .1) (at-clear-all .clear-all .ensures .2)) (at-read-lines .read-lines .result)
+    (at-o2 .o2 .given .0 .0) (at-read-lines .read-lines .last .1 .0) (at-read-lines .read-lines .last .1 .1 .0)
+    (at-read-lines .read-lines .last .1 .1 .1 .0) (at-read-lines .read-lines .ensures) (at-o2 .o2 .given .1)
 
 pub read-spec : {M : Type 1} → statement M
 read-spec =

@@ -16,10 +16,16 @@ returns-3 : tie.Need-returns-3
 returns-3 c = hints-all (c .before .before .before .before .word .ensures) (inl (sym (c .before .before .before .before .before .kind-of .ensures) ∙ c .before .if3 .taken)) (c .body-called .ensures)
 
 returns-4 : tie.Need-returns-4
-returns-4 c = hints-all (c .before .before .before .before .before .word .ensures) (inr (inl (sym (c .before .before .before .before .before .before .kind-of .ensures) ∙ c .before .if4 .taken))) (c .body-called2 .ensures)
+returns-4 c =
+    hints-all (c .before .before .before .before .before .word .ensures)
+    (inr (inl (sym (c .before .before .before .before .before .before .kind-of .ensures) ∙ c .before .if4 .taken)))
+    (c .body-called2 .ensures)
 
 returns-5 : tie.Need-returns-5
-returns-5 c = hints-all (c .before .before .before .before .before .before .word .ensures) (inr (inr (sym (c .before .before .before .before .before .before .before .kind-of .ensures) ∙ c .before .if5 .taken))) (c .body-called3 .ensures)
+returns-5 c =
+    hints-all (c .before .before .before .before .before .before .word .ensures)
+    (inr (inr (sym (c .before .before .before .before .before .before .before .kind-of .ensures) ∙ c .before .if5 .taken)))
+    (c .body-called3 .ensures)
 
 returns-6 : tie.Need-returns-6
 returns-6 c = λ z. absurd (z refl)

@@ -12,7 +12,9 @@ returns-2 : tie.Need-returns-2
 returns-2 c = found-none refl
 
 returns-3 : tie.Need-returns-3
-returns-3 c = found-match (sym (c .before .before .before .before .kind-of .ensures) ∙ c .before .before .before .if1 .left) (c .before .before .word .ensures) (sym (c .before .kind-of2 .ensures) ∙ c .if2 .left)
+returns-3 c =
+    found-match (sym (c .before .before .before .before .kind-of .ensures) ∙ c .before .before .before .if1 .left)
+    (c .before .before .word .ensures) (sym (c .before .kind-of2 .ensures) ∙ c .if2 .left)
 
 pub match-head-spec : {M : Type 1} → statement M
 match-head-spec =

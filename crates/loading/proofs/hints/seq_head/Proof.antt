@@ -9,7 +9,9 @@ returns-2 : tie.Need-returns-2
 returns-2 c = found-none (c .if2 .taken)
 
 returns-3 : tie.Need-returns-3
-returns-3 c = found-seq (c .before .before .before .before .word .ensures) (c .before .before .before .match-head2 .ensures) (c .before .if2 .left) (sym (c .before .before .before .before .before .before .kind-of .ensures) ∙ c .before .before .before .before .before .if1 .left)
+returns-3 c =
+    found-seq (c .before .before .before .before .word .ensures) (c .before .before .before .match-head2 .ensures) (c .before .if2 .left)
+    (sym (c .before .before .before .before .before .before .kind-of .ensures) ∙ c .before .before .before .before .before .if1 .left)
 
 pub seq-head-spec : {M : Type 1} → statement M
 seq-head-spec =

@@ -19,10 +19,16 @@ loop-holds : tie.Need-loop-holds Inv-loop μ-loop
 loop-holds c = (omega arith, omega arith, refl)
 
 returns : tie.Need-returns Inv-loop μ-loop
-returns c = sym (valued-low (c .before .before .before .before .args .most) (c .before .before .before .before .args .field .now) (c .before .before .before .loop .i) (c .before .before .before .loop .value) (c .before .before .loop-test .taken) (c .if1 .taken)) ∙ c .before .before .before .loop .inv .2
+returns c =
+    sym (valued-low (c .before .before .before .before .args .most) (c .before .before .before .before .args .field .now)
+    (c .before .before .before .loop .i) (c .before .before .before .loop .value) (c .before .before .loop-test .taken) (c .if1 .taken))
+    ∙ c .before .before .before .loop .inv .2
 
 returns-2 : tie.Need-returns-2 Inv-loop μ-loop
-returns-2 c = sym (valued-high (c .before .before .before .before .before .args .most) (c .before .before .before .before .before .args .field .now) (c .before .before .before .before .loop .i) (c .before .before .before .before .loop .value) (c .before .before .before .loop-test .taken) (c .before .if1 .left) (c .if2 .taken)) ∙ c .before .before .before .before .loop .inv .2
+returns-2 c =
+    sym (valued-high (c .before .before .before .before .before .args .most) (c .before .before .before .before .before .args .field .now)
+    (c .before .before .before .before .loop .i) (c .before .before .before .before .loop .value)
+    (c .before .before .before .loop-test .taken) (c .before .if1 .left) (c .if2 .taken)) ∙ c .before .before .before .before .loop .inv .2
 
 sub-if3 : tie.Need-sub-if3 Inv-loop μ-loop
 sub-if3 c = omega (arith, c .before .before .before .before .before .pre, c .before .if1 .left, c .if2 .left)
@@ -34,7 +40,9 @@ returns-3 c =
     let at-loop-test = at-if1 .before .before in
     let at-loop = at-loop-test .before in
     let start = at-loop .before in
-    sym (valued-over (start .args .most) (start .args .field .now) (at-loop .loop .i) (at-loop .loop .value) (at-loop-test .loop-test .taken) (at-if1 .if1 .left) (at-if2 .if2 .left) (omega (arith, c .if3 .taken, start .pre, at-if1 .if1 .left, at-if2 .if2 .left))) ∙ at-loop .loop .inv .2
+    sym (valued-over (start .args .most) (start .args .field .now) (at-loop .loop .i) (at-loop .loop .value)
+    (at-loop-test .loop-test .taken) (at-if1 .if1 .left) (at-if2 .if2 .left)
+    (omega (arith, c .if3 .taken, start .pre, at-if1 .if1 .left, at-if2 .if2 .left))) ∙ at-loop .loop .inv .2
 
 -- the number with one digit more is within the limit
 mul-value : tie.Need-mul-value Inv-loop μ-loop
@@ -53,8 +61,14 @@ loop-again c =
     let at-if1 = at-if2 .before in
     let at-loop-test = at-if1 .before .before in
     let at-loop = at-loop-test .before in
-    let start = at-loop .before in
-    (omega arith, omega (arith, c .if3 .left, start .pre, at-if1 .if1 .left, at-if2 .if2 .left), sym (valued-on (start .args .most) (start .args .field .now) (at-loop .loop .i) (at-loop .loop .value) (at-loop-test .loop-test .taken) (at-if1 .if1 .left) (at-if2 .if2 .left) (omega (arith, c .if3 .left, start .pre, at-if1 .if1 .left, at-if2 .if2 .left))) ∙ at-loop .loop .inv .2)
+    let start = at-loop .before in (
+      omega arith,
+      omega (arith, c .if3 .left, start .pre, at-if1 .if1 .left, at-if2 .if2 .left),
+      sym
+          (valued-on (start .args .most) (start .args .field .now) (at-loop .loop .i) (at-loop .loop .value) (at-loop-test .loop-test .taken)
+          (at-if1 .if1 .left) (at-if2 .if2 .left) (omega (arith, c .if3 .left, start .pre, at-if1 .if1 .left, at-if2 .if2 .left)))
+          ∙ at-loop .loop .inv .2,
+    )
 
 returns-4 : tie.Need-returns-4 Inv-loop μ-loop
 returns-4 c = sym (valued-end (c .before .before .args .most) (c .before .before .args .field .now) (c .before .loop .i) (c .before .loop .value) (c .loop-test .left)) ∙ c .before .loop .inv .2

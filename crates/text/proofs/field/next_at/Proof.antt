@@ -17,12 +17,24 @@ abbrev μ-loop : tie.MeasureT-loop
 
 returns : tie.Need-returns Inv-loop μ-loop
 returns c =
-    omega (arith, c .before .before .before .loop .inv .1, ap length (upTo-here (c .before .before .before .before .args .c) (c .before .before .before .before .args .s .now) (c .before .before .before .loop .i) (c .before .before .loop-test .taken) (c .if1 .taken)))
+    omega (
+      arith,
+      c .before .before .before .loop .inv .1,
+      ap length
+          (upTo-here (c .before .before .before .before .args .c) (c .before .before .before .before .args .s .now)
+          (c .before .before .before .loop .i) (c .before .before .loop-test .taken) (c .if1 .taken)),
+    )
 
 loop-again : tie.Need-loop-again Inv-loop μ-loop
 loop-again c = (
   omega arith,
-  omega (arith, c .before .before .before .loop .inv .1, upTo-on (c .before .before .before .before .args .c) (c .before .before .before .before .args .s .now) (c .before .before .before .loop .i) (c .before .before .loop-test .taken) (c .if1 .left)),
+  omega (
+    arith,
+    c .before .before .before .loop .inv .1,
+    upTo-on (c .before .before .before .before .args .c)
+        (c .before .before .before .before .args .s .now) (c .before .before .before .loop .i) (c .before .before .loop-test .taken)
+        (c .if1 .left),
+  ),
 )
 
 returns-2 : tie.Need-returns-2 Inv-loop μ-loop

@@ -9,13 +9,18 @@ returns : tie.Need-returns
 returns c = sym (number-none (c .before .before .args .most) (c .before .before .args .field .now) (c .if1 .taken))
 
 returns-2 : tie.Need-returns-2
-returns-2 c = c .digits .ensures ∙ sym (number-digits (c .before .before .before .before .before .args .most) (c .before .before .before .before .before .args .field .now) (c .before .before .before .if1 .left) (c .before .if2 .taken))
+returns-2 c =
+    c .digits .ensures ∙ sym (number-digits (c .before .before .before .before .before .args .most)
+    (c .before .before .before .before .before .args .field .now) (c .before .before .before .if1 .left) (c .before .if2 .taken))
 
 returns-3 : tie.Need-returns-3
 returns-3 c = sym (number-zero (c .before .before .before .before .before .args .most) (c .before .before .before .before .before .args .field .now) (c .before .if2 .left) (c .if3 .taken))
 
 returns-4 : tie.Need-returns-4
-returns-4 c = sym (number-leading (c .before .before .before .before .before .args .most) (c .before .before .before .before .before .args .field .now) (c .before .before .before .if1 .left) (c .before .if2 .left) (c .if3 .left))
+returns-4 c =
+    sym (number-leading (c .before .before .before .before .before .args .most)
+    (c .before .before .before .before .before .args .field .now) (c .before .before .before .if1 .left) (c .before .if2 .left)
+    (c .if3 .left))
 
 pub number-within-spec : {M : Type 1} → statement M
 number-within-spec =

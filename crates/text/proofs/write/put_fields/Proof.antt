@@ -23,7 +23,17 @@ unfolding numbersText
 loop-holds c = (omega arith, search needs, refl, put-none (c .before .args .buf .now) (c .before .args .start))
 
 put-field-requires : tie.Need-put-field-requires Inv-loop μ-loop
-put-field-requires c κs = omega (arith, c .before .before .before .before .pre .1, c .before .before .loop .inv .2, c .before .before .loop .inv .3 .place, length-fields (c .before .before .before .before .args .t4) (c .before .before .loop .i), length-digits 10 (getD (c .before .before .before .before .args .t4) (c .before .before .loop .i) 0), c .before .loop-test .taken)
+put-field-requires c κs =
+    omega (
+      arith,
+      c .before .before .before .before .pre .1,
+      c .before .before .loop .inv .2,
+      c .before .before .loop .inv .3 .place,
+      length-fields (c .before .before .before .before .args .t4) (c .before .before .loop .i),
+      length-digits 10
+          (getD (c .before .before .before .before .args .t4) (c .before .before .loop .i) 0),
+      c .before .loop-test .taken,
+    )
 
 loop-again : tie.Need-loop-again Inv-loop μ-loop
 loop-again c =
@@ -33,13 +43,17 @@ loop-again c =
       omega arith,
       at-loop .loop .inv .1,
       at-put-field .put-field .kept .0 ∙ at-loop .loop .inv .2,
-      fields-more (start .args .t4) (at-loop .loop .i) (omega (arith, start .pre .0, at-loop .loop .inv .1)) (omega (arith, start .pre .1, length-fields (start .args .t4) (at-loop .loop .i))) (at-loop .loop .inv .3) (at-put-field .put-field .ensures),
+      fields-more (start .args .t4) (at-loop .loop .i) (omega (arith, start .pre .0, at-loop .loop .inv .1))
+          (omega (arith, start .pre .1, length-fields (start .args .t4) (at-loop .loop .i))) (at-loop .loop .inv .3)
+          (at-put-field .put-field .ensures),
     )
 
 returns : tie.Need-returns Inv-loop μ-loop
 returns c =
     let e : c .before .loop .i ≡ c .before .before .before .args .n = omega arith in
-    subst (λ (j : ℕ). Put (c .before .before .before .args .buf .now) (c .before .before .before .args .start) (numbersText (take j (c .before .before .before .args .t4))) (c .before .loop .buf) (c .before .loop .at)) e (c .before .loop .inv .3)
+    subst (λ (j : ℕ). Put (c .before .before .before .args .buf .now) (c .before .before .before .args .start)
+    (numbersText (take j (c .before .before .before .args .t4))) (c .before .loop .buf) (c .before .loop .at)) e
+    (c .before .loop .inv .3)
 
 pub put-fields-spec : {M : Type 1} → statement M
 put-fields-spec =

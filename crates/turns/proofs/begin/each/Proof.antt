@@ -20,14 +20,16 @@ returns c d = cong-lost _ _ _ _ d _ (c .before .before .before .before .before .
 
 returns-2 : tie.Need-returns-2
 returns-2 c d =
-    let first = c .before .before .before .before .before .before .before .few .ensures ∙ ap (λ (n : ℕ). min (n % 16) 6) (c .before .before .before .before .before .before .before .before .word .ensures) in
+    let first = c .before .before .before .before .before .before .before .few .ensures
+    ∙ ap (λ (n : ℕ). min (n % 16) 6) (c .before .before .before .before .before .before .before .before .word .ensures) in
     let second = c .before .before .few2 .ensures ∙ ap (λ (n : ℕ). min n 6) (c .before .before .before .word4 .ensures) in
     cong-lost _ _ _ _ d _ (c .before .before .before .before .before .before .before .before .before .before .before .pre)
     (inr (λ e. c .before .if2 .taken (first ∙ e ∙ sym second))) (c .ends2 .ensures)
 
 returns-3 : tie.Need-returns-3
 returns-3 c d =
-    let first = c .before .before .before .before .before .before .before .before .few .ensures ∙ ap (λ (n : ℕ). min (n % 16) 6) (c .before .before .before .before .before .before .before .before .before .word .ensures) in
+    let first = c .before .before .before .before .before .before .before .before .few .ensures
+    ∙ ap (λ (n : ℕ). min (n % 16) 6) (c .before .before .before .before .before .before .before .before .before .word .ensures) in
     let second = c .before .before .before .few2 .ensures ∙ ap (λ (n : ℕ). min n 6) (c .before .before .before .before .word4 .ensures) in
     cong-empty _ _ _ _ d _ (c .before .before .before .before .before .before .before .before .before .before .before .before .pre)
     (sym (c .before .before .before .before .before .before .before .word2 .ensures) ∙ c .before .before .before .before .before .if1
@@ -36,7 +38,8 @@ returns-3 c d =
 
 returns-4 : tie.Need-returns-4
 returns-4 c d =
-    let first = c .before .before .before .before .before .before .before .before .before .before .few .ensures ∙ ap (λ (n : ℕ). min (n % 16) 6) (c .before .before .before .before .before .before .before .before .before .before .before .word .ensures) in
+    let first = c .before .before .before .before .before .before .before .before .before .before .few .ensures
+    ∙ ap (λ (n : ℕ). min (n % 16) 6) (c .before .before .before .before .before .before .before .before .before .before .before .word .ensures) in
     let second = c .before .before .before .before .before .few2 .ensures ∙ ap (λ (n : ℕ). min n 6) (c .before .before .before .before .before .before .word4 .ensures) in
     cong-asked _ _ _ _ d _ (c .before .before .before .before .before .before .before .before .before .before .before .before .before
     .before .pre) (sym (c .before .before .before .before .before .before .before .before .before .word2 .ensures)

@@ -27,7 +27,8 @@ returns-2 c d =
 
 returns-3 : tie.Need-returns-3
 returns-3 c d =
-    let first = c .before .before .before .before .before .before .before .before .few .ensures ∙ ap (λ (n : ℕ). min n 6) (c .before .before .before .before .before .before .before .before .before .word .ensures) in
+    let first = c .before .before .before .before .before .before .before .before .few .ensures
+    ∙ ap (λ (n : ℕ). min n 6) (c .before .before .before .before .before .before .before .before .before .word .ensures) in
     let second = c .before .before .before .few2 .ensures ∙ ap (λ (n : ℕ). min n 6) (c .before .before .before .before .word4 .ensures) in
     pair-empty _ _ _ _ d _ (sym (c .before .before .before .before .before .before .before .word2 .ensures) ∙ c .before .before .before
     .before .before .if1 .left ∙ c .before .before .before .before .before .before .word3 .ensures)
@@ -36,7 +37,8 @@ returns-3 c d =
 
 returns-4 : tie.Need-returns-4
 returns-4 c d =
-    let first = c .before .before .before .before .before .before .before .before .before .before .few .ensures ∙ ap (λ (n : ℕ). min n 6) (c .before .before .before .before .before .before .before .before .before .before .before .word .ensures) in
+    let first = c .before .before .before .before .before .before .before .before .before .before .few .ensures
+    ∙ ap (λ (n : ℕ). min n 6) (c .before .before .before .before .before .before .before .before .before .before .before .word .ensures) in
     let second = c .before .before .before .before .before .few2 .ensures ∙ ap (λ (n : ℕ). min n 6) (c .before .before .before .before .before .before .word4 .ensures) in
     pair-asked _ _ _ _ d _ (sym (c .before .before .before .before .before .before .before .before .before .word2 .ensures)
     ∙ c .before .before .before .before .before .before .before .if1 .left ∙ c .before .before .before .before .before .before .before

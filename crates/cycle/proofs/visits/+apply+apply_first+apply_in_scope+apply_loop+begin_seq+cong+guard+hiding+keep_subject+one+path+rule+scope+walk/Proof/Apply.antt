@@ -24,10 +24,15 @@ pub apply-returns : (t : ℕ) → apply-lts.Need-returns (apply-calls t) (apply-
 apply-returns t c = c .before .before .apply-loop .ensures
 
 pub apply-returns-2 : (t : ℕ) → apply-lts.Need-returns-2 (apply-calls t) (apply-at t) apply.Post
-apply-returns-2 t c = ends-units (first-turn _ (c .before .before .before .before .before .pre .1) (c .before .before .before .before .before .fits .given .fits)) _ (c .no-units .ensures) (c .before .if2 .taken)
+apply-returns-2 t c =
+    ends-units (first-turn _ (c .before .before .before .before .before .pre .1)
+    (c .before .before .before .before .before .fits .given .fits)) _ (c .no-units .ensures) (c .before .if2 .taken)
 
 pub apply-returns-3 : (t : ℕ) → apply-lts.Need-returns-3 (apply-calls t) (apply-at t) apply.Post
-apply-returns-3 t c = ends-nesting (first-turn _ (c .before .before .before .before .before .before .pre .1) (c .before .before .before .before .before .before .fits .given .fits)) _ (c .no-nesting .ensures) (c .before .before .if2 .left) (c .before .if3 .taken)
+apply-returns-3 t c =
+    ends-nesting (first-turn _ (c .before .before .before .before .before .before .pre .1)
+    (c .before .before .before .before .before .before .fits .given .fits)) _ (c .no-nesting .ensures) (c .before .before .if2 .left)
+    (c .before .if3 .taken)
 
 pub apply-count-requires : (t : ℕ) → apply-lts.Need-count-requires (apply-calls t) (apply-at t) apply.Post
 apply-count-requires t c κs = ready-stored (c .before .before .before .before .before .before .pre .1)
@@ -43,7 +48,8 @@ apply-returns-4 t c =
     let at-if1 = at-if2 .before in
     let at-kind = at-if1 .before in
     let start = at-kind .before .before in
-    all-itself (first-turn _ (start .pre .1) (start .fits .given .fits)) (at-if2 .if2 .left) (at-if3 .if3 .left) (sym (at-kind .kind .ensures) ∙ at-if1 .if1 .left) (sym (at-count .count .ensures) ∙ c .if4 .taken)
+    all-itself (first-turn _ (start .pre .1) (start .fits .given .fits)) (at-if2 .if2 .left) (at-if3 .if3 .left)
+    (sym (at-kind .kind .ensures) ∙ at-if1 .if1 .left) (sym (at-count .count .ensures) ∙ c .if4 .taken)
 
 pub apply-sub-walk : (t : ℕ) → apply-lts.Need-sub-walk (apply-calls t) (apply-at t) apply.Post
 apply-sub-walk t c = omega (arith, pos _ (c .before .before .before .before .before .before .if2 .left))
@@ -57,8 +63,18 @@ apply-walk-requires t c κs =
     let at-if2 = at-if3 .before in
     let at-if1 = at-if2 .before in
     let at-kind = at-if1 .before in
-    let start = at-kind .before .before in
-    (omega (arith, pos _ (at-if3 .if3 .left)), (ready-same (first-turn _ (start .pre .1) (start .fits .given .fits)) (at-if2 .if2 .left) (at-if3 .if3 .left), (λ z. omega (arith, at-kind .kind .ensures, at-if1 .if1 .left, z), λ z. absurd (two-kinds (at-kind .kind .ensures) (at-if1 .if1 .left) z (omega arith)))))
+    let start = at-kind .before .before in (
+      omega (arith, pos _ (at-if3 .if3 .left)),
+      (
+        ready-same (first-turn _ (start .pre .1) (start .fits .given .fits)) (at-if2 .if2 .left)
+            (at-if3 .if3 .left),
+        (
+          λ z. omega (arith, at-kind .kind .ensures, at-if1 .if1 .left, z),
+          λ z. absurd
+              (two-kinds (at-kind .kind .ensures) (at-if1 .if1 .left) z (omega arith)),
+        ),
+      ),
+    )
 
 pub apply-same-length-3 : (t : ℕ) → apply-lts.Need-same-length-3 (apply-calls t) (apply-at t) apply.Post
 apply-same-length-3 t c = c .before .before .walk .kept .1 .0
@@ -71,7 +87,8 @@ apply-returns-5 t c =
     let at-if1 = at-if2 .before in
     let at-kind = at-if1 .before in
     let start = at-kind .before .before in
-    whole (first-turn _ (start .pre .1) (start .fits .given .fits)) (at-if2 .if2 .left) (at-if3 .if3 .left) (renamed (at-walk .walk .ensures) (sym (ruled-all _ _ _ _ _ _ _ _ (sym (at-kind .kind .ensures) ∙ at-if1 .if1 .left))))
+    whole (first-turn _ (start .pre .1) (start .fits .given .fits)) (at-if2 .if2 .left) (at-if3 .if3 .left)
+    (renamed (at-walk .walk .ensures) (sym (ruled-all _ _ _ _ _ _ _ _ (sym (at-kind .kind .ensures) ∙ at-if1 .if1 .left))))
 
 pub apply-closed : {M : Type 1} (t : ℕ) → apply-lts.Closed (apply-calls t) (apply-at t) apply.Post M
 apply-closed t =

@@ -1,5 +1,7 @@
 use Rattle.leaves.proofs.Patterns.{operand-below}
-use Rattle.cycle.proofs.Looping.{same-node, no-scope, Turn, first-turn, ends-units, ends-nesting, ready-next, ready-same, seq-returns, seq-turn, left-returns, left-turn, skip-turn, within, rec-turn, of-two, last-kind, five-up, whole, pos}
+use Rattle.cycle.proofs.Looping.{same-node, no-scope, Turn, first-turn, ends-units, ends-nesting, ready-next, ready-same}
+use Rattle.cycle.proofs.Looping.{seq-returns, seq-turn, left-returns, left-turn, skip-turn, within, rec-turn, of-two, last-kind}
+use Rattle.cycle.proofs.Looping.{five-up, whole, pos}
 use Rattle.cycle.proofs.Rowing.{ready-stored}
 use Rattle.cycle.proofs.Descending.{one-begins, gives-one-none}
 use mathlib.Core.Logic.{inl, inr, ⊎-elim}
@@ -69,11 +71,17 @@ apply-loop-entry-requires t c κs = ((c .before .before .before .before .before 
 pub apply-loop-begin-seq-requires : (t : ℕ) → apply-loop-lts.Need-begin-seq-requires (apply-loop-calls t) (apply-loop-at t) apply-loop.Post apply-loop-Inv-loop apply-loop-μ-loop
 apply-loop-begin-seq-requires t c κs =
     let at-match = c .before .before .before in
-    let k = at-match .before in
-    (omega (arith, (turn k .loop .inv) .deeper, pos _ (nested k .if2 .left), start k .pre .0), ready-next (turn k .loop .inv) (paid k .if1 .left) (nested k .if2 .left) (λ z. omega (arith, k .kind .ensures, at-match .match .keys1, z)) 0 _ (omega arith) (c .entry .ensures))
+    let k = at-match .before in (
+      omega (arith, (turn k .loop .inv) .deeper, pos _ (nested k .if2 .left), start k .pre .0),
+      ready-next (turn k .loop .inv)
+          (paid k .if1 .left) (nested k .if2 .left) (λ z. omega (arith, k .kind .ensures, at-match .match .keys1, z)) 0 _ (omega arith)
+          (c .entry .ensures),
+    )
 
 pub apply-loop-same-length-3 : (t : ℕ) → apply-loop-lts.Need-same-length-3 (apply-loop-calls t) (apply-loop-at t) apply-loop.Post apply-loop-Inv-loop apply-loop-μ-loop
-apply-loop-same-length-3 t c = c .before .before .before .before .begin-seq .kept .1 .0 ∙ (c .before .before .before .before .before .before .before .before .before .before .before .before .loop .inv) .long
+apply-loop-same-length-3 t c =
+    c .before .before .before .before .begin-seq .kept .1 .0
+    ∙ (c .before .before .before .before .before .before .before .before .before .before .before .before .loop .inv) .long
 
 pub apply-loop-returns-3 : (t : ℕ) → apply-loop-lts.Need-returns-3 (apply-loop-calls t) (apply-loop-at t) apply-loop.Post apply-loop-Inv-loop apply-loop-μ-loop
 apply-loop-returns-3 t c =
@@ -82,7 +90,8 @@ apply-loop-returns-3 t c =
     let at-entry = at-begin-seq .before in
     let at-match = at-entry .before .before .before in
     let k = at-match .before in
-    seq-returns (turn k .loop .inv) (paid k .if1 .left) (nested k .if2 .left) (at-entry .entry .ensures) (at-begin-seq .begin-seq .ensures) (at-answer-of .answer-of .ensures) refl (sym (k .kind .ensures) ∙ at-match .match .keys1) (c .match2 .keys2)
+    seq-returns (turn k .loop .inv) (paid k .if1 .left) (nested k .if2 .left) (at-entry .entry .ensures) (at-begin-seq .begin-seq .ensures)
+    (at-answer-of .answer-of .ensures) refl (sym (k .kind .ensures) ∙ at-match .match .keys1) (c .match2 .keys2)
 
 pub apply-loop-entry-requires-2 : (t : ℕ) → apply-loop-lts.Need-entry-requires-2 (apply-loop-calls t) (apply-loop-at t) apply-loop.Post apply-loop-Inv-loop apply-loop-μ-loop
 apply-loop-entry-requires-2 t c κs = ((c .before .before .before .before .before .before .before .before .before .before .before .before .before .loop .inv) .ready .inside, omega arith)
@@ -98,13 +107,17 @@ apply-loop-loop-again t c =
     let at-entry = at-begin-seq .before in
     let at-match = at-entry .before .before .before in
     let k = at-match .before in
-    seq-turn (turn k .loop .inv) (paid k .if1 .left) (nested k .if2 .left) (at-entry .entry .ensures) (at-begin-seq .begin-seq .ensures) (at-answer-of .answer-of .ensures) (c .entry2 .ensures) (sym (k .kind .ensures) ∙ at-match .match .keys1) (at-enum-told .enum-told .given .1) (at-begin-seq .begin-seq .kept .1 .0)
+    seq-turn (turn k .loop .inv) (paid k .if1 .left) (nested k .if2 .left) (at-entry .entry .ensures) (at-begin-seq .begin-seq .ensures)
+    (at-answer-of .answer-of .ensures) (c .entry2 .ensures) (sym (k .kind .ensures) ∙ at-match .match .keys1)
+    (at-enum-told .enum-told .given .1) (at-begin-seq .begin-seq .kept .1 .0)
 
 pub apply-loop-cong-requires : (t : ℕ) → apply-loop-lts.Need-cong-requires (apply-loop-calls t) (apply-loop-at t) apply-loop.Post apply-loop-Inv-loop apply-loop-μ-loop
 apply-loop-cong-requires t c κs =
     let at-match = c .before .before in
-    let k = at-match .before in
-    (omega (arith, (turn k .loop .inv) .deeper, pos _ (nested k .if2 .left), start k .pre .0), (ready-same (turn k .loop .inv) (paid k .if1 .left) (nested k .if2 .left), sym (k .kind .ensures) ∙ at-match .match .keys2))
+    let k = at-match .before in (
+      omega (arith, (turn k .loop .inv) .deeper, pos _ (nested k .if2 .left), start k .pre .0),
+      (ready-same (turn k .loop .inv) (paid k .if1 .left) (nested k .if2 .left), sym (k .kind .ensures) ∙ at-match .match .keys2),
+    )
 
 pub apply-loop-same-length-4 : (t : ℕ) → apply-loop-lts.Need-same-length-4 (apply-loop-calls t) (apply-loop-at t) apply-loop.Post apply-loop-Inv-loop apply-loop-μ-loop
 apply-loop-same-length-4 t c = c .before .before .cong .kept .1 .0 ∙ (c .before .before .before .before .before .before .before .before .before .loop .inv) .long
@@ -127,18 +140,37 @@ pub apply-loop-returns-5 : (t : ℕ) → apply-loop-lts.Need-returns-5 (apply-lo
 apply-loop-returns-5 t c =
     let l = c .before .before .before .before .before .before .before .before .loop .inv in
     let r = ready-same l (c .before .before .before .before .before .before .before .if1 .left) (c .before .before .before .before .before .before .if2 .left) in
-    whole l (c .before .before .before .before .before .before .before .if1 .left) (c .before .before .before .before .before .before .if2 .left) (gives-one-none _ r (one-begins _ r (sym (c .before .before .before .before .before .kind .ensures) ∙ c .before .before .before .before .match .keys3) (c .before .before .count .ensures)) (omega (arith, c .before .if3 .taken)) (c .failure .ensures))
+    whole l (c .before .before .before .before .before .before .before .if1 .left)
+    (c .before .before .before .before .before .before .if2 .left)
+    (gives-one-none _ r (one-begins _ r (sym (c .before .before .before .before .before .kind .ensures)
+    ∙ c .before .before .before .before .match .keys3) (c .before .before .count .ensures)) (omega (arith, c .before .if3 .taken))
+    (c .failure .ensures))
 
 pub apply-loop-one-requires : (t : ℕ) → apply-loop-lts.Need-one-requires (apply-loop-calls t) (apply-loop-at t) apply-loop.Post apply-loop-Inv-loop apply-loop-μ-loop
 apply-loop-one-requires t c κs =
-    let l = c .before .before .before .before .before .before .before .before .before .loop .inv in
-    (omega (arith, l .deeper, pos _ (c .before .before .before .before .before .before .before .if2 .left), c .before .before .before .before .before .before .before .before .before .before .before .pre .0), (ready-same l (c .before .before .before .before .before .before .before .before .if1 .left) (c .before .before .before .before .before .before .before .if2 .left), sym (c .before .before .before .before .before .before .kind .ensures) ∙ c .before .before .before .before .before .match .keys3))
+    let l = c .before .before .before .before .before .before .before .before .before .loop .inv in (
+      omega (
+        arith,
+        l .deeper,
+        pos _ (c .before .before .before .before .before .before .before .if2 .left),
+        c .before .before .before .before .before .before .before .before .before .before .before .pre .0,
+      ),
+      (
+        ready-same l (c .before .before .before .before .before .before .before .before .if1 .left)
+            (c .before .before .before .before .before .before .before .if2 .left),
+        sym
+            (c .before .before .before .before .before .before .kind .ensures) ∙ c .before .before .before .before .before .match .keys3,
+      ),
+    )
 
 pub apply-loop-same-length-6 : (t : ℕ) → apply-loop-lts.Need-same-length-6 (apply-loop-calls t) (apply-loop-at t) apply-loop.Post apply-loop-Inv-loop apply-loop-μ-loop
 apply-loop-same-length-6 t c = c .before .before .one .kept .1 .0 ∙ (c .before .before .before .before .before .before .before .before .before .before .before .before .loop .inv) .long
 
 pub apply-loop-returns-6 : (t : ℕ) → apply-loop-lts.Need-returns-6 (apply-loop-calls t) (apply-loop-at t) apply-loop.Post apply-loop-Inv-loop apply-loop-μ-loop
-apply-loop-returns-6 t c = whole (c .before .before .before .before .before .before .before .before .before .before .before .before .loop .inv) (c .before .before .before .before .before .before .before .before .before .before .before .if1 .left) (c .before .before .before .before .before .before .before .before .before .before .if2 .left) (c .before .before .one .ensures)
+apply-loop-returns-6 t c =
+    whole (c .before .before .before .before .before .before .before .before .before .before .before .before .loop .inv)
+    (c .before .before .before .before .before .before .before .before .before .before .before .if1 .left)
+    (c .before .before .before .before .before .before .before .before .before .before .if2 .left) (c .before .before .one .ensures)
 
 pub apply-loop-entry-requires-3 : (t : ℕ) → apply-loop-lts.Need-entry-requires-3 (apply-loop-calls t) (apply-loop-at t) apply-loop.Post apply-loop-Inv-loop apply-loop-μ-loop
 apply-loop-entry-requires-3 t c κs = ((c .before .before .before .before .before .before .loop .inv) .ready .inside, omega arith)
@@ -148,8 +180,15 @@ apply-loop-visits-to-failure-requires t c κs =
     let at-if5 = c .before .before in
     let at-if4 = at-if5 .before in
     let at-match = at-if4 .before in
-    let k = at-match .before in
-    ((turn k .loop .inv) .ready .hints, (turn k .loop .inv) .ready .inside, operand-below _ ((turn k .loop .inv) .ready .entries) _ 2 ((turn k .loop .inv) .ready .inside) (no-scope (of-two _ _ 5 (k .kind .ensures) (five-up _ (at-match .match .rest .0 .0 .1) (at-if4 .if4 .left)) (at-if5 .if5 .taken)) (omega arith) (omega arith)) (omega arith), (of-two _ _ 5 (k .kind .ensures) (five-up _ (at-match .match .rest .0 .0 .1) (at-if4 .if4 .left)) (at-if5 .if5 .taken)), rw (same-node _ (c .before .before .before .before .before .before .before .if1 .left)) (ready-stored ((turn k .loop .inv) .ready)))
+    let k = at-match .before in (
+      (turn k .loop .inv) .ready .hints,
+      (turn k .loop .inv) .ready .inside,
+      operand-below _ ((turn k .loop .inv) .ready .entries) _ 2
+          ((turn k .loop .inv) .ready .inside) (no-scope (of-two _ _ 5 (k .kind .ensures)
+          (five-up _ (at-match .match .rest .0 .0 .1) (at-if4 .if4 .left)) (at-if5 .if5 .taken)) (omega arith) (omega arith)) (omega arith),
+      (of-two _ _ 5 (k .kind .ensures) (five-up _ (at-match .match .rest .0 .0 .1) (at-if4 .if4 .left)) (at-if5 .if5 .taken)),
+      rw (same-node _ (c .before .before .before .before .before .before .before .if1 .left)) (ready-stored ((turn k .loop .inv) .ready)),
+    )
 
 pub apply-loop-entry-requires-4 : (t : ℕ) → apply-loop-lts.Need-entry-requires-4 (apply-loop-calls t) (apply-loop-at t) apply-loop.Post apply-loop-Inv-loop apply-loop-μ-loop
 apply-loop-entry-requires-4 t c κs = ((c .before .before .before .before .before .before .before .before .before .before .loop .inv) .ready .inside, omega arith)
@@ -172,7 +211,9 @@ apply-loop-loop-again-2 t c =
     let at-if4 = at-if5 .before in
     let at-match = at-if4 .before in
     let k = at-match .before in
-    skip-turn (turn k .loop .inv) (paid k .if1 .left) (nested k .if2 .left) refl (at-visits-to-failure .visits-to-failure .ensures) (at-if6 .if6 .taken) (of-two _ _ 5 (k .kind .ensures) (five-up _ (at-match .match .rest .0 .0 .1) (at-if4 .if4 .left)) (at-if5 .if5 .taken)) (at-entry4 .entry4 .ensures) (c .entry5 .ensures)
+    skip-turn (turn k .loop .inv) (paid k .if1 .left) (nested k .if2 .left) refl (at-visits-to-failure .visits-to-failure .ensures)
+    (at-if6 .if6 .taken) (of-two _ _ 5 (k .kind .ensures) (five-up _ (at-match .match .rest .0 .0 .1) (at-if4 .if4 .left))
+    (at-if5 .if5 .taken)) (at-entry4 .entry4 .ensures) (c .entry5 .ensures)
 
 pub apply-loop-apply-first-requires : (t : ℕ) → apply-loop-lts.Need-apply-first-requires (apply-loop-calls t) (apply-loop-at t) apply-loop.Post apply-loop-Inv-loop apply-loop-μ-loop
 apply-loop-apply-first-requires t c κs =
@@ -180,11 +221,18 @@ apply-loop-apply-first-requires t c κs =
     let at-if5 = at-entry3 .before in
     let at-if4 = at-if5 .before in
     let at-match = at-if4 .before in
-    let k = at-match .before in
-    (omega (arith, (turn k .loop .inv) .deeper, pos _ (nested k .if2 .left), start k .pre .0), ready-next (turn k .loop .inv) (paid k .if1 .left) (nested k .if2 .left) (no-scope (of-two _ _ 5 (k .kind .ensures) (five-up _ (at-match .match .rest .0 .0 .1) (at-if4 .if4 .left)) (at-if5 .if5 .taken)) (omega arith) (omega arith)) 0 _ (omega arith) (at-entry3 .entry3 .ensures))
+    let k = at-match .before in (
+      omega (arith, (turn k .loop .inv) .deeper, pos _ (nested k .if2 .left), start k .pre .0),
+      ready-next (turn k .loop .inv)
+          (paid k .if1 .left) (nested k .if2 .left) (no-scope
+          (of-two _ _ 5 (k .kind .ensures) (five-up _ (at-match .match .rest .0 .0 .1) (at-if4 .if4 .left)) (at-if5 .if5 .taken))
+          (omega arith) (omega arith)) 0 _ (omega arith) (at-entry3 .entry3 .ensures),
+    )
 
 pub apply-loop-same-length-7 : (t : ℕ) → apply-loop-lts.Need-same-length-7 (apply-loop-calls t) (apply-loop-at t) apply-loop.Post apply-loop-Inv-loop apply-loop-μ-loop
-apply-loop-same-length-7 t c = c .before .before .before .before .apply-first .kept .1 .0 ∙ (c .before .before .before .before .before .before .before .before .before .before .before .before .before .before .before .before .before .before .before .before .loop .inv) .long
+apply-loop-same-length-7 t c =
+    c .before .before .before .before .apply-first .kept .1 .0
+    ∙ (c .before .before .before .before .before .before .before .before .before .before .before .before .before .before .before .before .before .before .before .before .loop .inv) .long
 
 pub apply-loop-returns-7 : (t : ℕ) → apply-loop-lts.Need-returns-7 (apply-loop-calls t) (apply-loop-at t) apply-loop.Post apply-loop-Inv-loop apply-loop-μ-loop
 apply-loop-returns-7 t c =
@@ -195,7 +243,10 @@ apply-loop-returns-7 t c =
     let at-if4 = at-if5 .before in
     let at-match = at-if4 .before in
     let k = at-match .before in
-    left-returns (turn k .loop .inv) (paid k .if1 .left) (nested k .if2 .left) (at-entry3 .entry3 .ensures) (at-apply-first .apply-first .ensures) (at-answer-of2 .answer-of2 .ensures) (of-two _ _ 5 (k .kind .ensures) (five-up _ (at-match .match .rest .0 .0 .1) (at-if4 .if4 .left)) (at-if5 .if5 .taken)) refl (c .match3 .keys2)
+    left-returns (turn k .loop .inv) (paid k .if1 .left) (nested k .if2 .left) (at-entry3 .entry3 .ensures)
+    (at-apply-first .apply-first .ensures) (at-answer-of2 .answer-of2 .ensures)
+    (of-two _ _ 5 (k .kind .ensures) (five-up _ (at-match .match .rest .0 .0 .1) (at-if4 .if4 .left)) (at-if5 .if5 .taken)) refl
+    (c .match3 .keys2)
 
 pub apply-loop-cast-done : (t : ℕ) → apply-loop-lts.Need-cast-done (apply-loop-calls t) (apply-loop-at t) apply-loop.Post apply-loop-Inv-loop apply-loop-μ-loop
 apply-loop-cast-done t c =
@@ -205,10 +256,12 @@ apply-loop-cast-done t c =
     omega (arith, node-small ((at-loop .loop .inv) .ready .steady) _ (ready-same (at-loop .loop .inv) (at-if1 .if1 .left) (at-if2 .if2 .left) .subject))
 
 pub apply-loop-entry-requires-6 : (t : ℕ) → apply-loop-lts.Need-entry-requires-6 (apply-loop-calls t) (apply-loop-at t) apply-loop.Post apply-loop-Inv-loop apply-loop-μ-loop
-apply-loop-entry-requires-6 t c κs = ((c .before .before .before .before .before .before .before .before .before .before .before .before .before .before .before .before .before .before .before .before .before .before .before .before .before .loop .inv) .ready .inside, omega arith)
+apply-loop-entry-requires-6 t c κs =
+    ((c .before .before .before .before .before .before .before .before .before .before .before .before .before .before .before .before .before .before .before .before .before .before .before .before .before .loop .inv) .ready .inside, omega arith)
 
 pub apply-loop-loop-less-3 : (t : ℕ) → apply-loop-lts.Need-loop-less-3 (apply-loop-calls t) (apply-loop-at t) apply-loop.Post apply-loop-Inv-loop apply-loop-μ-loop
-apply-loop-loop-less-3 t c = omega (arith, pos _ (c .before .before .before .before .before .before .before .before .before .before .before .before .before .before .before .before .before .before .before .before .before .before .before .before .if2 .left))
+apply-loop-loop-less-3 t c =
+    omega (arith, pos _ (c .before .before .before .before .before .before .before .before .before .before .before .before .before .before .before .before .before .before .before .before .before .before .before .before .if2 .left))
 
 pub apply-loop-loop-again-3 : (t : ℕ) → apply-loop-lts.Need-loop-again-3 (apply-loop-calls t) (apply-loop-at t) apply-loop.Post apply-loop-Inv-loop apply-loop-μ-loop
 apply-loop-loop-again-3 t c =
@@ -222,7 +275,11 @@ apply-loop-loop-again-3 t c =
     let at-if4 = at-if5 .before in
     let at-match = at-if4 .before in
     let k = at-match .before in
-    rw (at-restore .restore .ensures, at-apply-first .before .before .before .mask-of .ensures) (left-turn (turn k .loop .inv) (paid k .if1 .left) (nested k .if2 .left) (at-entry3 .entry3 .ensures) (at-apply-first .apply-first .ensures) (at-answer-of2 .answer-of2 .ensures) (of-two _ _ 5 (k .kind .ensures) (five-up _ (at-match .match .rest .0 .0 .1) (at-if4 .if4 .left)) (at-if5 .if5 .taken)) (c .entry6 .ensures) (at-rest .rest .given .1) (at-done .done .ensures) (at-apply-first .apply-first .kept .1 .0))
+    rw (at-restore .restore .ensures, at-apply-first .before .before .before .mask-of .ensures)
+    (left-turn (turn k .loop .inv) (paid k .if1 .left) (nested k .if2 .left) (at-entry3 .entry3 .ensures)
+    (at-apply-first .apply-first .ensures) (at-answer-of2 .answer-of2 .ensures)
+    (of-two _ _ 5 (k .kind .ensures) (five-up _ (at-match .match .rest .0 .0 .1) (at-if4 .if4 .left)) (at-if5 .if5 .taken))
+    (c .entry6 .ensures) (at-rest .rest .given .1) (at-done .done .ensures) (at-apply-first .apply-first .kept .1 .0))
 
 pub apply-loop-entry-requires-7 : (t : ℕ) → apply-loop-lts.Need-entry-requires-7 (apply-loop-calls t) (apply-loop-at t) apply-loop.Post apply-loop-Inv-loop apply-loop-μ-loop
 apply-loop-entry-requires-7 t c κs = ((c .before .before .before .before .before .before .before .loop .inv) .ready .inside, omega arith)
@@ -241,8 +298,15 @@ pub apply-loop-rule-requires : (t : ℕ) → apply-loop-lts.Need-rule-requires (
 apply-loop-rule-requires t c κs =
     let at-if4 = c .before .before in
     let at-match = at-if4 .before in
-    let k = at-match .before in
-    (omega (arith, (turn k .loop .inv) .deeper, pos _ (nested k .if2 .left), start k .pre .0), (ready-same (turn k .loop .inv) (paid k .if1 .left) (nested k .if2 .left), last-kind _ _ (k .kind .ensures) (at-match .match .rest .0 .0 .1) (at-match .match .rest .0 .1) (at-match .match .rest .1) (⊎-elim (λ w. inl (w .taken)) (λ w. inr (w .2 .left)) (at-if4 .if4 .came))))
+    let k = at-match .before in (
+      omega (arith, (turn k .loop .inv) .deeper, pos _ (nested k .if2 .left), start k .pre .0),
+      (
+        ready-same (turn k .loop .inv) (paid k .if1 .left) (nested k .if2 .left),
+        last-kind _ _ (k .kind .ensures)
+            (at-match .match .rest .0 .0 .1) (at-match .match .rest .0 .1) (at-match .match .rest .1)
+            (⊎-elim (λ w. inl (w .taken)) (λ w. inr (w .2 .left)) (at-if4 .if4 .came)),
+      ),
+    )
 
 pub apply-loop-same-length-8 : (t : ℕ) → apply-loop-lts.Need-same-length-8 (apply-loop-calls t) (apply-loop-at t) apply-loop.Post apply-loop-Inv-loop apply-loop-μ-loop
 apply-loop-same-length-8 t c = c .before .before .rule .kept .1 .0 ∙ (c .before .before .before .before .before .before .before .before .before .before .loop .inv) .long

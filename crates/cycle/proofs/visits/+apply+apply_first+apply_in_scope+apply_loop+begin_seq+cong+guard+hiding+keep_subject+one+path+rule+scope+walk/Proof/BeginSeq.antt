@@ -14,10 +14,15 @@ pub begin-seq-kind-requires : (t : ℕ) → begin-seq-lts.Need-kind-requires (be
 begin-seq-kind-requires t c κs = (c .before .pre .1) .inside
 
 pub begin-seq-returns-2 : (t : ℕ) → begin-seq-lts.Need-returns-2 (begin-seq-calls t) (begin-seq-at t) begin-seq.Post
-begin-seq-returns-2 t c = ends-units (first-turn _ (c .before .before .before .before .before .pre .1) (c .before .before .before .before .before .fits .given .fits)) _ (c .no-units .ensures) (c .before .if2 .taken)
+begin-seq-returns-2 t c =
+    ends-units (first-turn _ (c .before .before .before .before .before .pre .1)
+    (c .before .before .before .before .before .fits .given .fits)) _ (c .no-units .ensures) (c .before .if2 .taken)
 
 pub begin-seq-returns-3 : (t : ℕ) → begin-seq-lts.Need-returns-3 (begin-seq-calls t) (begin-seq-at t) begin-seq.Post
-begin-seq-returns-3 t c = ends-nesting (first-turn _ (c .before .before .before .before .before .before .pre .1) (c .before .before .before .before .before .before .fits .given .fits)) _ (c .no-nesting .ensures) (c .before .before .if2 .left) (c .before .if3 .taken)
+begin-seq-returns-3 t c =
+    ends-nesting (first-turn _ (c .before .before .before .before .before .before .pre .1)
+    (c .before .before .before .before .before .before .fits .given .fits)) _ (c .no-nesting .ensures) (c .before .before .if2 .left)
+    (c .before .if3 .taken)
 
 pub begin-seq-apply-requires : (t : ℕ) → begin-seq-lts.Need-apply-requires (begin-seq-calls t) (begin-seq-at t) begin-seq.Post
 begin-seq-apply-requires t c κs = (omega arith, c .before .before .before .before .before .pre .1)
@@ -39,11 +44,28 @@ begin-seq-sub-match-node-2 t c = omega (arith, pos _ (c .before .before .before 
 
 pub begin-seq-match-node-requires : (t : ℕ) → begin-seq-lts.Need-match-node-requires (begin-seq-calls t) (begin-seq-at t) begin-seq.Post
 begin-seq-match-node-requires t c κs =
-    let r = ready-same (first-turn _ (c .before .before .before .before .before .before .before .before .pre .1) (c .before .before .before .before .before .before .before .before .fits .given .fits)) (c .before .before .before .before .if2 .left) (c .before .before .before .if3 .left) in
-    (matchable (ready-operand r (λ z. omega (arith, c .before .before .before .before .before .before .kind .ensures, c .before .before .before .before .before .if1 .left, z)) 0 _ _ (omega arith) (c .entry .ensures) (r .subject)), match-pattern r _ (c .entry .ensures) (c .before .before .before .before .before .before .kind .ensures) (c .before .before .before .before .before .if1 .left))
+    let r = ready-same (first-turn _ (c .before .before .before .before .before .before .before .before .pre .1)
+    (c .before .before .before .before .before .before .before .before .fits .given .fits))
+    (c .before .before .before .before .if2 .left) (c .before .before .before .if3 .left) in (
+      matchable (ready-operand r (λ z. omega (
+        arith,
+        c .before .before .before .before .before .before .kind .ensures,
+        c .before .before .before .before .before .if1 .left,
+        z,
+      )) 0 _ _ (omega arith) (c .entry .ensures) (r .subject)),
+      match-pattern r _
+          (c .entry .ensures) (c .before .before .before .before .before .before .kind .ensures)
+          (c .before .before .before .before .before .if1 .left),
+    )
 
 pub begin-seq-returns-4 : (t : ℕ) → begin-seq-lts.Need-returns-4 (begin-seq-calls t) (begin-seq-at t) begin-seq.Post
-begin-seq-returns-4 t c = whole (first-turn _ (c .before .before .before .before .before .before .before .before .before .pre .1) (c .before .before .before .before .before .before .before .before .before .fits .given .fits)) (c .before .before .before .before .before .if2 .left) (c .before .before .before .before .if3 .left) (renamed (c .match-node .ensures) (sym (ruled-match _ _ _ _ _ _ _ _ _ (c .before .entry .ensures) (sym (c .before .before .before .before .before .before .before .kind .ensures) ∙ c .before .before .before .before .before .before .if1 .left))))
+begin-seq-returns-4 t c =
+    whole (first-turn _ (c .before .before .before .before .before .before .before .before .before .pre .1)
+    (c .before .before .before .before .before .before .before .before .before .fits .given .fits))
+    (c .before .before .before .before .before .if2 .left) (c .before .before .before .before .if3 .left)
+    (renamed (c .match-node .ensures) (sym (ruled-match _ _ _ _ _ _ _ _ _ (c .before .entry .ensures)
+    (sym (c .before .before .before .before .before .before .before .kind .ensures)
+    ∙ c .before .before .before .before .before .before .if1 .left))))
 
 pub begin-seq-closed : {M : Type 1} (t : ℕ) → begin-seq-lts.Closed (begin-seq-calls t) (begin-seq-at t) begin-seq.Post M
 begin-seq-closed t =

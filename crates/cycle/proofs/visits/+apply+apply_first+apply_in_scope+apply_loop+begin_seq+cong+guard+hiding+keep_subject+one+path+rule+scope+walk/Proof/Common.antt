@@ -202,25 +202,170 @@ abbrev pub walk-below : ℕ → In 3 walk-kinds.ps
 walk-below t = and 3 walk-kinds.ps (falls 3 walk-kinds.ps _<_ μ-walk t) walk.Pre
 
 abbrev pub walk-calls : ℕ → walk-lts.Claims
-walk-calls t = (kind-reads.Asked, kind-reads.Learnt, count-reads.Asked, count-reads.Learnt, node-word-reads.Asked, node-word-reads.Learnt, visits-ahead-reads.Asked, visits-ahead-reads.Learnt, entry-ahead-reads.Asked, entry-ahead-reads.Learnt, no-units-reads.Asked, no-units-reads.Learnt, saved-mark-reads.Asked, saved-mark-reads.Learnt, saved-mask-reads.Asked, saved-mask-reads.Learnt, operand-reads.Asked, operand-reads.Learnt, done-reads.Asked, done-reads.Learnt, apply-below t, apply.Post, attempt-of-reads.Asked, attempt-of-reads.Learnt, restore-reads.Asked, restore-reads.Learnt, child-at-reads.Asked, child-at-reads.Learnt, others-at-reads.Asked, others-at-reads.Learnt, finish-reads.Asked, finish-reads.Learnt)
+walk-calls t = (
+  kind-reads.Asked,
+  kind-reads.Learnt,
+  count-reads.Asked,
+  count-reads.Learnt,
+  node-word-reads.Asked,
+  node-word-reads.Learnt,
+  visits-ahead-reads.Asked,
+  visits-ahead-reads.Learnt,
+  entry-ahead-reads.Asked,
+  entry-ahead-reads.Learnt,
+  no-units-reads.Asked,
+  no-units-reads.Learnt,
+  saved-mark-reads.Asked,
+  saved-mark-reads.Learnt,
+  saved-mask-reads.Asked,
+  saved-mask-reads.Learnt,
+  operand-reads.Asked,
+  operand-reads.Learnt,
+  done-reads.Asked,
+  done-reads.Learnt,
+  apply-below t,
+  apply.Post,
+  attempt-of-reads.Asked,
+  attempt-of-reads.Learnt,
+  restore-reads.Asked,
+  restore-reads.Learnt,
+  child-at-reads.Asked,
+  child-at-reads.Learnt,
+  others-at-reads.Asked,
+  others-at-reads.Learnt,
+  finish-reads.Asked,
+  finish-reads.Learnt,
+)
 
 abbrev pub scope-calls : ℕ → scope-lts.Claims
-scope-calls t = (scope-mask-reads.Asked, scope-mask-reads.Learnt, bound-in-reads.Asked, bound-in-reads.Learnt, hiding-below t, hiding.Post, entry-reads.Asked, entry-reads.Learnt, apply-in-scope-below t, apply-in-scope.Post, unbind-reads.Asked, unbind-reads.Learnt)
+scope-calls t = (
+  scope-mask-reads.Asked,
+  scope-mask-reads.Learnt,
+  bound-in-reads.Asked,
+  bound-in-reads.Learnt,
+  hiding-below t,
+  hiding.Post,
+  entry-reads.Asked,
+  entry-reads.Learnt,
+  apply-in-scope-below t,
+  apply-in-scope.Post,
+  unbind-reads.Asked,
+  unbind-reads.Learnt,
+)
 
 abbrev pub rule-calls : ℕ → rule-lts.Claims
-rule-calls t = (kind-reads.Asked, kind-reads.Learnt, path-below t, path.Post, walk-below t, walk.Post, entry-reads.Asked, entry-reads.Learnt, match-node-reads.Asked, match-node-reads.Learnt, build-reads.Asked, build-reads.Learnt, scope-below t, scope.Post, keep-subject-below t, keep-subject.Post, guard-below t, guard.Post, failure-reads.Asked, failure-reads.Learnt)
+rule-calls t = (
+  kind-reads.Asked,
+  kind-reads.Learnt,
+  path-below t,
+  path.Post,
+  walk-below t,
+  walk.Post,
+  entry-reads.Asked,
+  entry-reads.Learnt,
+  match-node-reads.Asked,
+  match-node-reads.Learnt,
+  build-reads.Asked,
+  build-reads.Learnt,
+  scope-below t,
+  scope.Post,
+  keep-subject-below t,
+  keep-subject.Post,
+  guard-below t,
+  guard.Post,
+  failure-reads.Asked,
+  failure-reads.Learnt,
+)
 
 abbrev pub path-calls : ℕ → path-lts.Claims
-path-calls t = (entry-reads.Asked, entry-reads.Learnt, failure-reads.Asked, failure-reads.Learnt, count-reads.Asked, count-reads.Learnt, node-word-reads.Asked, node-word-reads.Learnt, done-reads.Asked, done-reads.Learnt, apply-below t, apply.Post, answer-of-reads.Asked, answer-of-reads.Learnt, row-reads.Asked, row-reads.Learnt, node-reads.Asked, node-reads.Learnt)
+path-calls t = (
+  entry-reads.Asked,
+  entry-reads.Learnt,
+  failure-reads.Asked,
+  failure-reads.Learnt,
+  count-reads.Asked,
+  count-reads.Learnt,
+  node-word-reads.Asked,
+  node-word-reads.Learnt,
+  done-reads.Asked,
+  done-reads.Learnt,
+  apply-below t,
+  apply.Post,
+  answer-of-reads.Asked,
+  answer-of-reads.Learnt,
+  row-reads.Asked,
+  row-reads.Learnt,
+  node-reads.Asked,
+  node-reads.Learnt,
+)
 
 abbrev pub one-calls : ℕ → one-lts.Claims
-one-calls t = (count-reads.Asked, count-reads.Learnt, mask-of-reads.Asked, mask-of-reads.Learnt, visits-ahead-reads.Asked, visits-ahead-reads.Learnt, entry-ahead-reads.Asked, entry-ahead-reads.Learnt, no-units-reads.Asked, no-units-reads.Learnt, node-word-reads.Asked, node-word-reads.Learnt, done-reads.Asked, done-reads.Learnt, apply-loop-below t, apply-loop.Post, attempt-of-reads.Asked, attempt-of-reads.Learnt, row-reads.Asked, row-reads.Learnt, node-reads.Asked, node-reads.Learnt, restore-reads.Asked, restore-reads.Learnt, failure-reads.Asked, failure-reads.Learnt)
+one-calls t = (
+  count-reads.Asked,
+  count-reads.Learnt,
+  mask-of-reads.Asked,
+  mask-of-reads.Learnt,
+  visits-ahead-reads.Asked,
+  visits-ahead-reads.Learnt,
+  entry-ahead-reads.Asked,
+  entry-ahead-reads.Learnt,
+  no-units-reads.Asked,
+  no-units-reads.Learnt,
+  node-word-reads.Asked,
+  node-word-reads.Learnt,
+  done-reads.Asked,
+  done-reads.Learnt,
+  apply-loop-below t,
+  apply-loop.Post,
+  attempt-of-reads.Asked,
+  attempt-of-reads.Learnt,
+  row-reads.Asked,
+  row-reads.Learnt,
+  node-reads.Asked,
+  node-reads.Learnt,
+  restore-reads.Asked,
+  restore-reads.Learnt,
+  failure-reads.Asked,
+  failure-reads.Learnt,
+)
 
 abbrev pub hiding-calls : ℕ → hiding-lts.Claims
-hiding-calls t = (scope-mask-reads.Asked, scope-mask-reads.Learnt, bound-in-reads.Asked, bound-in-reads.Learnt, kept-words-reads.Asked, kept-words-reads.Learnt, unbind-reads.Asked, unbind-reads.Learnt, entry-reads.Asked, entry-reads.Learnt, apply-in-scope-below t, apply-in-scope.Post, put-back-reads.Asked, put-back-reads.Learnt)
+hiding-calls t = (
+  scope-mask-reads.Asked,
+  scope-mask-reads.Learnt,
+  bound-in-reads.Asked,
+  bound-in-reads.Learnt,
+  kept-words-reads.Asked,
+  kept-words-reads.Learnt,
+  unbind-reads.Asked,
+  unbind-reads.Learnt,
+  entry-reads.Asked,
+  entry-reads.Learnt,
+  apply-in-scope-below t,
+  apply-in-scope.Post,
+  put-back-reads.Asked,
+  put-back-reads.Learnt,
+)
 
 abbrev pub guard-calls : ℕ → guard-lts.Claims
-guard-calls t = (mask-of-reads.Asked, mask-of-reads.Learnt, entry-reads.Asked, entry-reads.Learnt, apply-below t, apply.Post, attempt-of-reads.Asked, attempt-of-reads.Learnt, restore-reads.Asked, restore-reads.Learnt, kind-reads.Asked, kind-reads.Learnt, done-reads.Asked, done-reads.Learnt, failure-reads.Asked, failure-reads.Learnt)
+guard-calls t = (
+  mask-of-reads.Asked,
+  mask-of-reads.Learnt,
+  entry-reads.Asked,
+  entry-reads.Learnt,
+  apply-below t,
+  apply.Post,
+  attempt-of-reads.Asked,
+  attempt-of-reads.Learnt,
+  restore-reads.Asked,
+  restore-reads.Learnt,
+  kind-reads.Asked,
+  kind-reads.Learnt,
+  done-reads.Asked,
+  done-reads.Learnt,
+  failure-reads.Asked,
+  failure-reads.Learnt,
+)
 
 abbrev pub cong-calls : ℕ → cong-lts.Claims
 cong-calls t = (agree-reads.Asked, agree-reads.Learnt, failure-reads.Asked, failure-reads.Learnt, walk-below t, walk.Post)
@@ -229,16 +374,99 @@ abbrev pub keep-subject-calls : ℕ → keep-subject-lts.Claims
 keep-subject-calls t = (entry-reads.Asked, entry-reads.Learnt, apply-below t, apply.Post, answer-of-reads.Asked, answer-of-reads.Learnt, done-reads.Asked, done-reads.Learnt)
 
 abbrev pub apply-loop-calls : ℕ → apply-loop-lts.Claims
-apply-loop-calls t = (no-units-reads.Asked, no-units-reads.Learnt, no-nesting-reads.Asked, no-nesting-reads.Learnt, kind-reads.Asked, kind-reads.Learnt, entry-reads.Asked, entry-reads.Learnt, begin-seq-below t, begin-seq.Post, answer-of-reads.Asked, answer-of-reads.Learnt, cong-below t, cong.Post, count-reads.Asked, count-reads.Learnt, failure-reads.Asked, failure-reads.Learnt, one-below t, one.Post, visits-to-failure-reads.Asked, visits-to-failure-reads.Learnt, mask-of-reads.Asked, mask-of-reads.Learnt, apply-first-below t, apply-first.Post, restore-reads.Asked, restore-reads.Learnt, done-reads.Asked, done-reads.Learnt, rule-below t, rule.Post)
+apply-loop-calls t = (
+  no-units-reads.Asked,
+  no-units-reads.Learnt,
+  no-nesting-reads.Asked,
+  no-nesting-reads.Learnt,
+  kind-reads.Asked,
+  kind-reads.Learnt,
+  entry-reads.Asked,
+  entry-reads.Learnt,
+  begin-seq-below t,
+  begin-seq.Post,
+  answer-of-reads.Asked,
+  answer-of-reads.Learnt,
+  cong-below t,
+  cong.Post,
+  count-reads.Asked,
+  count-reads.Learnt,
+  failure-reads.Asked,
+  failure-reads.Learnt,
+  one-below t,
+  one.Post,
+  visits-to-failure-reads.Asked,
+  visits-to-failure-reads.Learnt,
+  mask-of-reads.Asked,
+  mask-of-reads.Learnt,
+  apply-first-below t,
+  apply-first.Post,
+  restore-reads.Asked,
+  restore-reads.Learnt,
+  done-reads.Asked,
+  done-reads.Learnt,
+  rule-below t,
+  rule.Post,
+)
 
 abbrev pub apply-calls : ℕ → apply-lts.Claims
-apply-calls t = (kind-reads.Asked, kind-reads.Learnt, apply-loop-below t, apply-loop.Post, no-units-reads.Asked, no-units-reads.Learnt, no-nesting-reads.Asked, no-nesting-reads.Learnt, count-reads.Asked, count-reads.Learnt, walk-below t, walk.Post)
+apply-calls t = (
+  kind-reads.Asked,
+  kind-reads.Learnt,
+  apply-loop-below t,
+  apply-loop.Post,
+  no-units-reads.Asked,
+  no-units-reads.Learnt,
+  no-nesting-reads.Asked,
+  no-nesting-reads.Learnt,
+  count-reads.Asked,
+  count-reads.Learnt,
+  walk-below t,
+  walk.Post,
+)
 
 abbrev pub apply-first-calls : ℕ → apply-first-lts.Claims
-apply-first-calls t = (kind-reads.Asked, kind-reads.Learnt, apply-loop-below t, apply-loop.Post, no-units-reads.Asked, no-units-reads.Learnt, no-nesting-reads.Asked, no-nesting-reads.Learnt, scope-below t, scope.Post, cong-below t, cong.Post)
+apply-first-calls t = (
+  kind-reads.Asked,
+  kind-reads.Learnt,
+  apply-loop-below t,
+  apply-loop.Post,
+  no-units-reads.Asked,
+  no-units-reads.Learnt,
+  no-nesting-reads.Asked,
+  no-nesting-reads.Learnt,
+  scope-below t,
+  scope.Post,
+  cong-below t,
+  cong.Post,
+)
 
 abbrev pub begin-seq-calls : ℕ → begin-seq-lts.Claims
-begin-seq-calls t = (kind-reads.Asked, kind-reads.Learnt, apply-below t, apply.Post, no-units-reads.Asked, no-units-reads.Learnt, no-nesting-reads.Asked, no-nesting-reads.Learnt, entry-reads.Asked, entry-reads.Learnt, match-node-reads.Asked, match-node-reads.Learnt)
+begin-seq-calls t = (
+  kind-reads.Asked,
+  kind-reads.Learnt,
+  apply-below t,
+  apply.Post,
+  no-units-reads.Asked,
+  no-units-reads.Learnt,
+  no-nesting-reads.Asked,
+  no-nesting-reads.Learnt,
+  entry-reads.Asked,
+  entry-reads.Learnt,
+  match-node-reads.Asked,
+  match-node-reads.Learnt,
+)
 
 abbrev pub apply-in-scope-calls : ℕ → apply-in-scope-lts.Claims
-apply-in-scope-calls t = (kind-reads.Asked, kind-reads.Learnt, apply-loop-below t, apply-loop.Post, no-units-reads.Asked, no-units-reads.Learnt, no-nesting-reads.Asked, no-nesting-reads.Learnt, scope-below t, scope.Post)
+apply-in-scope-calls t = (
+  kind-reads.Asked,
+  kind-reads.Learnt,
+  apply-loop-below t,
+  apply-loop.Post,
+  no-units-reads.Asked,
+  no-units-reads.Learnt,
+  no-nesting-reads.Asked,
+  no-nesting-reads.Learnt,
+  scope-below t,
+  scope.Post,
+)

@@ -12,10 +12,20 @@ pub cong-agree-requires : (t : ℕ) → cong-lts.Need-agree-requires (cong-calls
 cong-agree-requires t c κs = let r = c .before .before .pre .1 .0 in (r .inside, ready-stored r)
 
 pub cong-returns : (t : ℕ) → cong-lts.Need-returns (cong-calls t) (cong-at t) cong.Post
-cong-returns t c = gives-cong-failed _ (c .before .before .before .before .before .pre .1 .0) (c .before .before .before .before .before .pre .1 .1) (c .before .before .agree .ensures) (c .before .if1 .taken) (c .failure .ensures)
+cong-returns t c =
+    gives-cong-failed _ (c .before .before .before .before .before .pre .1 .0) (c .before .before .before .before .before .pre .1 .1)
+    (c .before .before .agree .ensures) (c .before .if1 .taken) (c .failure .ensures)
 
 pub cong-walk-requires : (t : ℕ) → cong-lts.Need-walk-requires (cong-calls t) (cong-at t) cong.Post
-cong-walk-requires t c κs = (omega arith, (c .before .before .before .before .before .before .pre .1 .0, cong-counted 0 (c .before .before .before .before .before .before .pre .1 .0) (c .before .before .before .before .before .before .pre .1 .1) (c .before .before .before .agree .ensures) (c .before .before .if1 .left)))
+cong-walk-requires t c κs = (
+  omega arith,
+  (
+    c .before .before .before .before .before .before .pre .1 .0,
+    cong-counted 0
+        (c .before .before .before .before .before .before .pre .1 .0) (c .before .before .before .before .before .before .pre .1 .1)
+        (c .before .before .before .agree .ensures) (c .before .before .if1 .left),
+  ),
+)
 
 pub cong-returns-2 : (t : ℕ) → cong-lts.Need-returns-2 (cong-calls t) (cong-at t) cong.Post
 cong-returns-2 t c =

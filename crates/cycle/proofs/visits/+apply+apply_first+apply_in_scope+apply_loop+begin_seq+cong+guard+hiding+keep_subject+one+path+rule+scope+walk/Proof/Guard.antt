@@ -13,7 +13,12 @@ pub guard-entry-requires : (t : ℕ) → guard-lts.Need-entry-requires (guard-ca
 guard-entry-requires t c κs = ((c .before .before .before .before .before .before .pre .1 .0) .inside, omega arith)
 
 pub guard-apply-requires : (t : ℕ) → guard-lts.Need-apply-requires (guard-calls t) (guard-at t) guard.Post
-guard-apply-requires t c κs = (omega arith, ready-operand (c .before .before .before .before .before .before .before .pre .1 .0) (no-scope (c .before .before .before .before .before .before .before .pre .1 .1) (omega arith) (omega arith)) 0 _ _ (omega arith) (c .entry .ensures) ((c .before .before .before .before .before .before .before .pre .1 .0) .subject))
+guard-apply-requires t c κs = (
+  omega arith,
+  ready-operand (c .before .before .before .before .before .before .before .pre .1 .0)
+      (no-scope (c .before .before .before .before .before .before .before .pre .1 .1) (omega arith) (omega arith)) 0 _ _ (omega arith)
+      (c .entry .ensures) ((c .before .before .before .before .before .before .before .pre .1 .0) .subject),
+)
 
 pub guard-returns : (t : ℕ) → guard-lts.Need-returns (guard-calls t) (guard-at t) guard.Post
 guard-returns t c =

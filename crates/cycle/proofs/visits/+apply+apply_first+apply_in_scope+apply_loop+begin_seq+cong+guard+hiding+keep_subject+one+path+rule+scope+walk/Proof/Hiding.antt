@@ -17,8 +17,11 @@ pub hiding-apply-in-scope-requires : (t : ℕ) → hiding-lts.Need-apply-in-scop
 hiding-apply-in-scope-requires t c κs =
     let at-unbind = c .before .before .before in
     let at-scope-mask = at-unbind .before .before .before .before .before .before in
-    let start = at-scope-mask .before .before in
-    (omega arith, ready-hiding (start .args .deep) (start .pre .1 .0) (at-scope-mask .scope-mask .ensures) (omega (arith, at-scope-mask .scope-mask .ok)) (c .entry .ensures) (start .pre .1 .1) (at-unbind .unbind .ensures))
+    let start = at-scope-mask .before .before in (
+      omega arith,
+      ready-hiding (start .args .deep) (start .pre .1 .0) (at-scope-mask .scope-mask .ensures)
+          (omega (arith, at-scope-mask .scope-mask .ok)) (c .entry .ensures) (start .pre .1 .1) (at-unbind .unbind .ensures),
+    )
 
 pub hiding-returns : (t : ℕ) → hiding-lts.Need-returns (hiding-calls t) (hiding-at t) hiding.Post
 hiding-returns t c =
@@ -30,7 +33,9 @@ hiding-returns t c =
     let at-bound-in = at-kept-words .before .before in
     let at-scope-mask = at-bound-in .before .before in
     let start = at-scope-mask .before .before in
-    gives-hiding _ (start .pre .1 .0) (at-scope-mask .scope-mask .ensures) (omega (arith, at-scope-mask .scope-mask .ok)) (at-entry .entry .ensures) (start .pre .1 .1) (at-unbind .unbind .ensures) (at-apply-in-scope .apply-in-scope .ensures) (at-bound-in .bound-in .ensures) (at-kept-words .kept-words .ensures) (at-unbind2 .unbind2 .ensures) (c .put-back .ensures)
+    gives-hiding _ (start .pre .1 .0) (at-scope-mask .scope-mask .ensures) (omega (arith, at-scope-mask .scope-mask .ok))
+    (at-entry .entry .ensures) (start .pre .1 .1) (at-unbind .unbind .ensures) (at-apply-in-scope .apply-in-scope .ensures)
+    (at-bound-in .bound-in .ensures) (at-kept-words .kept-words .ensures) (at-unbind2 .unbind2 .ensures) (c .put-back .ensures)
 
 pub hiding-closed : {M : Type 1} (t : ℕ) → hiding-lts.Closed (hiding-calls t) (hiding-at t) hiding.Post M
 hiding-closed t =

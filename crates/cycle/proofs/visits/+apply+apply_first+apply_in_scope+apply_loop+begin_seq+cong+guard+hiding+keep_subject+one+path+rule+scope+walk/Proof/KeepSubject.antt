@@ -12,7 +12,12 @@ pub keep-subject-entry-requires : (t : ℕ) → keep-subject-lts.Need-entry-requ
 keep-subject-entry-requires t c κs = ((c .before .before .before .pre .1 .0) .inside, omega arith)
 
 pub keep-subject-apply-requires : (t : ℕ) → keep-subject-lts.Need-apply-requires (keep-subject-calls t) (keep-subject-at t) keep-subject.Post
-keep-subject-apply-requires t c κs = (omega arith, ready-operand (c .before .before .before .before .pre .1 .0) (λ z. omega (arith, c .before .before .before .before .pre .1 .1, z)) 0 _ _ (omega arith) (c .entry .ensures) ((c .before .before .before .before .pre .1 .0) .subject))
+keep-subject-apply-requires t c κs = (
+  omega arith,
+  ready-operand (c .before .before .before .before .pre .1 .0)
+      (λ z. omega (arith, c .before .before .before .before .pre .1 .1, z)) 0 _ _ (omega arith) (c .entry .ensures)
+      ((c .before .before .before .before .pre .1 .0) .subject),
+)
 
 pub keep-subject-returns : (t : ℕ) → keep-subject-lts.Need-returns (keep-subject-calls t) (keep-subject-at t) keep-subject.Post
 keep-subject-returns t c =

@@ -34,7 +34,9 @@ scope-returns-2 t c =
     let at-bound-in = at-if1 .before in
     let at-scope-mask = at-bound-in .before .before in
     let start = at-scope-mask .before .before in
-    gives-scope _ (start .pre .1 .0) (at-scope-mask .scope-mask .ensures) (omega (arith, at-scope-mask .scope-mask .ok)) (at-entry .entry .ensures) (start .pre .1 .1) (at-apply-in-scope .apply-in-scope .ensures) (sym (at-bound-in .bound-in .ensures) ∙ at-if1 .if1 .left) (c .unbind .ensures)
+    gives-scope _ (start .pre .1 .0) (at-scope-mask .scope-mask .ensures) (omega (arith, at-scope-mask .scope-mask .ok))
+    (at-entry .entry .ensures) (start .pre .1 .1) (at-apply-in-scope .apply-in-scope .ensures)
+    (sym (at-bound-in .bound-in .ensures) ∙ at-if1 .if1 .left) (c .unbind .ensures)
 
 pub scope-closed : {M : Type 1} (t : ℕ) → scope-lts.Closed (scope-calls t) (scope-at t) scope.Post M
 scope-closed t =

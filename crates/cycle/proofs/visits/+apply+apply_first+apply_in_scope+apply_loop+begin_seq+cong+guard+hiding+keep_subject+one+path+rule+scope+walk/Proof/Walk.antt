@@ -1,4 +1,6 @@
-use Rattle.cycle.proofs.Walker.{Going, going-stored, going-first, going-off, going-stops, going-yes, going-no, going-fits, going-long, going-small, going-ends, ahead-ready, ahead-gives, ahead-short, placed, four-still, whole-made}
+use Rattle.cycle.proofs.Walker.{Going, going-stored, going-first, going-off, going-stops, going-yes, going-no, going-fits}
+use Rattle.cycle.proofs.Walker.{going-long, going-small, going-ends, ahead-ready, ahead-gives, ahead-short, placed, four-still}
+use Rattle.cycle.proofs.Walker.{whole-made}
 use Rattle.cycle.proofs.Rowing.{ready-stored}
 use Rattle.meaning.specs.Rules.{apply}
 use Rattle.state.specs.Answers.{nodeIn, unitsIn, packed}
@@ -17,7 +19,8 @@ use Rattle.cycle.proofs.visits.+apply+apply_first+apply_in_scope+apply_
 use Rattle.cycle.proofs.visits.+apply+apply_first+apply_in_scope+apply_loop+begin_seq+cong+guard+hiding+keep_subject+one+path+rule+scope+walk.Proof.Common.{walk-at, walk-calls}
 
 abbrev pub walk-Inv-loop : walk-lts.InvT-loop
-walk-Inv-loop table store₀ st₀ e s deep t u₀ kind n name ahead first won₀ a₀ b₀ more₀ i₀ store st u won a b more i = Going table store₀ st₀ e s deep store st u won (name ∷ n ∷ a ∷ b ∷ more) i × (length more ≡ 4)
+walk-Inv-loop table store₀ st₀ e s deep t u₀ kind n name ahead first won₀ a₀ b₀ more₀ i₀ store st u won a b more i =
+    Going table store₀ st₀ e s deep store st u won (name ∷ n ∷ a ∷ b ∷ more) i × (length more ≡ 4)
 
 abbrev pub walk-μ-loop : walk-lts.MeasureT-loop
 walk-μ-loop table store₀ st₀ e s deep t u₀ kind n name ahead first won₀ a₀ b₀ more₀ i₀ store st u won a b more i = n - i
