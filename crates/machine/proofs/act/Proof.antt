@@ -54,16 +54,25 @@ returns c =
 returns-2 : tie.Need-returns-2
 unfolding acts
 returns-2 c =
-    let a = c .before .before .before .before .before .before .before .before .before .before .before .before .before .args in
+    let at-standing-row = c .before .before .before .before in
+    let at-if2 = at-standing-row .before .before .before in
+    let at-enum-told8 = at-if2 .before in
+    let start = at-enum-told8 .before .before .before .before .before in
+    let a = start .args in
     let r = rowAt (a .work .now) (10 * a .i + 1) in
-    carried-made _ _ _ _ _ _ _ (c .before .before .before .before .before .before .before .before .before .before .before .before .before .pre .1) (c .before .before .before .before .before .before .before .before .enum-told8 .given .1) refl refl refl
-    (node-found _ _ _ (a .m) r _ (found-shared _ _ (a .i) (a .m) r (c .before .before .before .before .before .before .before .if2 .taken)
-    (c .before .before .before .before .standing-row .ensures) (c .before .before .found2 .given .1)) (c .state5 .ensures))
+    carried-made _ _ _ _ _ _ _ (start .pre .1) (at-enum-told8 .enum-told8 .given .1) refl refl refl
+    (node-found _ _ _ (a .m) r _ (found-shared _ _ (a .i) (a .m) r (at-if2 .if2 .taken)
+    (at-standing-row .standing-row .ensures) (c .before .before .found2 .given .1)) (c .state5 .ensures))
 
 returns-3 : tie.Need-returns-3
 returns-3 c =
-    carried-unscoped _ _ _ _ _ _ _ (c .before .before .before .before .before .before .before .before .before .before .before .before .before .before .before .pre .1) (c .before .before .before .before .before .before .before .before .before .if5 .taken) (c .before .before .before .before .before .before .before .before .before .before .enum-told12 .given .1) (small (c .before .before .before .before .before .before .before .before .before .before .before .before .before .before .before))
-    (c .before .before .before .before .before .before .before .kept-mask .ensures) refl (c .before .before .before .before .copy-words .ensures) refl
+    let at-copy-words = c .before .before .before .before in
+    let at-kept-mask = at-copy-words .before .before .before in
+    let at-if5 = at-kept-mask .before .before in
+    let at-enum-told12 = at-if5 .before in
+    let start = at-enum-told12 .before .before .before .before .before in
+    carried-unscoped _ _ _ _ _ _ _ (start .pre .1) (at-if5 .if5 .taken) (at-enum-told12 .enum-told12 .given .1) (small (start))
+    (at-kept-mask .kept-mask .ensures) refl (at-copy-words .copy-words .ensures) refl
 
 returns-4 : tie.Need-returns-4
 returns-4 c =

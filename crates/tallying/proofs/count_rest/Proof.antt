@@ -22,7 +22,10 @@ end-requires c κs = (
 
 returns-2 : tie.Need-returns-2
 returns-2 c =
-    c .before .before .end .ensures ∙ rest-ended _ _ (c .before .before .before .before .before .before .before .before .before .before .args .m) (c .before .before .before .before .before .before .if1 .left) (c .before .before .before .before .if2 .taken)
+    let at-if2 = c .before .before .before .before in
+    let at-if1 = at-if2 .before .before in
+    let start = at-if1 .before .before .before .before in
+    c .before .before .end .ensures ∙ rest-ended _ _ (start .args .m) (at-if1 .if1 .left) (at-if2 .if2 .taken)
 
 fly-requires-2 : tie.Need-fly-requires-2
 fly-requires-2 c κs = (
@@ -36,7 +39,9 @@ fly-requires-2 c κs = (
 
 returns-3 : tie.Need-returns-3
 returns-3 c =
-    c .before .before .fly2 .ensures ∙ rest-cut _ _ (c .before .before .before .before .before .before .before .before .before .before .before .args .m) (c .before .before .before .before .before .if2 .left)
+    let at-if2 = c .before .before .before .before .before in
+    let start = at-if2 .before .before .before .before .before .before in
+    c .before .before .fly2 .ensures ∙ rest-cut _ _ (start .args .m) (at-if2 .if2 .left)
 
 pub count-rest-spec : {M : Type 1} → statement M
 count-rest-spec =

@@ -77,30 +77,37 @@ loop-less c = omega (arith, c .before .before .before .before .before .before .b
 
 loop-again : tie.Need-loop-again Inv-loop μ-loop
 loop-again c =
-    let e : c .before .before .link .last .0 ≡ linked (c .before .before .before .before .before .before .before .before .before .before .before .loop .index) 0 (c .before .before .before .before .before .before .before .before .before .before .before .before .before .before .args .n) (place (c .before .before .before .before .before .before .before .before .before .before .before .before .before .before .args .store .now) (c .before .before .before .before .before .before .before .before .before .before .before .before .before .before .args .n) (c .before .before .before .before .before .before .before .before .before .before .before .loop .k)) (c .before .before .before .before .before .before .before .before .before .before .before .loop .k) =
+    let at-home-of = c .before .before .before .before in
+    let at-enum-told2 = at-home-of .before in
+    let at-find = at-enum-told2 .before .before in
+    let at-eight-words = at-find .before .before in
+    let at-loop-test = at-eight-words .before in
+    let at-loop = at-loop-test .before in
+    let start = at-loop .before .before .before in
+    let e : c .before .before .link .last .0 ≡ linked (at-loop .loop .index) 0 (start .args .n) (place (start .args .store .now) (start .args .n) (at-loop .loop .k)) (at-loop .loop .k) =
     c .before .before .link .ensures ∙ ap (λ q. linked
-    (c .before .before .before .before .before .before .before .before .before .before .before .loop .index) 0
-    (c .before .before .before .before .before .before .before .before .before .before .before .before .before .before .args .n) q
-    (c .before .before .before .before .before .before .before .before .before .before .before .loop .k))
-    (c .before .before .before .before .home-of .ensures
-    ∙ ap (home (c .before .before .before .before .before .before .before .before .before .before .before .before .before .before .args .n)) (c .before .before .before .before .before .before .before .before .before .eight-words .ensures)) in
-    let h = indexed-linked (c .before .before .before .before .before .before .before .before .before .before .before .loop .inv .2)
+    (at-loop .loop .index) 0
+    (start .args .n) q
+    (at-loop .loop .k))
+    (at-home-of .home-of .ensures
+    ∙ ap (home (start .args .n)) (at-eight-words .eight-words .ensures)) in
+    let h = indexed-linked (at-loop .loop .inv .2)
     (omega (
       arith,
-      c .before .before .before .before .before .before .before .before .before .before .loop-test .taken,
-      c .before .before .before .before .before .before .before .before .before .before .before .before .before .before .pre .1,
+      at-loop-test .loop-test .taken,
+      start .pre .1,
     )) in (
-      omega (arith, c .before .before .before .before .before .before .before .before .before .before .loop-test .taken),
-      ap length e ∙ length-linked _ _ _ _ _ ∙ c .before .before .before .before .before .before .before .before .before .before .before .loop .inv .1,
-      subst (λ l. Indexed (c .before .before .before .before .before .before .before .before .before .before .before .before .before .before .args .store .now) l 0 (c .before .before .before .before .before .before .before .before .before .before .before .before .before .before .args .n) (c .before .before .before .before .before .before .before .before .before .before .before .loop .k + 1)) (sym e) (subst (Indexed _ _ 0 (c .before .before .before .before .before .before .before .before .before .before .before .before .before .before .args .n)) (sym (add-one (c .before .before .before .before .before .before .before .before .before .before .before .loop .k))) h),
-      rejected-turn _ _ _ _ (c .before .before .before .before .before .before .before .before .before .before .before .loop .inv .3)
-          (c .before .before .before .before .before .before .before .before .before .before .loop-test .taken)
-          (fresh-by _ (c .before .before .before .before .before .before .before .before .before .eight-words .result)
-          (c .before .before .before .before .before .before .before .before .before .before .before .loop .k)
-          (c .before .before .before .before .before .before .before .find .result) true
-          (c .before .before .before .before .before .before .before .find .ensures)
-          (c .before .before .before .before .before .before .before .before .before .eight-words .ensures)
-          (ap (λ f. absent (placeOf f)) (c .before .before .before .before .before .enum-told2 .given .1))),
+      omega (arith, at-loop-test .loop-test .taken),
+      ap length e ∙ length-linked _ _ _ _ _ ∙ at-loop .loop .inv .1,
+      subst (λ l. Indexed (start .args .store .now) l 0 (start .args .n) (at-loop .loop .k + 1)) (sym e) (subst (Indexed _ _ 0 (start .args .n)) (sym (add-one (at-loop .loop .k))) h),
+      rejected-turn _ _ _ _ (at-loop .loop .inv .3)
+          (at-loop-test .loop-test .taken)
+          (fresh-by _ (at-eight-words .eight-words .result)
+          (at-loop .loop .k)
+          (at-find .find .result) true
+          (at-find .find .ensures)
+          (at-eight-words .eight-words .ensures)
+          (ap (λ f. absent (placeOf f)) (at-enum-told2 .enum-told2 .given .1))),
     )
 
 same-length-2 : tie.Need-same-length-2 Inv-loop μ-loop

@@ -22,17 +22,47 @@ returns-2 c = λ rs x u n e. rw (ne-eqb (length rs) (5 * length (c .before .befo
 returns-3 : tie.Need-returns-3
 unfolding indexedManyRefusedBy
 returns-3 c =
-    λ rs x u n e. rw (eq-eqb (length rs) (5 * length (c .before .before .before .before .before .before .before .before .before .before .args .subjects .now)) (omega (arith, n, c .before .before .before .before .if1 .left, c .before .before .before .if2 .left)), ← c .before .before .indexed-words-refusal .ensures x e, ne-eqb _ 0 (c .if3 .taken))
+    let at-if1 = c .before .before .before .before in
+    let start = at-if1 .before .before .before .before .before .before in
+    λ rs x u n e. rw (
+      eq-eqb (length rs) (5 * length (start .args .subjects .now))
+          (omega (arith, n, at-if1 .if1 .left, c .before .before .before .if2 .left)),
+      ← c .before .before .indexed-words-refusal .ensures x
+          e,
+      ne-eqb _ 0 (c .if3 .taken),
+    )
 
 returns-4 : tie.Need-returns-4
 unfolding indexedManyRefusedBy
 returns-4 c =
-    λ rs x u n e. rw (eq-eqb (length rs) (5 * length (c .before .before .before .before .before .before .before .before .before .before .before .before .args .subjects .now)) (omega (arith, n, c .before .before .before .before .before .before .if1 .left, c .before .before .before .before .before .if2 .left)), ← c .before .before .before .before .indexed-words-refusal .ensures x e, eq-eqb _ 0 (c .before .before .if3 .left), ← c .before .starts-fit .ensures, not-true (c .before .starts-fit .result) (c .if4 .taken))
+    let at-indexed-words-refusal = c .before .before .before .before in
+    let at-if2 = at-indexed-words-refusal .before in
+    let at-if1 = at-if2 .before in
+    let start = at-if1 .before .before .before .before .before .before in
+    λ rs x u n e. rw (
+      eq-eqb (length rs) (5 * length (start .args .subjects .now)) (omega (arith, n, at-if1 .if1 .left, at-if2 .if2 .left)),
+      ← at-indexed-words-refusal .indexed-words-refusal .ensures x e,
+      eq-eqb _ 0 (c .before .before .if3 .left),
+      ←
+          c .before .starts-fit .ensures,
+      not-true (c .before .starts-fit .result) (c .if4 .taken),
+    )
 
 returns-5 : tie.Need-returns-5
 unfolding indexedManyRefusedBy
 returns-5 c =
-    λ rs x u n e. rw (eq-eqb (length rs) (5 * length (c .before .before .before .before .before .before .before .before .before .before .before .before .args .subjects .now)) (omega (arith, n, c .before .before .before .before .before .before .if1 .left, c .before .before .before .before .before .if2 .left)), ← c .before .before .before .before .indexed-words-refusal .ensures x e, eq-eqb _ 0 (c .before .before .if3 .left), ← c .before .starts-fit .ensures, not-false (c .before .starts-fit .result) (c .if4 .left))
+    let at-indexed-words-refusal = c .before .before .before .before in
+    let at-if2 = at-indexed-words-refusal .before in
+    let at-if1 = at-if2 .before in
+    let start = at-if1 .before .before .before .before .before .before in
+    λ rs x u n e. rw (
+      eq-eqb (length rs) (5 * length (start .args .subjects .now)) (omega (arith, n, at-if1 .if1 .left, at-if2 .if2 .left)),
+      ← at-indexed-words-refusal .indexed-words-refusal .ensures x e,
+      eq-eqb _ 0 (c .before .before .if3 .left),
+      ←
+          c .before .starts-fit .ensures,
+      not-false (c .before .starts-fit .result) (c .if4 .left),
+    )
 
 pub indexed-many-refusal-spec : {M : Type 1} → statement M
 indexed-many-refusal-spec =

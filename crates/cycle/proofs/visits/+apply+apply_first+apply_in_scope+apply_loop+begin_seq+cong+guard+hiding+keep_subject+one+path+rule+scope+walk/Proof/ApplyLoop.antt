@@ -39,6 +39,11 @@ module _ {t : ℕ} (c : Kinded t) where
   abbrev start : apply-loop-lts.Start (apply-loop-calls t) (apply-loop-at t) apply-loop.Post apply-loop-Inv-loop apply-loop-μ-loop
   start = turn .before .before
 
+-- the first operand of CHOICE or LEFT has been applied
+module _ {t : ℕ} (c : apply-loop-lts.After-apply-first (apply-loop-calls t) (apply-loop-at t) apply-loop.Post apply-loop-Inv-loop apply-loop-μ-loop) where
+  abbrev kinded : Kinded t
+  kinded = c .before .before .before .before .before .before .before .before .before .before .before .before .before
+
 -- ---- the needs
 
 pub apply-loop-loop-holds : (t : ℕ) → apply-loop-lts.Need-loop-holds (apply-loop-calls t) (apply-loop-at t) apply-loop.Post apply-loop-Inv-loop apply-loop-μ-loop
@@ -257,11 +262,13 @@ apply-loop-cast-done t c =
 
 pub apply-loop-entry-requires-6 : (t : ℕ) → apply-loop-lts.Need-entry-requires-6 (apply-loop-calls t) (apply-loop-at t) apply-loop.Post apply-loop-Inv-loop apply-loop-μ-loop
 apply-loop-entry-requires-6 t c κs =
-    ((c .before .before .before .before .before .before .before .before .before .before .before .before .before .before .before .before .before .before .before .before .before .before .before .before .before .loop .inv) .ready .inside, omega arith)
+    let k = kinded (c .before .before .before .before .before .before .before .before .before) in
+    ((turn k .loop .inv) .ready .inside, omega arith)
 
 pub apply-loop-loop-less-3 : (t : ℕ) → apply-loop-lts.Need-loop-less-3 (apply-loop-calls t) (apply-loop-at t) apply-loop.Post apply-loop-Inv-loop apply-loop-μ-loop
 apply-loop-loop-less-3 t c =
-    omega (arith, pos _ (c .before .before .before .before .before .before .before .before .before .before .before .before .before .before .before .before .before .before .before .before .before .before .before .before .if2 .left))
+    let k = kinded (c .before .before .before .before .before .before .before .before .before .before) in
+    omega (arith, pos _ (nested k .if2 .left))
 
 pub apply-loop-loop-again-3 : (t : ℕ) → apply-loop-lts.Need-loop-again-3 (apply-loop-calls t) (apply-loop-at t) apply-loop.Post apply-loop-Inv-loop apply-loop-μ-loop
 apply-loop-loop-again-3 t c =
