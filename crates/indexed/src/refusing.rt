@@ -35,7 +35,9 @@ fn indexed_words_refusal(
     signed: bool,
     signature: &[u32],
 ) -> Checked
-    ensures { λ r. ⌜ ((x : List ℕ) → length x ≡ size → r ≡ indexedWordsRefusedBy ours (lentIf signed (now (signature .entry))) (now (table .entry)) (now (store .entry)) (now (bindings .entry)) mark x) ⌝ }
+    ensures { λ r. ⌜ ((x : List ℕ) → length x ≡ size → r
+        ≡ indexedWordsRefusedBy ours (lentIf signed (now (signature .entry))) (now (table .entry)) (now (store .entry))
+        (now (bindings .entry)) mark x) ⌝ }
 {
     if size / 2 < store.len() / 8 {
         return Checked {
@@ -72,7 +74,9 @@ pub fn indexed_refusal(
     signed: bool,
     signature: &[u32],
 ) -> Checked
-    ensures { λ r. ⌜ ((x : List ℕ) (units : ℕ) → length x ≡ size → r ≡ indexedRefused (lentIf signed (now (signature .entry))) (input (now (table .entry)) (now (store .entry)) (now (bindings .entry)) mark start subject units) x) ⌝ }
+    ensures { λ r. ⌜ ((x : List ℕ) (units : ℕ) → length x ≡ size → r
+        ≡ indexedRefused (lentIf signed (now (signature .entry)))
+        (input (now (table .entry)) (now (store .entry)) (now (bindings .entry)) mark start subject units) x) ⌝ }
 {
     let words = indexed_words_refusal(table, store, bindings, mark, size, signed, signature);
     if words.answer != 0 {
@@ -103,7 +107,9 @@ pub(crate) fn indexed_many_refusal(
     signed: bool,
     signature: &[u32],
 ) -> Checked
-    ensures { λ r. ⌜ ((results x : List ℕ) (units : ℕ) → length results ≡ n → length x ≡ size → r ≡ indexedManyRefused (lentIf signed (now (signature .entry))) (handed (now (table .entry)) (now (store .entry)) (now (bindings .entry)) mark start (now (subjects .entry)) units results) x) ⌝ }
+    ensures { λ r. ⌜ ((results x : List ℕ) (units : ℕ) → length results ≡ n → length x ≡ size → r
+        ≡ indexedManyRefused (lentIf signed (now (signature .entry)))
+        (handed (now (table .entry)) (now (store .entry)) (now (bindings .entry)) mark start (now (subjects .entry)) units results) x) ⌝ }
 {
     if n / 5 != subjects.len() {
         return Checked {

@@ -30,7 +30,9 @@ fn run_indexed_lent(
     signature: &[u32],
 ) -> Outcome
     ensures { λ r. ⌜ indexedAtReturn r (take words (now (lent .exit))) (now (bindings .exit)) (drop words (now (lent .exit)))
-        ≡ indexedOf (lentIf signed (now (signature .entry))) (input (now (table .entry)) (take words (now (lent .entry))) (now (bindings .entry)) mark start subject units) (drop words (now (lent .entry))) ⌝ }
+        ≡ indexedOf (lentIf signed (now (signature .entry)))
+        (input (now (table .entry)) (take words (now (lent .entry))) (now (bindings .entry)) mark start subject units)
+        (drop words (now (lent .entry))) ⌝ }
 {
     let all = lent.len();
     let own = store_words(words, all);

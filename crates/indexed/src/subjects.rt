@@ -32,7 +32,9 @@ fn run_many_indexed_lent(
     signature: &[u32],
 ) -> Checked
     ensures { λ r. ⌜ indexedManyAtReturn r (now (results .exit)) (take words (now (lent .exit))) (drop words (now (lent .exit)))
-        ≡ indexedManyOf (lentIf signed (now (signature .entry))) (handed (now (table .entry)) (take words (now (lent .entry))) (now (bindings .entry)) mark start (now (subjects .entry)) units (now (results .entry))) (drop words (now (lent .entry))) ⌝ }
+        ≡ indexedManyOf (lentIf signed (now (signature .entry)))
+        (handed (now (table .entry)) (take words (now (lent .entry))) (now (bindings .entry)) mark start (now (subjects .entry)) units
+        (now (results .entry))) (drop words (now (lent .entry))) ⌝ }
 {
     let all = lent.len();
     let own = store_words(words, all);
@@ -99,7 +101,8 @@ pub fn run_many_indexed(
     results: &mut [u32],
 ) -> Checked
     ensures { λ r. ⌜ indexedManyAtReturn r (now (results .exit)) (take words (now (lent .exit))) (drop words (now (lent .exit)))
-        ≡ indexedManyOf none (handed (now (table .entry)) (take words (now (lent .entry))) (now (bindings .entry)) mark start (now (subjects .entry)) units (now (results .entry))) (drop words (now (lent .entry))) ⌝ }
+        ≡ indexedManyOf none (handed (now (table .entry)) (take words (now (lent .entry))) (now (bindings .entry)) mark start
+        (now (subjects .entry)) units (now (results .entry))) (drop words (now (lent .entry))) ⌝ }
 {
     run_many_indexed_lent(
         table,
@@ -130,7 +133,8 @@ pub fn run_many_indexed_signed(
     signature: &[u32],
 ) -> Checked
     ensures { λ r. ⌜ indexedManyAtReturn r (now (results .exit)) (take words (now (lent .exit))) (drop words (now (lent .exit)))
-        ≡ indexedManyOf (some (now (signature .entry))) (handed (now (table .entry)) (take words (now (lent .entry))) (now (bindings .entry)) mark start (now (subjects .entry)) units (now (results .entry))) (drop words (now (lent .entry))) ⌝ }
+        ≡ indexedManyOf (some (now (signature .entry))) (handed (now (table .entry)) (take words (now (lent .entry)))
+        (now (bindings .entry)) mark start (now (subjects .entry)) units (now (results .entry))) (drop words (now (lent .entry))) ⌝ }
 {
     run_many_indexed_lent(
         table,

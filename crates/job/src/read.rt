@@ -142,7 +142,12 @@ fn put_binding(bindings: &mut [u32], name: u32, at: [u32; 8])
 // The lines of a text from the first on, over the words as they are.
 fn read_lines(text: &[u8], table: &mut [u32], store: &mut [u32], bindings: &mut [u32]) -> Parsed
     requires { ⌜ (length (now text) ≤ 60000) × (length (now table) ≡ 4096) × (length (now store) ≡ 8192) × (length (now bindings) ≡ variables) ⌝ }
-    ensures { λ r. ⌜ Holds (readLines (record { heading = blank; table = now (table .entry); store = now (store .entry); bindings = now (bindings .entry) }) 1 (parts 10 (now (text .entry)))) r (now (table .exit)) (now (store .exit)) (now (bindings .exit)) ⌝ }
+    ensures { λ r. ⌜ Holds (readLines (record {
+      heading = blank;
+      table = now (table .entry);
+      store = now (store .entry);
+      bindings = now (bindings .entry);
+    }) 1 (parts 10 (now (text .entry)))) r (now (table .exit)) (now (store .exit)) (now (bindings .exit)) ⌝ }
 {
     let mut h = Heading {
         section: 0,
@@ -192,7 +197,8 @@ fn clear_all(table: &mut [u32], store: &mut [u32], bindings: &mut [u32])
 // The job of a text: its numbers, and its words in the lent arrays, or its first bad line, and zeros.
 pub fn read(text: &[u8], table: &mut [u32], store: &mut [u32], bindings: &mut [u32]) -> Parsed
     requires { ⌜ (length (now table) ≡ 4096) × (length (now store) ≡ 8192) × (length (now bindings) ≡ variables) ⌝ }
-    ensures { λ r. ⌜ (r ≡ parsedOf (meant (now (text .entry)))) × (now (table .exit) ≡ tableOf (meant (now (text .entry)))) × (now (store .exit) ≡ storeOf (meant (now (text .entry)))) × (now (bindings .exit) ≡ bindingsOf (meant (now (text .entry)))) ⌝ }
+    ensures { λ r. ⌜ (r ≡ parsedOf (meant (now (text .entry)))) × (now (table .exit) ≡ tableOf (meant (now (text .entry))))
+        × (now (store .exit) ≡ storeOf (meant (now (text .entry)))) × (now (bindings .exit) ≡ bindingsOf (meant (now (text .entry)))) ⌝ }
 {
     clear_all(table, store, bindings);
     if 60000 < text.len() {

@@ -40,7 +40,9 @@ fn run_many_lent(
     signed: bool,
     signature: &[u32],
 ) -> Checked
-    ensures { λ r. ⌜ manyAtReturn r (now (results .exit)) (now (store .exit)) ≡ manyOf (lentIf signed (now (signature .entry))) (handed (now (table .entry)) (now (store .entry)) (now (bindings .entry)) mark start (now (subjects .entry)) units (now (results .entry))) ⌝ }
+    ensures { λ r. ⌜ manyAtReturn r (now (results .exit)) (now (store .exit))
+        ≡ manyOf (lentIf signed (now (signature .entry))) (handed (now (table .entry)) (now (store .entry)) (now (bindings .entry)) mark
+        start (now (subjects .entry)) units (now (results .entry))) ⌝ }
 {
     let refused = many_refusal(
         table,
@@ -96,7 +98,9 @@ pub fn run_many(
     units: u32,
     results: &mut [u32],
 ) -> Checked
-    ensures { λ r. ⌜ manyAtReturn r (now (results .exit)) (now (store .exit)) ≡ manyOf none (handed (now (table .entry)) (now (store .entry)) (now (bindings .entry)) mark start (now (subjects .entry)) units (now (results .entry))) ⌝ }
+    ensures { λ r. ⌜ manyAtReturn r (now (results .exit)) (now (store .exit))
+        ≡ manyOf none (handed (now (table .entry)) (now (store .entry)) (now (bindings .entry)) mark start (now (subjects .entry)) units
+        (now (results .entry))) ⌝ }
 {
     run_many_lent(
         table,
@@ -124,7 +128,9 @@ pub fn run_many_signed(
     results: &mut [u32],
     signature: &[u32],
 ) -> Checked
-    ensures { λ r. ⌜ manyAtReturn r (now (results .exit)) (now (store .exit)) ≡ manyOf (some (now (signature .entry))) (handed (now (table .entry)) (now (store .entry)) (now (bindings .entry)) mark start (now (subjects .entry)) units (now (results .entry))) ⌝ }
+    ensures { λ r. ⌜ manyAtReturn r (now (results .exit)) (now (store .exit))
+        ≡ manyOf (some (now (signature .entry))) (handed (now (table .entry)) (now (store .entry)) (now (bindings .entry)) mark start
+        (now (subjects .entry)) units (now (results .entry))) ⌝ }
 {
     run_many_lent(
         table,

@@ -33,7 +33,8 @@ pub extern "C" fn marshtrundle_run(
     units: u32,
     numbers: &mut [u32; 5],
 )
-    ensures { λ _. ⌜ atReturn (five (now (numbers .exit))) (now (store .exit)) (now (bindings .exit)) ≡ runOf (input (now (table .entry)) (now (store .entry)) (now (bindings .entry)) mark start subject units) ⌝ }
+    ensures { λ _. ⌜ atReturn (five (now (numbers .exit))) (now (store .exit)) (now (bindings .exit))
+        ≡ runOf (input (now (table .entry)) (now (store .entry)) (now (bindings .entry)) mark start subject units) ⌝ }
 {
     let r = run(table, store, bindings, mark, start, subject, units);
     *numbers = [r.answer, r.place, r.subject, r.mark, r.units];
@@ -52,7 +53,9 @@ pub extern "C" fn marshtrundle_run_signed(
     signature: &[u32],
     numbers: &mut [u32; 5],
 )
-    ensures { λ _. ⌜ atReturn (five (now (numbers .exit))) (now (store .exit)) (now (bindings .exit)) ≡ runWith (some (now (signature .entry))) (input (now (table .entry)) (now (store .entry)) (now (bindings .entry)) mark start subject units) ⌝ }
+    ensures { λ _. ⌜ atReturn (five (now (numbers .exit))) (now (store .exit)) (now (bindings .exit))
+        ≡ runWith (some (now (signature .entry))) (input (now (table .entry)) (now (store .entry)) (now (bindings .entry)) mark start
+        subject units) ⌝ }
 {
     let ended = run_signed(
         table,
@@ -86,7 +89,9 @@ pub extern "C" fn marshtrundle_run_many(
     results: &mut [u32],
     numbers: &mut [u32; 2],
 )
-    ensures { λ _. ⌜ manyAtReturn (two (now (numbers .exit))) (now (results .exit)) (now (store .exit)) ≡ manyOf none (handed (now (table .entry)) (now (store .entry)) (now (bindings .entry)) mark start (now (subjects .entry)) units (now (results .entry))) ⌝ }
+    ensures { λ _. ⌜ manyAtReturn (two (now (numbers .exit))) (now (results .exit)) (now (store .exit))
+        ≡ manyOf none (handed (now (table .entry)) (now (store .entry)) (now (bindings .entry)) mark start (now (subjects .entry)) units
+        (now (results .entry))) ⌝ }
 {
     let r = run_many(
         table,
@@ -115,7 +120,9 @@ pub extern "C" fn marshtrundle_run_many_signed(
     signature: &[u32],
     numbers: &mut [u32; 2],
 )
-    ensures { λ _. ⌜ manyAtReturn (two (now (numbers .exit))) (now (results .exit)) (now (store .exit)) ≡ manyOf (some (now (signature .entry))) (handed (now (table .entry)) (now (store .entry)) (now (bindings .entry)) mark start (now (subjects .entry)) units (now (results .entry))) ⌝ }
+    ensures { λ _. ⌜ manyAtReturn (two (now (numbers .exit))) (now (results .exit)) (now (store .exit))
+        ≡ manyOf (some (now (signature .entry))) (handed (now (table .entry)) (now (store .entry)) (now (bindings .entry)) mark start
+        (now (subjects .entry)) units (now (results .entry))) ⌝ }
 {
     let r = run_many_signed(
         table,

@@ -86,7 +86,8 @@ pub extern "C" fn marshtrundle_run_many_indexed(
     numbers: &mut [u32; 2],
 )
     ensures { λ _. ⌜ indexedManyAtReturn (two (now (numbers .exit))) (now (results .exit)) (take words (now (lent .exit))) (drop words (now (lent .exit)))
-        ≡ indexedManyOf none (handed (now (table .entry)) (take words (now (lent .entry))) (now (bindings .entry)) mark start (now (subjects .entry)) units (now (results .entry))) (drop words (now (lent .entry))) ⌝ }
+        ≡ indexedManyOf none (handed (now (table .entry)) (take words (now (lent .entry))) (now (bindings .entry)) mark start
+        (now (subjects .entry)) units (now (results .entry))) (drop words (now (lent .entry))) ⌝ }
 {
     let r = run_many_indexed(
         table,
@@ -118,7 +119,8 @@ pub extern "C" fn marshtrundle_run_many_indexed_signed(
     numbers: &mut [u32; 2],
 )
     ensures { λ _. ⌜ indexedManyAtReturn (two (now (numbers .exit))) (now (results .exit)) (take words (now (lent .exit))) (drop words (now (lent .exit)))
-        ≡ indexedManyOf (some (now (signature .entry))) (handed (now (table .entry)) (take words (now (lent .entry))) (now (bindings .entry)) mark start (now (subjects .entry)) units (now (results .entry))) (drop words (now (lent .entry))) ⌝ }
+        ≡ indexedManyOf (some (now (signature .entry))) (handed (now (table .entry)) (take words (now (lent .entry)))
+        (now (bindings .entry)) mark start (now (subjects .entry)) units (now (results .entry))) (drop words (now (lent .entry))) ⌝ }
 {
     let r = run_many_indexed_signed(
         table,

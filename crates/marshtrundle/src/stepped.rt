@@ -21,7 +21,8 @@ pub extern "C" fn marshtrundle_start(
     units: u32,
     numbers: &mut [u32; 5],
 )
-    ensures { λ _. ⌜ Starts none (input (now (table .entry)) (now (store .entry)) (now (bindings .entry)) mark start subject units) (now (work .entry)) (five (now (numbers .exit))) (now (work .exit)) ⌝ }
+    ensures { λ _. ⌜ Starts none (input (now (table .entry)) (now (store .entry)) (now (bindings .entry)) mark start subject units)
+        (now (work .entry)) (five (now (numbers .exit))) (now (work .exit)) ⌝ }
 {
     let r = start_run(table, store, bindings, work, mark, start, subject, units);
     *numbers = [r.answer, r.place, r.subject, r.mark, r.units];
@@ -41,7 +42,9 @@ pub extern "C" fn marshtrundle_start_signed(
     signature: &[u32],
     numbers: &mut [u32; 5],
 )
-    ensures { λ _. ⌜ Starts (some (now (signature .entry))) (input (now (table .entry)) (now (store .entry)) (now (bindings .entry)) mark start subject units) (now (work .entry)) (five (now (numbers .exit))) (now (work .exit)) ⌝ }
+    ensures { λ _. ⌜ Starts (some (now (signature .entry)))
+        (input (now (table .entry)) (now (store .entry)) (now (bindings .entry)) mark start subject units) (now (work .entry))
+        (five (now (numbers .exit))) (now (work .exit)) ⌝ }
 {
     let r = start_run_signed(
         table,
@@ -67,7 +70,8 @@ pub extern "C" fn marshtrundle_step(
     visits: u32,
     numbers: &mut [u32; 5],
 )
-    ensures { λ _. ⌜ Steps-on (now (table .entry)) (lists (now (store .entry)) (now (bindings .entry)) (now (work .entry))) visits (five (now (numbers .exit))) (lists (now (store .exit)) (now (bindings .exit)) (now (work .exit))) ⌝ }
+    ensures { λ _. ⌜ Steps-on (now (table .entry)) (lists (now (store .entry)) (now (bindings .entry)) (now (work .entry))) visits
+        (five (now (numbers .exit))) (lists (now (store .exit)) (now (bindings .exit)) (now (work .exit))) ⌝ }
 {
     let r = step_run(table, store, bindings, work, visits);
     *numbers = [r.answer, r.place, r.subject, r.mark, r.units];

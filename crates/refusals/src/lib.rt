@@ -193,7 +193,9 @@ pub fn many_refusal(
     signed: bool,
     signature: &[u32],
 ) -> Checked
-    ensures { λ r. ⌜ ((results : List ℕ) (units : ℕ) → length results ≡ n → r ≡ manyRefused (lentIf signed (now (signature .entry))) (handed (now (table .entry)) (now (store .entry)) (now (bindings .entry)) mark start (now (subjects .entry)) units results)) ⌝ }
+    ensures { λ r. ⌜ ((results : List ℕ) (units : ℕ) → length results ≡ n → r
+        ≡ manyRefused (lentIf signed (now (signature .entry)))
+        (handed (now (table .entry)) (now (store .entry)) (now (bindings .entry)) mark start (now (subjects .entry)) units results)) ⌝ }
 {
     if n / 5 != subjects.len() {
         return Checked {

@@ -109,7 +109,9 @@ fn run_lent(
     signed: bool,
     signature: &[u32],
 ) -> Outcome
-    ensures { λ r. ⌜ atReturn r (now (store .exit)) (now (bindings .exit)) ≡ runWith (lentIf signed (now (signature .entry))) (input (now (table .entry)) (now (store .entry)) (now (bindings .entry)) mark start subject units) ⌝ }
+    ensures { λ r. ⌜ atReturn r (now (store .exit)) (now (bindings .exit))
+        ≡ runWith (lentIf signed (now (signature .entry)))
+        (input (now (table .entry)) (now (store .entry)) (now (bindings .entry)) mark start subject units) ⌝ }
 {
     let refused = refusal(
         table,
@@ -179,7 +181,9 @@ pub fn run_signed(
     units: u32,
     signature: &[u32],
 ) -> Outcome
-    ensures { λ r. ⌜ atReturn r (now (store .exit)) (now (bindings .exit)) ≡ runWith (some (now (signature .entry))) (input (now (table .entry)) (now (store .entry)) (now (bindings .entry)) mark start subject units) ⌝ }
+    ensures { λ r. ⌜ atReturn r (now (store .exit)) (now (bindings .exit))
+        ≡ runWith (some (now (signature .entry))) (input (now (table .entry)) (now (store .entry)) (now (bindings .entry)) mark start
+        subject units) ⌝ }
 {
     run_lent(
         table,

@@ -48,7 +48,9 @@ fn start_lent(
     signed: bool,
     signature: &[u32],
 ) -> Outcome
-    ensures { λ r. ⌜ Starts (lentIf signed (now (signature .entry))) (input (now (table .entry)) (now (store .entry)) (now (bindings .entry)) mark start subject units) (now (work .entry)) r (now (work .exit)) ⌝ }
+    ensures { λ r. ⌜ Starts (lentIf signed (now (signature .entry)))
+        (input (now (table .entry)) (now (store .entry)) (now (bindings .entry)) mark start subject units) (now (work .entry)) r
+        (now (work .exit)) ⌝ }
 {
     if work.len() < WORK {
         return Outcome {
@@ -138,7 +140,9 @@ pub fn start_run_signed(
     units: u32,
     signature: &[u32],
 ) -> Outcome
-    ensures { λ r. ⌜ Starts (some (now (signature .entry))) (input (now (table .entry)) (now (store .entry)) (now (bindings .entry)) mark start subject units) (now (work .entry)) r (now (work .exit)) ⌝ }
+    ensures { λ r. ⌜ Starts (some (now (signature .entry)))
+        (input (now (table .entry)) (now (store .entry)) (now (bindings .entry)) mark start subject units) (now (work .entry)) r
+        (now (work .exit)) ⌝ }
 {
     start_lent(
         table,
@@ -266,7 +270,8 @@ pub fn step_run(
     work: &mut [u32],
     visits: u32,
 ) -> Outcome
-    ensures { λ r. ⌜ Steps-on (now (table .entry)) (lists (now (store .entry)) (now (bindings .entry)) (now (work .entry))) visits r (lists (now (store .exit)) (now (bindings .exit)) (now (work .exit))) ⌝ }
+    ensures { λ r. ⌜ Steps-on (now (table .entry)) (lists (now (store .entry)) (now (bindings .entry)) (now (work .entry))) visits r
+        (lists (now (store .exit)) (now (bindings .exit)) (now (work .exit))) ⌝ }
 {
     if !lengths_fit(table, store, bindings, work) {
         return Outcome {

@@ -116,7 +116,8 @@ fn count_on(
     shares: bool,
 ) -> Tally
     requires { ⌜ (a .level ≡ 0) × (a .mode < 4) × Lent (now store) (now work) × (length (now kept) ≡ 4096) × Room (now counts) ⌝ }
-    ensures { λ r. ⌜ Counted-on shares (now (table .entry)) (now (store .entry)) (now (work .entry)) (now (counts .entry)) a (r .machine) (r .seen) (now (store .exit)) (now (work .exit)) (now (kept .exit)) (now (counts .exit)) × Stopped (r .machine) ⌝ }
+    ensures { λ r. ⌜ Counted-on shares (now (table .entry)) (now (store .entry)) (now (work .entry)) (now (counts .entry)) a (r .machine)
+        (r .seen) (now (store .exit)) (now (work .exit)) (now (kept .exit)) (now (counts .exit)) × Stopped (r .machine) ⌝ }
 {
     let mut m = a;
     let mut s = Seen {

@@ -164,7 +164,8 @@ fn scope(table: &[u32], store: &[u32], x: u32, y: u32) -> Turn
 // MATCH meets the pattern p.
 fn matching(table: &[u32], store: &[u32], work: &[u32], mask: u64, p: u32, y: u32) -> Turn
     requires { ⌜ recordFrom + 64 ≤ length (now work) ⌝ }
-    ensures { λ r. ⌜ (Fit (now (table .entry)) p → Begins (now (table .entry)) (now (store .entry)) p y (met p y (heldAt (now (work .entry)) recordFrom mask)) (heldAt (now (work .entry)) recordFrom mask) r) ⌝ }
+    ensures { λ r. ⌜ (Fit (now (table .entry)) p → Begins (now (table .entry)) (now (store .entry)) p y
+        (met p y (heldAt (now (work .entry)) recordFrom mask)) (heldAt (now (work .entry)) recordFrom mask) r) ⌝ }
 {
     if word(table, p, 0) / 16 == PCON {
         return constructor(table, store, p, y);
@@ -203,7 +204,8 @@ fn constructor(table: &[u32], store: &[u32], p: u32, y: u32) -> Turn
 // BUILD meets the pattern p.
 fn building(table: &[u32], store: &[u32], work: &[u32], mask: u64, p: u32, y: u32) -> Turn
     requires { ⌜ recordFrom + 64 ≤ length (now work) ⌝ }
-    ensures { λ r. ⌜ (Fit (now (table .entry)) p → Begins (now (table .entry)) (now (store .entry)) p y (build p y (heldAt (now (work .entry)) recordFrom mask)) (heldAt (now (work .entry)) recordFrom mask) r) ⌝ }
+    ensures { λ r. ⌜ (Fit (now (table .entry)) p → Begins (now (table .entry)) (now (store .entry)) p y
+        (build p y (heldAt (now (work .entry)) recordFrom mask)) (heldAt (now (work .entry)) recordFrom mask) r) ⌝ }
 {
     if word(table, p, 0) / 16 == PCON {
         if word(table, p, 0) % 16 == 0 {
@@ -252,7 +254,9 @@ pub fn begin(
     y: u32,
 ) -> Turn
     requires { ⌜ recordFrom + 64 ≤ length (now work) ⌝ }
-    ensures { λ r. ⌜ (Ready (now (table .entry)) mode x → Begins (now (table .entry)) (now (store .entry)) x y (visitOf mode x y (heldAt (now (work .entry)) recordFrom mask)) (heldAt (now (work .entry)) recordFrom mask) r) ⌝ }
+    ensures { λ r. ⌜ (Ready (now (table .entry)) mode x
+        → Begins (now (table .entry)) (now (store .entry)) x y (visitOf mode x y (heldAt (now (work .entry)) recordFrom mask))
+        (heldAt (now (work .entry)) recordFrom mask) r) ⌝ }
 {
     if mode == APPLY {
         return strategy(table, store, x, y);
