@@ -7,9 +7,15 @@ use borrow.Author.Needs.{needs}
 use lib.ListN.{length}
 use Rattle.rules.specs.Held.{headHeld}
 use Rattle.rules.specs.Scan.{fieldsFrom, scanned}
-use Rattle.rules.proofs.Scanning.{end-within, scan-end, scan-past, count-past, scan-neither, scan-variable, scan-constructor, scan-bad-count, scan-count, constructor-long}
+use Rattle.rules.proofs.Scanning.{end-within, scan-end, scan-past, count-past, scan-neither, scan-variable, scan-constructor}
+use Rattle.rules.proofs.Scanning.{scan-bad-count, scan-count, constructor-long}
 use Rattle.rules.proofs.term.term_at.Statement.{statement}
 use Rattle.rules.proofs.term.term_at.Tie as tie
+use Rattle.text.proofs.field.next_at.Reads as next-at-reads
+use Rattle.rules.proofs.field.head_of.Reads as head-of-reads
+use Rattle.rules.proofs.field.children.Reads as children-reads
+use Rattle.rules.proofs.term.term_at.Reads as reads
+use Rattle.rules.proofs.term.term_at.Lts as lts
 
 abbrev Inv-loop : tie.InvT-loop
 Inv-loop line from wanted₀ at₀ fields₀ size₀ wanted at fields size =
@@ -19,6 +25,28 @@ Inv-loop line from wanted₀ at₀ fields₀ size₀ wanted at fields size =
 abbrev μ-loop : tie.MeasureT-loop
 μ-loop line from wanted₀ at₀ fields₀ size₀ wanted at fields size = length line + 1 - at
 
+-- ---- the place that the proof speaks of most: a field is found
+
+abbrev calls : lts.Claims
+calls = (next-at-reads.Asked, next-at-reads.Learnt, head-of-reads.Asked, head-of-reads.Learnt, children-reads.Asked, children-reads.Learnt)
+
+abbrev Found : Type 0
+Found = lts.After-next-at calls reads.Pre reads.Post Inv-loop μ-loop
+
+-- the field at `at` is found
+module _ (c : Found) where
+  abbrev turn : lts.At-loop calls reads.Pre reads.Post Inv-loop μ-loop
+  turn = c .before .before .before
+
+  abbrev start : lts.Start calls reads.Pre reads.Post Inv-loop μ-loop
+  start = turn .before .before
+
+  -- the field at `at` ends within the line
+  in-line : (turn .loop .at ≤ c .next-at .result) × (c .next-at .result ≤ length (start .args .line .now))
+  in-line = end-within (start .args .line .now) (turn .loop .at) (c .next-at .result) (c .before .if1 .left) (c .next-at .ensures)
+
+-- ---- the needs
+
 loop-holds : tie.Need-loop-holds Inv-loop μ-loop
 loop-holds c = (refl, omega arith, omega arith, omega arith)
 
@@ -26,7 +54,8 @@ returns : tie.Need-returns Inv-loop μ-loop
 returns c =
     let at-loop = c .before .before in
     let start = at-loop .before .before in
-    sym (scan-past (start .args .line .now) (at-loop .loop .at) (at-loop .loop .wanted) (at-loop .loop .fields) (at-loop .loop .size) (c .if1 .taken) (c .before .loop-test .taken))
+    sym (scan-past (start .args .line .now) (at-loop .loop .at) (at-loop .loop .wanted) (at-loop .loop .fields) (at-loop .loop .size)
+    (c .if1 .taken) (c .before .loop-test .taken))
     ∙ at-loop .loop .inv .0
 
 next-at-requires : tie.Need-next-at-requires Inv-loop μ-loop
@@ -34,20 +63,17 @@ next-at-requires c κs = search needs
 
 sub-head-of : tie.Need-sub-head-of Inv-loop μ-loop
 sub-head-of c =
-    let at-loop = c .before .before .before in
-    let h = end-within (at-loop .before .before .args .line .now) (at-loop .loop .at) (c .next-at .result) (c .before .if1 .left) (c .next-at .ensures) in
+    let h = in-line c in
     omega arith
 
 part-head-of-start : tie.Need-part-head-of-start Inv-loop μ-loop
 part-head-of-start c =
-    let at-loop = c .before .before .before in
-    let h = end-within (at-loop .before .before .args .line .now) (at-loop .loop .at) (c .next-at .result) (c .before .if1 .left) (c .next-at .ensures) in
+    let h = in-line c in
     omega arith
 
 part-head-of-end : tie.Need-part-head-of-end Inv-loop μ-loop
 part-head-of-end c =
-    let at-loop = c .before .before .before in
-    let h = end-within (at-loop .before .before .args .line .now) (at-loop .loop .at) (c .next-at .result) (c .before .if1 .left) (c .next-at .ensures) in
+    let h = in-line c in
     omega arith
 
 head-of-requires : tie.Need-head-of-requires Inv-loop μ-loop
@@ -59,20 +85,18 @@ enum-told c = search needs
 returns-2 : tie.Need-returns-2 Inv-loop μ-loop
 returns-2 c =
     let at-head = c .before .before in
-    let at-next = at-head .before .before in
-    let at-loop = at-next .before .before .before in
-    let start = at-loop .before .before in
-    sym (scan-neither (start .args .line .now) (at-loop .loop .at) (at-next .next-at .result) (at-next .before .if1 .left) (at-next .next-at .ensures) (at-loop .loop .wanted)
-    (at-loop .loop .fields) (at-loop .loop .size) (at-next .before .before .loop-test .taken) (sym (ap headHeld (c .enum-told .given .1)) ∙ at-head .head-of .ensures)) ∙ at-loop .loop .inv .0
+    let f = at-head .before .before in
+    sym (scan-neither (start f .args .line .now) (turn f .loop .at) (f .next-at .result) (f .before .if1 .left) (f .next-at .ensures) (turn f .loop .wanted)
+    (turn f .loop .fields) (turn f .loop .size) (f .before .before .loop-test .taken)
+    (sym (ap headHeld (c .enum-told .given .1)) ∙ at-head .head-of .ensures)) ∙ turn f .loop .inv .0
 
 enum-known-first : tie.Need-enum-known-first Inv-loop μ-loop
 enum-known-first c = search needs
 
 add-at : tie.Need-add-at Inv-loop μ-loop
 add-at c =
-    let at-next = c .before .before .before .before .before in
-    let at-loop = at-next .before .before .before in
-    let h = end-within (at-loop .before .before .args .line .now) (at-loop .loop .at) (at-next .next-at .result) (at-next .before .if1 .left) (at-next .next-at .ensures) in
+    let f = c .before .before .before .before .before in
+    let h = in-line f in
     omega arith
 
 add-fields : tie.Need-add-fields Inv-loop μ-loop
@@ -86,22 +110,20 @@ sub-wanted c = omega arith
 
 loop-less : tie.Need-loop-less Inv-loop μ-loop
 loop-less c =
-    let at-next = c .before .before .before .before .before in
-    let at-loop = at-next .before .before .before in
-    let h = end-within (at-loop .before .before .args .line .now) (at-loop .loop .at) (at-next .next-at .result) (at-next .before .if1 .left) (at-next .next-at .ensures) in
+    let f = c .before .before .before .before .before in
+    let h = in-line f in
     omega arith
 
 loop-again : tie.Need-loop-again Inv-loop μ-loop
 loop-again c =
     let at-first = c .before in
     let at-head = at-first .before .before in
-    let at-next = at-head .before .before in
-    let at-loop = at-next .before .before .before in
-    let start = at-loop .before .before in
-    let h = end-within (start .args .line .now) (at-loop .loop .at) (at-next .next-at .result) (at-next .before .if1 .left) (at-next .next-at .ensures) in (
-      sym (scan-variable (start .args .line .now) (at-loop .loop .at) (at-next .next-at .result) (at-next .before .if1 .left) (at-next .next-at .ensures) (at-loop .loop .wanted)
-          (at-loop .loop .fields) (at-loop .loop .size) (at-next .before .before .loop-test .taken) (at-first .first .given .0 .0) (sym (ap headHeld (at-first .first .given .1))
-          ∙ at-head .head-of .ensures)) ∙ at-loop .loop .inv .0,
+    let f = at-head .before .before in
+    let h = in-line f in (
+      sym (scan-variable (start f .args .line .now) (turn f .loop .at) (f .next-at .result) (f .before .if1 .left) (f .next-at .ensures) (turn f .loop .wanted)
+          (turn f .loop .fields) (turn f .loop .size) (f .before .before .loop-test .taken) (at-first .first .given .0 .0)
+          (sym (ap headHeld (at-first .first .given .1))
+          ∙ at-head .head-of .ensures)) ∙ turn f .loop .inv .0,
       omega arith,
       omega arith,
       omega arith,
@@ -112,9 +134,8 @@ enum-known-first-2 c = search needs
 
 add-at-2 : tie.Need-add-at-2 Inv-loop μ-loop
 add-at-2 c =
-    let at-next = c .before .before .before .before .before in
-    let at-loop = at-next .before .before .before in
-    let h = end-within (at-loop .before .before .args .line .now) (at-loop .loop .at) (at-next .next-at .result) (at-next .before .if1 .left) (at-next .next-at .ensures) in
+    let f = c .before .before .before .before .before in
+    let h = in-line f in
     omega arith
 
 add-fields-2 : tie.Need-add-fields-2 Inv-loop μ-loop
@@ -124,36 +145,33 @@ returns-3 : tie.Need-returns-3 Inv-loop μ-loop
 returns-3 c =
     let at-first = c .before .before in
     let at-head = at-first .before .before in
-    let at-next = at-head .before .before in
-    let at-loop = at-next .before .before .before in
-    let start = at-loop .before .before in
-    sym (scan-constructor (start .args .line .now) (at-loop .loop .at) (at-next .next-at .result) (at-next .before .if1 .left) (at-next .next-at .ensures) (at-loop .loop .wanted)
-    (at-loop .loop .fields) (at-loop .loop .size) (at-next .before .before .loop-test .taken) (at-first .first2 .given .0 .0) (sym (ap headHeld (at-first .first2 .given .1))
+    let f = at-head .before .before in
+    sym (scan-constructor (start f .args .line .now) (turn f .loop .at) (f .next-at .result) (f .before .if1 .left) (f .next-at .ensures) (turn f .loop .wanted)
+    (turn f .loop .fields) (turn f .loop .size) (f .before .before .loop-test .taken) (at-first .first2 .given .0 .0)
+    (sym (ap headHeld (at-first .first2 .given .1))
     ∙ at-head .head-of .ensures)
-    ∙ count-past (start .args .line .now) (at-next .next-at .result + 1) (at-loop .loop .wanted - 1) (at-loop .loop .fields + 1) (at-loop .loop .size) (c .if2 .taken)) ∙ at-loop .loop .inv .0
+    ∙ count-past (start f .args .line .now) (f .next-at .result + 1) (turn f .loop .wanted - 1) (turn f .loop .fields + 1)
+    (turn f .loop .size) (c .if2 .taken)) ∙ turn f .loop .inv .0
 
 next-at-requires-2 : tie.Need-next-at-requires-2 Inv-loop μ-loop
 next-at-requires-2 c κs = search needs
 
 sub-children : tie.Need-sub-children Inv-loop μ-loop
 sub-children c =
-    let at-next = c .before .before .before .before .before .before .before in
-    let start = at-next .before .before .before .before .before in
-    let h = end-within (start .args .line .now) (at-next .next-at .result + 1) (c .next-at2 .result) (c .before .if2 .left) (c .next-at2 .ensures) in
+    let f = c .before .before .before .before .before .before .before in
+    let h = end-within (start f .args .line .now) (f .next-at .result + 1) (c .next-at2 .result) (c .before .if2 .left) (c .next-at2 .ensures) in
     omega arith
 
 part-children-start : tie.Need-part-children-start Inv-loop μ-loop
 part-children-start c =
-    let at-next = c .before .before .before .before .before .before .before in
-    let start = at-next .before .before .before .before .before in
-    let h = end-within (start .args .line .now) (at-next .next-at .result + 1) (c .next-at2 .result) (c .before .if2 .left) (c .next-at2 .ensures) in
+    let f = c .before .before .before .before .before .before .before in
+    let h = end-within (start f .args .line .now) (f .next-at .result + 1) (c .next-at2 .result) (c .before .if2 .left) (c .next-at2 .ensures) in
     omega arith
 
 part-children-end : tie.Need-part-children-end Inv-loop μ-loop
 part-children-end c =
-    let at-next = c .before .before .before .before .before .before .before in
-    let start = at-next .before .before .before .before .before in
-    let h = end-within (start .args .line .now) (at-next .next-at .result + 1) (c .next-at2 .result) (c .before .if2 .left) (c .next-at2 .ensures) in
+    let f = c .before .before .before .before .before .before .before in
+    let h = end-within (start f .args .line .now) (f .next-at .result + 1) (c .next-at2 .result) (c .before .if2 .left) (c .next-at2 .ensures) in
     omega arith
 
 children-requires : tie.Need-children-requires Inv-loop μ-loop
@@ -165,30 +183,28 @@ returns-4 c =
     let at-next2 = at-children .before .before in
     let at-first = at-next2 .before .before .before in
     let at-head = at-first .before .before in
-    let at-next = at-head .before .before in
-    let at-loop = at-next .before .before .before in
-    let start = at-loop .before .before in
-    sym (scan-constructor (start .args .line .now) (at-loop .loop .at) (at-next .next-at .result) (at-next .before .if1 .left) (at-next .next-at .ensures) (at-loop .loop .wanted)
-    (at-loop .loop .fields) (at-loop .loop .size) (at-next .before .before .loop-test .taken) (at-first .first2 .given .0 .0) (sym (ap headHeld (at-first .first2 .given .1))
+    let f = at-head .before .before in
+    sym (scan-constructor (start f .args .line .now) (turn f .loop .at) (f .next-at .result) (f .before .if1 .left) (f .next-at .ensures) (turn f .loop .wanted)
+    (turn f .loop .fields) (turn f .loop .size) (f .before .before .loop-test .taken) (at-first .first2 .given .0 .0)
+    (sym (ap headHeld (at-first .first2 .given .1))
     ∙ at-head .head-of .ensures)
-    ∙ scan-bad-count (start .args .line .now) (at-next .next-at .result + 1) (at-next2 .next-at2 .result) (at-next2 .before .if2 .left) (at-next2 .next-at2 .ensures)
-    (at-loop .loop .wanted - 1) (at-loop .loop .fields + 1) (at-loop .loop .size) (sym (c .if3 .taken) ∙ at-children .children .ensures)) ∙ at-loop .loop .inv .0
+    ∙ scan-bad-count (start f .args .line .now) (f .next-at .result + 1) (at-next2 .next-at2 .result) (at-next2 .before .if2 .left)
+    (at-next2 .next-at2 .ensures)
+    (turn f .loop .wanted - 1) (turn f .loop .fields + 1) (turn f .loop .size) (sym (c .if3 .taken) ∙ at-children .children .ensures)) ∙ turn f .loop .inv .0
 
 add-at-3 : tie.Need-add-at-3 Inv-loop μ-loop
 add-at-3 c =
     let at-next2 = c .before .before .before in
-    let at-next = at-next2 .before .before .before .before .before .before .before in
-    let start = at-next .before .before .before .before .before in
-    let h = end-within (start .args .line .now) (at-next .next-at .result + 1) (at-next2 .next-at2 .result) (at-next2 .before .if2 .left) (at-next2 .next-at2 .ensures) in
+    let f = at-next2 .before .before .before .before .before .before .before in
+    let h = end-within (start f .args .line .now) (f .next-at .result + 1) (at-next2 .next-at2 .result) (at-next2 .before .if2 .left)
+    (at-next2 .next-at2 .ensures) in
     omega arith
 
 add-fields-3 : tie.Need-add-fields-3 Inv-loop μ-loop
 add-fields-3 c =
     let at-next2 = c .before .before .before in
-    let at-next = at-next2 .before .before .before .before .before .before .before in
-    let at-loop = at-next .before .before .before in
-    let start = at-loop .before .before in
-    let h = end-within (start .args .line .now) (at-loop .loop .at) (at-next .next-at .result) (at-next .before .if1 .left) (at-next .next-at .ensures) in
+    let f = at-next2 .before .before .before .before .before .before .before in
+    let h = in-line f in
     omega arith
 
 add-size-2 : tie.Need-add-size-2 Inv-loop μ-loop
@@ -206,26 +222,27 @@ add-wanted c =
     let at-next2 = at-children .before .before in
     let at-first = at-next2 .before .before .before in
     let at-head = at-first .before .before in
-    let at-next = at-head .before .before in
-    let at-loop = at-next .before .before .before in
-    let start = at-loop .before .before in
-    let h = end-within (start .args .line .now) (at-loop .loop .at) (at-next .next-at .result) (at-next .before .if1 .left) (at-next .next-at .ensures) in
-    let i = end-within (start .args .line .now) (at-next .next-at .result + 1) (at-next2 .next-at2 .result) (at-next2 .before .if2 .left) (at-next2 .next-at2 .ensures) in
+    let f = at-head .before .before in
+    let h = in-line f in
+    let i = end-within (start f .args .line .now) (f .next-at .result + 1) (at-next2 .next-at2 .result) (at-next2 .before .if2 .left)
+    (at-next2 .next-at2 .ensures) in
     let e = sym (ap headHeld (at-first .first2 .given .1)) ∙ at-head .head-of .ensures in
-    let j = constructor-long (start .args .line .now) (at-loop .loop .at) (at-next .next-at .result) (at-next .before .if1 .left) (at-next .next-at .ensures) (at-loop .loop .wanted)
-    (at-loop .loop .fields) (at-loop .loop .size) (at-first .first2 .given .0 .0) e in
-    let k = scan-count (start .args .line .now) (at-next .next-at .result + 1) (at-next2 .next-at2 .result) (at-next2 .before .if2 .left) (at-next2 .next-at2 .ensures)
-    (at-loop .loop .wanted - 1) (at-loop .loop .fields + 1) (at-loop .loop .size) (at-children .children .result) (at-children .children .ensures) (c .if3 .left) in
-    omega (arith, k .1)
+    let j = constructor-long (start f .args .line .now) (turn f .loop .at) (f .next-at .result) (f .before .if1 .left) (f .next-at .ensures)
+    (turn f .loop .wanted)
+    (turn f .loop .fields) (turn f .loop .size) (at-first .first2 .given .0 .0) e in
+    let k = scan-count (start f .args .line .now) (f .next-at .result + 1) (at-next2 .next-at2 .result) (at-next2 .before .if2 .left)
+    (at-next2 .next-at2 .ensures)
+    (turn f .loop .wanted - 1) (turn f .loop .fields + 1) (turn f .loop .size) (at-children .children .result)
+    (at-children .children .ensures) (c .if3 .left) in
+    omega (arith, k .1, turn f .loop .inv, start f .good, start f .fits)
 
 loop-less-2 : tie.Need-loop-less-2 Inv-loop μ-loop
 loop-less-2 c =
     let at-next2 = c .before .before .before in
-    let at-next = at-next2 .before .before .before .before .before .before .before in
-    let at-loop = at-next .before .before .before in
-    let start = at-loop .before .before in
-    let h = end-within (start .args .line .now) (at-loop .loop .at) (at-next .next-at .result) (at-next .before .if1 .left) (at-next .next-at .ensures) in
-    let i = end-within (start .args .line .now) (at-next .next-at .result + 1) (at-next2 .next-at2 .result) (at-next2 .before .if2 .left) (at-next2 .next-at2 .ensures) in
+    let f = at-next2 .before .before .before .before .before .before .before in
+    let h = in-line f in
+    let i = end-within (start f .args .line .now) (f .next-at .result + 1) (at-next2 .next-at2 .result) (at-next2 .before .if2 .left)
+    (at-next2 .next-at2 .ensures) in
     omega arith
 
 loop-again-2 : tie.Need-loop-again-2 Inv-loop μ-loop
@@ -234,18 +251,21 @@ loop-again-2 c =
     let at-next2 = at-children .before .before in
     let at-first = at-next2 .before .before .before in
     let at-head = at-first .before .before in
-    let at-next = at-head .before .before in
-    let at-loop = at-next .before .before .before in
-    let start = at-loop .before .before in
-    let h = end-within (start .args .line .now) (at-loop .loop .at) (at-next .next-at .result) (at-next .before .if1 .left) (at-next .next-at .ensures) in
-    let i = end-within (start .args .line .now) (at-next .next-at .result + 1) (at-next2 .next-at2 .result) (at-next2 .before .if2 .left) (at-next2 .next-at2 .ensures) in
+    let f = at-head .before .before in
+    let h = in-line f in
+    let i = end-within (start f .args .line .now) (f .next-at .result + 1) (at-next2 .next-at2 .result) (at-next2 .before .if2 .left)
+    (at-next2 .next-at2 .ensures) in
     let e = sym (ap headHeld (at-first .first2 .given .1)) ∙ at-head .head-of .ensures in
-    let j = constructor-long (start .args .line .now) (at-loop .loop .at) (at-next .next-at .result) (at-next .before .if1 .left) (at-next .next-at .ensures) (at-loop .loop .wanted)
-    (at-loop .loop .fields) (at-loop .loop .size) (at-first .first2 .given .0 .0) e in
-    let k = scan-count (start .args .line .now) (at-next .next-at .result + 1) (at-next2 .next-at2 .result) (at-next2 .before .if2 .left) (at-next2 .next-at2 .ensures)
-    (at-loop .loop .wanted - 1) (at-loop .loop .fields + 1) (at-loop .loop .size) (at-children .children .result) (at-children .children .ensures) (c .if3 .left) in (
-      sym (scan-constructor (start .args .line .now) (at-loop .loop .at) (at-next .next-at .result) (at-next .before .if1 .left) (at-next .next-at .ensures) (at-loop .loop .wanted)
-          (at-loop .loop .fields) (at-loop .loop .size) (at-next .before .before .loop-test .taken) (at-first .first2 .given .0 .0) e ∙ k .0) ∙ at-loop .loop .inv .0,
+    let j = constructor-long (start f .args .line .now) (turn f .loop .at) (f .next-at .result) (f .before .if1 .left) (f .next-at .ensures)
+    (turn f .loop .wanted)
+    (turn f .loop .fields) (turn f .loop .size) (at-first .first2 .given .0 .0) e in
+    let k = scan-count (start f .args .line .now) (f .next-at .result + 1) (at-next2 .next-at2 .result) (at-next2 .before .if2 .left)
+    (at-next2 .next-at2 .ensures)
+    (turn f .loop .wanted - 1) (turn f .loop .fields + 1) (turn f .loop .size) (at-children .children .result)
+    (at-children .children .ensures) (c .if3 .left) in (
+      sym (scan-constructor (start f .args .line .now) (turn f .loop .at) (f .next-at .result) (f .before .if1 .left) (f .next-at .ensures)
+          (turn f .loop .wanted)
+          (turn f .loop .fields) (turn f .loop .size) (f .before .before .loop-test .taken) (at-first .first2 .given .0 .0) e ∙ k .0) ∙ turn f .loop .inv .0,
       omega arith,
       omega arith,
       omega (arith, k .1),
@@ -257,7 +277,8 @@ returns-5 c =
     let start = at-loop .before .before in
     let z : at-loop .loop .wanted ≡ 0 = omega arith in
     sym (ap (λ (w : ℕ). scanned (fieldsFrom (start .args .line .now) (at-loop .loop .at)) w (at-loop .loop .at) (at-loop .loop .fields) (at-loop .loop .size)) z
-    ∙ scan-end (fieldsFrom (start .args .line .now) (at-loop .loop .at)) (at-loop .loop .at) (at-loop .loop .fields) (at-loop .loop .size)) ∙ at-loop .loop .inv .0
+    ∙ scan-end (fieldsFrom (start .args .line .now) (at-loop .loop .at)) (at-loop .loop .at) (at-loop .loop .fields) (at-loop .loop .size))
+    ∙ at-loop .loop .inv .0
 
 pub term-at-spec : {M : Type 1} → statement M
 term-at-spec =
