@@ -34,7 +34,7 @@ use Rattle.meaning.proofs.Alike.{Holdable, Makeable, Worlds, ORel, o-none, o-som
 use Rattle.meaning.proofs.Checked.{Filled, good-of-node, store-filled, inside, table-makeable}
 use Rattle.meaning.proofs.Words.{kept_refl, kept_trans, kept_word, kept-children, kept-filled, Below, below_none, below_more}
 use Rattle.meaning.proofs.Words.{children-below, length-row, new-kept, new-filled, new-constructor, new-count}
-use Rattle.meaning.proofs.Simulates.{Makes, both-make, both-full, Simulation, Ends, e-ended, e-lost, e-cut, e-room, simulates}
+use Rattle.meaning.proofs.Simulates.{Makes, both-make, both-full, Simulation, Ends, e-ended, e-lost, e-cut, e-room, e-early, simulates}
 
 pub kept-sym : {w w' : List ℕ} {m : ℕ} → Kept w m w' → Kept w' m w
 kept-sym k = record { long = sym k.long; same = sym k.same }
@@ -269,6 +269,8 @@ module _ (Had : ℕ → ℕ → Type 0) (held : (c n : ℕ) → Had c n → Hold
         (same_ended v.same))
     same-below (e-lost {l = l} {l' = l'} {u = u} o) = subst (λ ν. SameBelow (lost l u) (lost (rest l'.words ν) u)) o.notes same-lost
     same-below (e-cut {x = x} {l = l} {l' = l'} {u = u} o) = subst (λ ν. SameBelow (cut x l u) (cut x (rest l'.words ν) u)) o.notes same-cut
+    same-below (e-early x3) = elim x3 [ ]
+    same-below (e-room x4) = elim x4 [ ]
 
     -- every node below the mark of a done run is one that may be had
     each_left : {v : Pair} {r r' : Ran N} → Ends below-mark v r r' → (k u : ℕ) (b : Bindings ℕ) (s : State N) → r ≡ ended k b s u → Each s.words s.mark
@@ -276,6 +278,8 @@ module _ (Had : ℕ → ℕ → Type 0) (held : (c n : ℕ) → Had c n → Hold
     each_left (e-ended {v' = v} e (at_both ν) n s) k u b t q = let z : on v.words v.mark ν ≡ t = cc in subst (λ (t : State N). Each t.words t.mark) z v.each
     each_left (e-lost o) k u b t q = impossible (cc)
     each_left (e-cut o) k u b t q = impossible (cc)
+    each_left (e-early x4) k u b t q = elim x4 [ ]
+    each_left (e-room x5) k u b t q = elim x5 [ ]
 
     -- so is what they own
     own-left : {v : Pair} {r r' : Ran N} → Ends below-mark v r r' → (k u : ℕ) (b : Bindings ℕ) (s : State N) → r ≡ ended k b s u → Filled s.words s.mark × F.Own s.words s.mark
@@ -285,6 +289,8 @@ module _ (Had : ℕ → ℕ → Type 0) (held : (c n : ℕ) → Had c n → Hold
         (v.filled, v.own)
     own-left (e-lost o) k u b t q = impossible (cc)
     own-left (e-cut o) k u b t q = impossible (cc)
+    own-left (e-early x4) k u b t q = elim x4 [ ]
+    own-left (e-room x5) k u b t q = elim x5 [ ]
 
     -- and a good store is left
     option-below : {v : Pair} {o o' : Option ℕ} → ORel pairs v o o' → (j : ℕ) → o ≡ some j → j < v.mark
@@ -297,6 +303,8 @@ module _ (Had : ℕ → ℕ → Type 0) (held : (c n : ℕ) → Had c n → Hold
         (e.more, e.kept, record { fits = v'.filled.fits; good = λ j h. good-of-node v'.words j (v'.filled.node j h); subject = n.below; bound = λ x j q. option-below (s x) j q })
     left-sound (e-lost o) = o.kept
     left-sound (e-cut o) = o.kept
+    left-sound (e-early x3) = elim x3 [ ]
+    left-sound (e-room x4) = elim x4 [ ]
 
     -- the run of an accepted input, and of another store with the same nodes
     both : (W : ℕ) (i : Input) (w : List ℕ) (ν : N) → AcceptedBy W i → Makeable Had (table_by W i.table) → Each i.store i.mark → F.Own i.store i.mark → (k : Kept i.store i.mark w)

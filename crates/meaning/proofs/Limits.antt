@@ -393,6 +393,18 @@ module _ {H B Q : Type 0} (W : Values H Q) (R : Q → Plan H B Q) {N : Type 0} (
   unfolding run_plan trace level visits depth left most staying noted shut closed fate
   answered n (g-ret {h = h} {b = b}) (ended _ _ s' u') of-ended m ν u f x o =
       let y : m ≡ s'.mark = omega arith in let z : u ≡ u' = omega (arith, f.units) in λ i. ended h b (at (y i) (sym o i)) (z i)
+  answered n g-ret (lost l u') a m ν u f x o = elim a [ ]
+  answered n g-ret (cut _ l u') a m ν u f x o = elim a [ ]
+  answered n g-fail (ended _ _ s' u') a m ν u f x o = elim a [ ]
+  answered n g-fail (cut _ l u') a m ν u f x o = elim a [ ]
+  answered n g-miss (ended _ _ s' u') a m ν u f x o = elim a [ ]
+  answered n g-miss (cut _ l u') a m ν u f x o = elim a [ ]
+  answered n (g-visit {t = t} {q = q} {k = k} {p = p}) (ended _ _ s' u') a m ν u f x o = elim a [ ]
+  answered n (g-visit {t = t} {q = q} {k = k} {p = p}) (lost l u') a m ν u f x o = elim a [ ]
+  answered n g-node (ended _ _ s' u') a m ν u f x o = elim a [ ]
+  answered n g-node (lost l u') a m ν u f x o = elim a [ ]
+  answered n (g-unbound {v = v}) (ended _ _ s' u') a m ν u f x o = elim a [ ]
+  answered n (g-unbound {v = v}) (lost l u') a m ν u f x o = elim a [ ]
   answered n g-fail (lost l u') of-lost m ν u f x o = let z : u ≡ u' = omega (arith, f.units) in λ i. lost (sym o i) (z i)
   answered n g-miss (lost l u') of-lost m ν u f x o = let z : u ≡ u' = omega (arith, f.units) in λ i. lost (sym o i) (z i)
   answered n (g-visit {t = t} {q = q}) (cut _ l u') of-units m ν u f x o =

@@ -79,6 +79,10 @@ module _ (T : Table) where
   last_runs (done t b) z = ask-yes z ret-ends
   last_runs failed z = ask-no z fail-ends
 
+  -- what ends in a term or bindings ends in what equals them
+  ends-as : {p : Do Term} {t t' : Term} {b b' : Env} {n : Trace} → t' ≡ t → b' ≡ b → Runs p (done t b) n → Runs p (done t' b') n
+  ends-as {p = p} {t' = t'} {b = b} {n = n} e e' r = subst (λ c. Runs p (done t' c) n) (sym e') (subst (λ s. Runs p (done s b) n) (sym e) r)
+
   mutual
     unfolding trace each stopped first all_fail tried strategy matching building comparing does walk one_of some_of when given needed variable when_at what fate
 
@@ -99,32 +103,33 @@ module _ (T : Table) where
     planned (System.rec-body {o = o} e r) = rw e (last_runs o (planned r))
     planned (System.call-rec {o = o} e r) = rw e (last_runs o (planned r))
     planned (System.path-done {i = i} {t = t} {g = g} {g' = g'} {b' = b'} e n r q) =
-        rw e (look-ends (rw n (ask-yes (planned r) (rw q (again-makes t (put (kids t) i g') b' (put-nonempty (kids t) i g g' n))))))
+        rw e (look-ends (rw n (ask-yes (planned r) (ends-as q refl (again-makes t (put (kids t) i g') b' (put-nonempty (kids t) i g g' n))))))
     planned (System.path-failed e n r) = rw e (look-ends (rw n (ask-no (planned r) fail-ends)))
     planned (System.path-none e n) = rw e (look-ends (rw n fail-ends))
-    planned (System.cong-done {t = t} {ts = ts} {b' = b'} e a rs q) = rw e (look-ends (rw (agree-yes, q) (each-planned rs [] (again t (con t)) (again-runs t ts b'))))
+    planned (System.cong-done {t = t} {ts = ts} {b' = b'} e a rs q) =
+        rw e (look-ends (rw agree-yes (ends-as q refl (each-planned rs [] (again t (con t)) (again-runs t ts b')))))
     planned (System.cong-failed {t = t} e a rs) = rw e (look-ends (rw agree-yes (stopped-planned rs [] (again t (con t)))))
     planned (System.cong-other e n) = rw e (look-ends (rw agree-no fail-ends))
-    planned (System.all_done {t = t} {ts = ts} {b' = b'} e rs q) = rw e (look-ends (rw q (each-planned rs [] (again t (con t)) (again-runs t ts b'))))
+    planned (System.all_done {t = t} {ts = ts} {b' = b'} e rs q) = rw e (look-ends (ends-as q refl (each-planned rs [] (again t (con t)) (again-runs t ts b'))))
     planned (System.all-failed {t = t} e rs) = rw e (look-ends (stopped-planned rs [] (again t (con t))))
-    planned (System.one-done {t = t} e rs q) = rw e (look-ends (rw q (first-planned rs [] t)))
+    planned (System.one-done {t = t} e rs q) = rw e (look-ends (ends-as q refl (first-planned rs [] t)))
     planned (System.one-failed {t = t} e rs) = rw e (look-ends (one-failed-planned rs [] (again t (con t))))
-    planned (System.some-done {t = t} e rs q) = rw e (look-ends (rw q (tried-planned rs false [] t (omega arith))))
+    planned (System.some-done {t = t} e rs q) = rw e (look-ends (ends-as q refl (tried-planned rs false [] t (omega arith))))
     planned (System.some-failed {t = t} e rs) = rw e (look-ends (some-failed-planned rs [] (again t (con t))))
     planned (System.match-root {o = o} e r) = rw e (last_runs o (planned r))
     planned (System.build-root {o = o} e r) = rw e (last_runs o (planned r))
-    planned (System.scope-done e r q) = rw e (rw q (ask-yes (planned r) ret-ends))
+    planned (System.scope-done e r q) = rw e (ends-as refl q (ask-yes (planned r) ret-ends))
     planned (System.scope-failed e r) = rw e (ask-no (planned r) fail-ends)
     planned (System.where-done e r) = rw e (ask-yes (planned r) ret-ends)
     planned (System.where-failed e r) = rw e (ask-no (planned r) fail-ends)
-    planned (System.match-new e n q) = rw e (rw (n, q) ret-ends)
+    planned (System.match-new e n q) = rw e (rw n (ends-as refl q ret-ends))
     planned (System.match-same e n r) = rw e (rw n (ask-yes (planned r) ret-ends))
     planned (System.match-differs e n r) = rw e (rw n (ask-no (planned r) miss-ends))
     planned (System.match-con {t = t} e a rs) = rw e (look-ends (rw agree-yes (each-planned rs [] (λ gs b. ret t b) ret-ends)))
     planned (System.match-failed {t = t} e a rs) = rw e (look-ends (rw agree-yes (stopped-planned rs [] (λ gs b. ret t b))))
     planned (System.match-other e n) = rw e (look-ends (rw agree-no miss-ends))
     planned (System.build-bound e n) = rw e (rw n ret-ends)
-    planned (System.build-con {c = c} e rs q) = rw (e, q) (each-planned rs [] (λ gs b. make c gs (λ n. ret n b)) (make-ends ret-ends))
+    planned (System.build-con {c = c} e rs q) = rw e (ends-as q refl (each-planned rs [] (λ gs b. make c gs (λ n. ret n b)) (make-ends ret-ends)))
     planned (System.compare_same {t = t} a rs) = look-ends (look-ends (rw agree-yes (each-planned rs [] (λ gs b. ret t b) ret-ends)))
     planned (System.compare-failed {t = t} a rs) = look-ends (look-ends (rw agree-yes (stopped-planned rs [] (λ gs b. ret t b))))
     planned (System.compare-other n) = look-ends (look-ends (rw agree-no fail-ends))
@@ -355,6 +360,7 @@ module _ (T : Table) where
   builds = elim [ ]
 
   all_build : (t : Term) (ps : List ℕ) {b : Env} → Stopped T (map (λ q. build q t) ps) b → ⊥
+  all_build t [] x' = elim x' [ ]
   all_build t (p ∷ ps) (System.stopped-here r) = builds r
   all_build t (p ∷ ps) (System.stopped-later r rs) = all_build t ps rs
 
