@@ -115,7 +115,7 @@ numbers-decimal (suc k) (v ∷ vs) l (limited h w) = rw (number-decimal for-one 
 pub parts-fields : {f : List ℕ} (vs : List ℕ) → Clear 9 f → parts 9 (f ++ numbers_text vs) ≡ f ∷ map decimal vs
 unfolding numbers_text
 parts-fields {f} [] p = rw (append-nil f) (parts-clear p)
-parts-fields {f} (v ∷ vs) p = parts_cut (decimal v ++ numbers_text vs) p ∙ ap (λ (r : List (List ℕ)). f ∷ r) (parts-fields vs (digits-clear 9 10 v (omega arith)))
+parts-fields {f} (v ∷ vs) p = parts_cut (decimal v ++ numbers_text vs) p ∙ ap (λ (r : List (List ℕ)). f ∷ r) (parts-fields {f = decimal v} vs (digits-clear 9 10 v (omega arith)))
 
 -- Nothing is something.
 pub never : {A : Type 0} {B : Type 0} {x : A} → none ≡ some x → B
