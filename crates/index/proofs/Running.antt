@@ -18,7 +18,7 @@ use Rattle.meaning.specs.Shared.{eight, node_with, full_for, number_for, state_f
 use Rattle.meaning.proofs.Alike.{Holdable, Makeable, Worlds, ORel, o-none, o-some, LRel, l_nil, l_cons, BRel, QRel, q-apply, q-match, q-build, q-compare}
 use Rattle.meaning.proofs.Checked.{Node, Filled, good-of-node}
 use Rattle.meaning.proofs.Words.{kept_refl, kept_trans, kept_word, same-node, kept-filled, Below, below_none, below_more, children-below, length-row, new-kept, new-filled}
-use Rattle.meaning.proofs.Simulates.{Makes, both-make, both-full, Simulation, Ends, e-ended, e-lost, e-cut, simulates}
+use Rattle.meaning.proofs.Simulates.{Makes, both-make, both-full, Simulation, Ends, e-ended, e-lost, e-cut, e-early, e-room, simulates}
 use Rattle.meaning.proofs.NodeWith.{node_with-has, node_with-same}
 use Rattle.index.specs.Chains.{linked, unlinked}
 use Rattle.index.specs.Lent.{Held, joined, parted, built, forgotten, made}
@@ -402,6 +402,8 @@ module _ (room n long : ℕ) {N : Type 0} (Λ : Notes N) where
   own_same (e-ended {v' = v} {u = u} e (at-lent ν) h s) = λ i. ended (h.is i) (fun_ext (λ x. option-same (s x)) i) (on (own_words room n v.words) v.mark ν) u
   own_same (e-lost (over-lent ν f y k)) = refl
   own_same (e-cut (over-lent ν f y k)) = refl
+  own_same (e-early x3) = elim x3 [ ]
+  own_same (e-room x4) = elim x4 [ ]
 
   good-own : (v : Slice room n long) (j : ℕ) → j < v.mark → good_node v.words j ≡ true
   good-own v j h = good-of-node v.words j (same-node (own_words room n v.words) v.words j (λ x l. sym (own-word room v.words v.mark v.top n v.fits j x h l)) (v.filled.node j h))
@@ -427,12 +429,16 @@ module _ (room n long : ℕ) {N : Type 0} (Λ : Notes N) where
       own-rows (suc r) w = omega arith
   left-sound {v} (e-lost (over-lent {w = w} ν f y k)) = (own-kept room v.words w v.mark v.top n v.fits (y ∙ sym v.even) k, f)
   left-sound {v} (e-cut (over-lent {w = w} ν f y k)) = (own-kept room v.words w v.mark v.top n v.fits (y ∙ sym v.even) k, f)
+  left-sound (e-early x3) = elim x3 [ ]
+  left-sound (e-room x4) = elim x4 [ ]
 
   room-same : {v : Slice room n long} {r : Ran (Lending N)} {r' : Ran N} → Ends over-own v r r' → SameRoom room n r
   unfolding over-own
   room-same (e-ended e (at-lent ν) h s) = (refl, refl)
   room-same (e-lost (over-lent ν f y k)) = (refl, refl)
   room-same (e-cut (over-lent ν f y k)) = (refl, refl)
+  room-same (e-early x3) = elim x3 [ ]
+  room-same (e-room x4) = elim x4 [ ]
 
 -- a visit over a lent slice that fits, with good nodes
 module _ {N : Type 0} (Λ : Notes N) (T : Table) (makeable : Makeable Holdable T) (room n : ℕ) (w : List ℕ) (m t : ℕ) (fits : FitsRoom room w m t n) (good : (k : ℕ) → k < m → Node w k)
