@@ -1,4 +1,4 @@
-// Where the units go, from the archive: a run that counts the visits of every entry. Four words of 64 bits for each entry of the table:
+// Where the units go: a run that counts the visits of every entry. Four words of 64 bits for each entry of the table:
 // visits, successes, failures, and visits in flight at a cut-off. A run adds to them.
 ghost use Rattle.std.specs.Prelude.{◌≡◌, take, drop};
 ghost use Rattle.std.proofs.Math.Option.{none, some};
@@ -28,8 +28,7 @@ fn numbers_of(r: Counted) -> [u32; 7]
 }
 
 // The run: answer, place, subject, mark and units used, then the visits of patterns and of pairs.
-#[unsafe(no_mangle)]
-pub extern "C" fn marshtrundle_run_counted(
+pub fn marshtrundle_run_counted(
     table: &[u32],
     store: &mut [u32],
     bindings: &mut [u32],
@@ -48,8 +47,7 @@ pub extern "C" fn marshtrundle_run_counted(
 }
 
 // The same with a signature.
-#[unsafe(no_mangle)]
-pub extern "C" fn marshtrundle_run_counted_signed(
+pub fn marshtrundle_run_counted_signed(
     table: &[u32],
     store: &mut [u32],
     bindings: &mut [u32],
@@ -71,8 +69,7 @@ pub extern "C" fn marshtrundle_run_counted_signed(
 }
 
 // The run with an index: the first `words` of `lent` are the store's, and the rest is the index.
-#[unsafe(no_mangle)]
-pub extern "C" fn marshtrundle_run_indexed_counted(
+pub fn marshtrundle_run_indexed_counted(
     table: &[u32],
     lent: &mut [u32],
     words: u32,
@@ -103,8 +100,7 @@ pub extern "C" fn marshtrundle_run_indexed_counted(
 }
 
 // The same with a signature.
-#[unsafe(no_mangle)]
-pub extern "C" fn marshtrundle_run_indexed_counted_signed(
+pub fn marshtrundle_run_indexed_counted_signed(
     table: &[u32],
     lent: &mut [u32],
     words: u32,

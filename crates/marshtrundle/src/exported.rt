@@ -1,4 +1,4 @@
-// What a program in C or Rust calls, from the archive. A slice is a pointer and a number of words, or of bytes where it is text. The numbers that come
+// What a program in C or Rust calls. A slice is a pointer and a number of words, or of bytes where it is text. The numbers that come
 // back go into an array that the caller lends. The contracts are those of the functions called, over that array.
 ghost use Rattle.std.specs.Prelude.{◌≡◌};
 ghost use Rattle.std.proofs.Math.Option.{none, some};
@@ -21,8 +21,7 @@ use translate::translate::translate;
 use write_rules::rule::write_rule;
 
 // The run: answer, place, subject, mark and units used.
-#[unsafe(no_mangle)]
-pub extern "C" fn marshtrundle_run(
+pub fn marshtrundle_run(
     table: &[u32],
     store: &mut [u32],
     bindings: &mut [u32],
@@ -40,8 +39,7 @@ pub extern "C" fn marshtrundle_run(
 }
 
 // The run with a signature: the same five numbers.
-#[unsafe(no_mangle)]
-pub extern "C" fn marshtrundle_run_signed(
+pub fn marshtrundle_run_signed(
     table: &[u32],
     store: &mut [u32],
     bindings: &mut [u32],
@@ -69,8 +67,7 @@ pub extern "C" fn marshtrundle_run_signed(
 }
 
 // A whole module in one call: answer and place. Five numbers for each subject go into `results`.
-#[unsafe(no_mangle)]
-pub extern "C" fn marshtrundle_run_many(
+pub fn marshtrundle_run_many(
     table: &[u32],
     store: &mut [u32],
     bindings: &[u32],
@@ -92,8 +89,7 @@ pub extern "C" fn marshtrundle_run_many(
 }
 
 // The same with a signature.
-#[unsafe(no_mangle)]
-pub extern "C" fn marshtrundle_run_many_signed(
+pub fn marshtrundle_run_many_signed(
     table: &[u32],
     store: &mut [u32],
     bindings: &[u32],
@@ -116,8 +112,7 @@ pub extern "C" fn marshtrundle_run_many_signed(
 }
 
 // The collection: answer, place, subject and mark.
-#[unsafe(no_mangle)]
-pub extern "C" fn marshtrundle_collect(
+pub fn marshtrundle_collect(
     store: &mut [u32],
     bindings: &mut [u32],
     work: &mut [u32],
@@ -133,8 +128,7 @@ pub extern "C" fn marshtrundle_collect(
 }
 
 // The question of free variables: answer, place and mask, as numbers of 64 bits, for the mask has so many.
-#[unsafe(no_mangle)]
-pub extern "C" fn marshtrundle_free_variables(table: &[u32], entry: u32, numbers: &mut [u64; 3])
+pub fn marshtrundle_free_variables(table: &[u32], entry: u32, numbers: &mut [u64; 3])
     ensures { Answered table.now entry (three numbers.new) }
 {
     let r = free_variables(table, entry);
@@ -142,8 +136,7 @@ pub extern "C" fn marshtrundle_free_variables(table: &[u32], entry: u32, numbers
 }
 
 // The table check: answer and place.
-#[unsafe(no_mangle)]
-pub extern "C" fn marshtrundle_check_table(table: &[u32], numbers: &mut [u32; 2])
+pub fn marshtrundle_check_table(table: &[u32], numbers: &mut [u32; 2])
     ensures { two numbers.new ≡ table_checked table.now }
 {
     let r = check_table(table);
@@ -151,8 +144,7 @@ pub extern "C" fn marshtrundle_check_table(table: &[u32], numbers: &mut [u32; 2]
 }
 
 // The store check: answer and place.
-#[unsafe(no_mangle)]
-pub extern "C" fn marshtrundle_check_store(store: &[u32], mark: u32, numbers: &mut [u32; 2])
+pub fn marshtrundle_check_store(store: &[u32], mark: u32, numbers: &mut [u32; 2])
     ensures { two numbers.new ≡ store_checked store.now mark }
 {
     let r = check_store(store, mark);
@@ -161,8 +153,7 @@ pub extern "C" fn marshtrundle_check_store(store: &[u32], mark: u32, numbers: &m
 
 // Rules as text into a table: answer, line, field and the entries in use, as numbers of 64 bits, for a line has as many fields as it
 // has room for.
-#[unsafe(no_mangle)]
-pub extern "C" fn marshtrundle_translate_rules(
+pub fn marshtrundle_translate_rules(
     table: &mut [u32],
     used: u32,
     text: &[u8],
@@ -180,8 +171,7 @@ pub extern "C" fn marshtrundle_translate_rules(
 }
 
 // A rule of a table as a line of text: answer, place and length, as numbers of 64 bits.
-#[unsafe(no_mangle)]
-pub extern "C" fn marshtrundle_write_rule(
+pub fn marshtrundle_write_rule(
     table: &[u32],
     used: u32,
     entry: u32,

@@ -1,4 +1,5 @@
-// What the linker links: each call under its name in C, without `requires`. It refuses by number.
+// What a program in C or Rust calls: each call under its name in C, without `requires`. It refuses by number. The crate marshtrundle_c
+// has each for the linker.
 pub mod counted;
 pub mod exported;
 pub mod shared;

@@ -1,4 +1,4 @@
-// One node for one term, from the archive: the runs of a store that has an index behind its words.
+// One node for one term: the runs of a store that has an index behind its words.
 ghost use Rattle.std.specs.Prelude.{◌≡◌, take, drop};
 ghost use Rattle.std.proofs.Math.Option.{none, some};
 ghost use Rattle.calls.specs.Run.{input};
@@ -10,8 +10,7 @@ use indexed::run::{run_indexed, run_indexed_signed};
 use indexed::subjects::{run_many_indexed, run_many_indexed_signed};
 
 // The run: answer, place, subject, mark and units used. The first `words` of `lent` are the store's, and the rest is the index.
-#[unsafe(no_mangle)]
-pub extern "C" fn marshtrundle_run_indexed(
+pub fn marshtrundle_run_indexed(
     table: &[u32],
     lent: &mut [u32],
     words: u32,
@@ -39,8 +38,7 @@ pub extern "C" fn marshtrundle_run_indexed(
 }
 
 // The same with a signature.
-#[unsafe(no_mangle)]
-pub extern "C" fn marshtrundle_run_indexed_signed(
+pub fn marshtrundle_run_indexed_signed(
     table: &[u32],
     lent: &mut [u32],
     words: u32,
@@ -70,8 +68,7 @@ pub extern "C" fn marshtrundle_run_indexed_signed(
 }
 
 // A whole module in one call, with an index: answer and place.
-#[unsafe(no_mangle)]
-pub extern "C" fn marshtrundle_run_many_indexed(
+pub fn marshtrundle_run_many_indexed(
     table: &[u32],
     lent: &mut [u32],
     words: u32,
@@ -102,8 +99,7 @@ pub extern "C" fn marshtrundle_run_many_indexed(
 }
 
 // The same with a signature.
-#[unsafe(no_mangle)]
-pub extern "C" fn marshtrundle_run_many_indexed_signed(
+pub fn marshtrundle_run_many_indexed_signed(
     table: &[u32],
     lent: &mut [u32],
     words: u32,

@@ -1,4 +1,4 @@
-// A run that can be set aside, from the archive: a start call, and step calls over a work list that the caller lends. Nobody but the step
+// A run that can be set aside: a start call, and step calls over a work list that the caller lends. Nobody but the step
 // calls may touch table, store, bindings and work list between them.
 ghost use Rattle.std.proofs.Math.Option.{none, some};
 ghost use Rattle.calls.specs.Run.{input};
@@ -8,8 +8,7 @@ ghost use Rattle.marshtrundle.specs.Exported.{five};
 use stepping::{start_run, start_run_signed, step_run};
 
 // The start: answer, place, subject, mark and units used. 25, or a refusal.
-#[unsafe(no_mangle)]
-pub extern "C" fn marshtrundle_start(
+pub fn marshtrundle_start(
     table: &[u32],
     store: &[u32],
     bindings: &[u32],
@@ -28,8 +27,7 @@ pub extern "C" fn marshtrundle_start(
 }
 
 // The same with a signature.
-#[unsafe(no_mangle)]
-pub extern "C" fn marshtrundle_start_signed(
+pub fn marshtrundle_start_signed(
     table: &[u32],
     store: &[u32],
     bindings: &[u32],
@@ -52,8 +50,7 @@ pub extern "C" fn marshtrundle_start_signed(
 }
 
 // The step: so many visits, or fewer if the run ends. The same five numbers.
-#[unsafe(no_mangle)]
-pub extern "C" fn marshtrundle_step(
+pub fn marshtrundle_step(
     table: &[u32],
     store: &mut [u32],
     bindings: &mut [u32],
