@@ -59,6 +59,7 @@ module _ (ms : List ℕ) (v : ℕ) where
   -- each mask is in the joined
   pub in-joined : (all : ℕ) (xs : List ℕ) (x : ℕ) → In x xs → has (get_or ms x 0) v ≡ true → has (joined ms all xs) v ≡ true
   unfolding joined
+  in-joined all [] y x3 h = elim x3 [ ]
   in-joined all (x ∷ xs) y here h = joined_keeps (bit_or all (get_or ms x 0)) xs (has-or all (get_or ms x 0) v ∙ rw h (or-true (has all v)))
   in-joined all (x ∷ xs) y (there i) h = in-joined (bit_or all (get_or ms x 0)) xs y i h
 
@@ -100,6 +101,7 @@ module _ (W : ℕ) (t ms : List ℕ) (e : ℕ) where
 -- the one of a list of one
 only : {x y : ℕ} → In y (x ∷ []) → x ≡ y
 only here = refl
+only (there i) = elim i [ ]
 
 module _ (W : ℕ) (t : List ℕ) where
   -- by its sort, what a bit stands for
