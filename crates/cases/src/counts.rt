@@ -2,7 +2,7 @@
 use crate::numbers::number;
 
 // A count of the text, and the place after it.
-#[derive(Drop)]
+#[derive(Clone, Copy)]
 pub struct Count {
     pub value: u64,
     pub next: usize,

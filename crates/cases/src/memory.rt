@@ -27,7 +27,7 @@ use checks::kinds::SCOPE;
 use words::{clear_from, put_row};
 
 // The twelve numbers that a case begins with, and the place after them.
-#[derive(Drop)]
+#[derive(Clone, Copy)]
 pub struct Given {
     pub table: u32,
     pub store: u32,

@@ -9,7 +9,7 @@ use crate::line::{Line, check_line};
 use text::reader::line_from;
 
 // The entries in use, the answer, and the line and the field that it is about.
-#[derive(Drop)]
+#[derive(Clone, Copy)]
 pub struct Translated {
     pub used: u32,
     pub answer: u32,

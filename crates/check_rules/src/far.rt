@@ -138,7 +138,7 @@ fn any_early(
 }
 
 // Whether a variable is used too early, and below which number that was asked.
-#[derive(Drop)]
+#[derive(Clone, Copy)]
 pub struct Settled {
     pub late: bool,
     pub below: usize,

@@ -1,4 +1,6 @@
 // What refuses a text of rules: its variables, the entries that it calls, the room that it takes.
+#![tactic(auto)]
+
 pub mod answer;
 pub mod bound;
 pub mod check;

@@ -11,7 +11,7 @@ use rules::condition::condition_at;
 use rules::shape::shape_of;
 
 // 0, 18, 19, 20 or 22; the first bad field, one past the last where none is bad; the rule's entries.
-#[derive(Drop)]
+#[derive(Clone, Copy)]
 pub struct Line {
     pub answer: u32,
     pub field: usize,

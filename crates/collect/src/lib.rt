@@ -1,5 +1,7 @@
 // A collection: what the subject and the bound variables reach stays, and the room of all else comes back. It refuses by number
 // and assumes nothing. The work list, which the caller lends, has a word for a node: 1 for one that is reached, then its new number.
+#![tactic(auto)]
+
 ghost use Rattle.std.specs.Prelude.{◌≡◌};
 ghost use Rattle.collect.specs.Collected.{lent, at_end, collected_of};
 
@@ -13,7 +15,7 @@ mod moving;
 mod refusals;
 
 // The four numbers that a collection returns.
-#[derive(Drop)]
+#[derive(Clone, Copy)]
 pub struct Collected {
     pub answer: u32,
     pub place: u32,

@@ -27,7 +27,7 @@ use state::record::{MARK, MISS, RECORD, bound_in, kept_words, mask_of, put_back,
 
 // One visit: an entry applied as a strategy. Units first, then nesting; then it is counted. ALL, of which traversals are made,
 // is looked at here: a term without children is given back at once.
-#[cycle(apply_apply_first_apply_in_scope_apply_loop_begin_seq_cong_guard_hiding_keep_subject_one_path_rule_scope_walk)]
+#[cycle(visiting)]
 pub fn apply(
     table: &[u32; 32768],
     store: &mut [u32],
@@ -56,7 +56,7 @@ pub fn apply(
 }
 
 // One visit of any kind. An operand in a last position goes round the loop, one deeper.
-#[cycle(apply_apply_first_apply_in_scope_apply_loop_begin_seq_cong_guard_hiding_keep_subject_one_path_rule_scope_walk)]
+#[cycle(visiting)]
 fn apply_loop(
     table: &[u32; 32768],
     store: &mut [u32],
@@ -134,7 +134,7 @@ fn apply_loop(
 }
 
 // One visit of SEQ's first operand. A MATCH, with which a rewrite rule begins, is made from here and not by the loop.
-#[cycle(apply_apply_first_apply_in_scope_apply_loop_begin_seq_cong_guard_hiding_keep_subject_one_path_rule_scope_walk)]
+#[cycle(visiting)]
 fn begin_seq(
     table: &[u32; 32768],
     store: &mut [u32],
@@ -168,7 +168,7 @@ fn begin_seq(
 
 // One visit of CHOICE's or LEFT's first operand. A CONG and a SCOPE are entered from here and not by the loop, so that an alternative that
 // is one of them takes one call fewer, and a CONG none where constructor or count differ.
-#[cycle(apply_apply_first_apply_in_scope_apply_loop_begin_seq_cong_guard_hiding_keep_subject_one_path_rule_scope_walk)]
+#[cycle(visiting)]
 fn apply_first(
     table: &[u32; 32768],
     store: &mut [u32],
@@ -200,7 +200,7 @@ fn apply_first(
 }
 
 // The rule of a kind that the loop leaves: no operand is in a last position, and it is neither CONG nor ONE.
-#[cycle(apply_apply_first_apply_in_scope_apply_loop_begin_seq_cong_guard_hiding_keep_subject_one_path_rule_scope_walk)]
+#[cycle(visiting)]
 fn rule(
     table: &[u32; 32768],
     store: &mut [u32],
@@ -228,7 +228,7 @@ fn rule(
 }
 
 // TEST and NOT: mark and bindings as they were.
-#[cycle(apply_apply_first_apply_in_scope_apply_loop_begin_seq_cong_guard_hiding_keep_subject_one_path_rule_scope_walk)]
+#[cycle(visiting)]
 fn guard(
     table: &[u32; 32768],
     store: &mut [u32],
@@ -260,7 +260,7 @@ fn guard(
 }
 
 // WHERE: the term as it was, the new bindings kept.
-#[cycle(apply_apply_first_apply_in_scope_apply_loop_begin_seq_cong_guard_hiding_keep_subject_one_path_rule_scope_walk)]
+#[cycle(visiting)]
 fn keep_subject(
     table: &[u32; 32768],
     store: &mut [u32],
@@ -280,7 +280,7 @@ fn keep_subject(
 }
 
 // PATH i: child i, counted from 1.
-#[cycle(apply_apply_first_apply_in_scope_apply_loop_begin_seq_cong_guard_hiding_keep_subject_one_path_rule_scope_walk)]
+#[cycle(visiting)]
 fn path(
     table: &[u32; 32768],
     store: &mut [u32],
@@ -318,7 +318,7 @@ fn path(
 }
 
 // CONG: constructor and count must agree.
-#[cycle(apply_apply_first_apply_in_scope_apply_loop_begin_seq_cong_guard_hiding_keep_subject_one_path_rule_scope_walk)]
+#[cycle(visiting)]
 fn cong(
     table: &[u32; 32768],
     store: &mut [u32],
@@ -338,7 +338,7 @@ fn cong(
 }
 
 // The child walker: CONG with an operand for each child, ALL, and SOME, which keeps a child where its operand failed.
-#[cycle(apply_apply_first_apply_in_scope_apply_loop_begin_seq_cong_guard_hiding_keep_subject_one_path_rule_scope_walk)]
+#[cycle(visiting)]
 fn walk(
     table: &[u32; 32768],
     store: &mut [u32],
@@ -518,7 +518,7 @@ fn finish(
 
 // ONE: the leftmost child that succeeds. The visits that lead to its operand's first work are counted at once, as in the child
 // walker.
-#[cycle(apply_apply_first_apply_in_scope_apply_loop_begin_seq_cong_guard_hiding_keep_subject_one_path_rule_scope_walk)]
+#[cycle(visiting)]
 fn one(
     table: &[u32; 32768],
     store: &mut [u32],
@@ -567,7 +567,7 @@ fn one(
 
 // One visit of a SCOPE's operand. A SCOPE there is entered from here and not by the loop, so that SCOPEs nested in SCOPEs take
 // one frame a level.
-#[cycle(apply_apply_first_apply_in_scope_apply_loop_begin_seq_cong_guard_hiding_keep_subject_one_path_rule_scope_walk)]
+#[cycle(visiting)]
 fn apply_in_scope(
     table: &[u32; 32768],
     store: &mut [u32],
@@ -593,7 +593,7 @@ fn apply_in_scope(
 }
 
 // SCOPE: nothing is saved where no masked variable is bound.
-#[cycle(apply_apply_first_apply_in_scope_apply_loop_begin_seq_cong_guard_hiding_keep_subject_one_path_rule_scope_walk)]
+#[cycle(visiting)]
 fn scope(
     table: &[u32; 32768],
     store: &mut [u32],
@@ -615,7 +615,7 @@ fn scope(
 }
 
 // SCOPE where some masked variable is bound: its word is kept and put back, on failure too.
-#[cycle(apply_apply_first_apply_in_scope_apply_loop_begin_seq_cong_guard_hiding_keep_subject_one_path_rule_scope_walk)]
+#[cycle(visiting)]
 fn hiding(
     table: &[u32; 32768],
     store: &mut [u32],

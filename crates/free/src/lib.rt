@@ -1,5 +1,7 @@
 // The question of free variables: which variables are free in a strategy of a table. Every table and every entry gets an
 // answer, and nothing is written.
+#![tactic(auto)]
+
 ghost use Rattle.std.specs.Prelude.{◌≡◌};
 ghost use Rattle.free.specs.Answered.{is_strategy, refusal, Answered};
 
@@ -11,7 +13,7 @@ mod order;
 pub mod passes;
 
 // An answer from document 01's list, its place, and the mask of the free variables.
-#[derive(Drop)]
+#[derive(Clone, Copy)]
 pub struct FreeVariables {
     pub answer: u32,
     pub place: u32,

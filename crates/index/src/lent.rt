@@ -39,7 +39,7 @@ fn forget(lent: &mut [u32], n: u32, mark: u32, top: u32)
 }
 
 // What comes of asking for a node: the number of the node that stands, or of the new one, or no room.
-#[derive(Drop)]
+#[derive(Clone, Copy)]
 pub enum Node {
     Stands(u32),
     Made(u32),

@@ -1,4 +1,6 @@
 // The text that a program is given: standard input up to its end, or as much of it as a buffer holds.
+#![tactic(auto)]
+
 ghost use Rattle.std.specs.Prelude.{◌+◌, ◌≤◌, length};
 
 use libc::STDIN_FILENO;

@@ -1,11 +1,13 @@
 // Job text in, answer text out: the lines of a job, the job that they are or the first bad one, and the text of its answer.
+#![tactic(auto)]
+
 pub mod answer;
 pub mod lines;
 pub mod read;
 
 // A line of a job, its numbers and the place after it. The name is 0 to 3 for job, e, n and b; 4 is a bad line. Of an argument of two
 // words `at` has the lower one.
-#[derive(Drop)]
+#[derive(Clone, Copy)]
 pub struct Taken {
     pub name: u32,
     pub count: u32,
@@ -16,7 +18,7 @@ pub struct Taken {
 
 // What the lines so far say: how far the order has come, the rows so far, the least variable that may come next, and the
 // numbers of line 1.
-#[derive(Drop)]
+#[derive(Clone, Copy)]
 pub struct Heading {
     pub section: u32,
     pub entries: u32,
@@ -29,7 +31,7 @@ pub struct Heading {
 }
 
 // A job, or the number of the first bad line.
-#[derive(Drop)]
+#[derive(Clone, Copy)]
 pub enum Parsed {
     Bad(u32),
     Read(Heading),

@@ -71,7 +71,7 @@ fn match_nested(
     done(0, left)
 }
 
-#[derive(Drop)]
+#[derive(Clone, Copy)]
 pub struct MatchedChildren {
     pub got: u64,
     pub binds: Bindings,

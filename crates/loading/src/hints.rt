@@ -10,7 +10,7 @@ use checks::kinds::{
 use words::word;
 
 // An entry, and a number of visits; 0 visits where nothing is known.
-#[derive(Drop)]
+#[derive(Clone, Copy)]
 pub struct Hint(pub u32, pub u32);
 
 // A MATCH of a PCON: the PCON's visit is the second.

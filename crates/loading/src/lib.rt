@@ -1,4 +1,6 @@
 // What a run copies once: the table into words of fixed length, the bindings into the run's one record, and back.
+#![tactic(auto)]
+
 ghost use Rattle.std.specs.Prelude.{◌≡◌, ℕ, ◌≤◌, ◌<◌, length, replicate};
 ghost use Rattle.std.proofs.Math.Option.{some};
 ghost use Rattle.checks.specs.Kinds.{variables};

@@ -14,7 +14,7 @@ use turns::turn::{LEFTMOST, MAKING, PAIRS, RECORD, STEP, TRIED, Turn, few};
 use words::{put_row, word};
 
 // What a frame gets back before it goes on.
-#[derive(Drop)]
+#[derive(Clone, Copy)]
 pub struct Kept {
     pub mark: u32,
     pub mask: u64,

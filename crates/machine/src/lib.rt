@@ -1,5 +1,7 @@
 // The machine: a run whose visits in flight are frames in a lent list. One loop, no recursion. Nothing in this crate knows a kind of entry:
 // what a visit does next is a turn of the crate turns.
+#![tactic(auto)]
+
 ghost use Rattle.std.specs.Prelude.{◌≡◌, false, ℕ, ◌+◌, ◌*◌, ◌<◌, ◌≤◌};
 ghost use Rattle.machine.specs.Machine.{Lent, Carried, Turned, Gone};
 
@@ -23,7 +25,7 @@ pub const STUCK: u32 = 7;
 
 // The machine between two turns: what is asked for or has ended, how many visits are in flight, the mark, where the last match gave up,
 // the units left, and the mask of the variables that are bound.
-#[derive(Drop)]
+#[derive(Clone, Copy)]
 pub struct Machine {
     pub x: u32,
     pub mode: u32,

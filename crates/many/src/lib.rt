@@ -1,5 +1,7 @@
 // A whole module in one call: the same start on each of a list of subjects. Table and store are checked once, the table is copied and
 // hinted once, and the store is cleared once, at the end.
+#![tactic(auto)]
+
 ghost use Rattle.std.specs.Prelude.{◌≡◌, ◌+◌, ◌≤◌, length};
 ghost use Rattle.std.proofs.Math.Option.{none, some};
 ghost use Rattle.std.proofs.Math.Seq.{paste};

@@ -1,4 +1,6 @@
 // The cases of every call but a run in steps and a run with counts.
+#![tactic(auto)]
+
 use cases::memory::Given;
 use cases::show::show_label;
 use libc::STDOUT_FILENO;

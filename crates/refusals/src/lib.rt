@@ -1,4 +1,6 @@
 // What a run refuses, in the order of documents 01 and 02: 2, 13 to 17, 4, 10, 11, 5. Nothing is written here.
+#![tactic(auto)]
+
 ghost use Rattle.std.specs.Prelude.{◌≡◌, List, ℕ, ◌≤◌, length};
 ghost use Rattle.calls.specs.Many.{handed, many_refused};
 ghost use Rattle.calls.specs.Refused.{sizes_fit, is_start, start_fits, subjects_below, starts_fit, lent_if, lent_fits, signature_obeyed, words_refused, refused_with};

@@ -7,7 +7,7 @@ use text::field::{Field, next_at, number};
 
 // Whether the fields are good; the entry's number; where the starting term, the outcome and the field after it begin; how many
 // fields were good; the entries of both terms.
-#[derive(Drop)]
+#[derive(Clone, Copy)]
 pub struct Found {
     pub good: bool,
     pub callee: u32,

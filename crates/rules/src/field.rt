@@ -7,7 +7,7 @@ ghost use Rattle.rules.specs.Held.{head_held, count_held};
 use text::field::{Field, number};
 
 // A term's first field.
-#[derive(Drop)]
+#[derive(Clone, Copy)]
 pub enum Head {
     Variable(u32),
     Constructor(u32),

@@ -9,7 +9,7 @@ use crate::term::term_at;
 
 // Whether it is; its first bad field from 1, one past the last where none is bad; the rule's entries; where its right term and
 // its conditions begin.
-#[derive(Drop)]
+#[derive(Clone, Copy)]
 pub struct Shape {
     pub good: bool,
     pub field: usize,

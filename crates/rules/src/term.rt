@@ -7,7 +7,7 @@ use text::field::next_at;
 
 // Whether the term is good; where the field after it begins, one past the line's end where there is none, or the first bad
 // field; how many fields were good; its entries.
-#[derive(Drop)]
+#[derive(Clone, Copy)]
 pub struct Term {
     pub good: bool,
     pub at: usize,

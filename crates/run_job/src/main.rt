@@ -5,6 +5,8 @@
 // answered. A write that fails may leave a part of the answer, and standard error says that it is not whole. Where neither
 // fails nothing is written to standard error. Input that ends early without a failed read is a text like any other: cut
 // inside a line it has a bad last line, answer 9.
+#![tactic(auto)]
+
 use input::read_text;
 use libc::{STDERR_FILENO, STDOUT_FILENO};
 use whole_job::answer_job;

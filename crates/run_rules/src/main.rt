@@ -6,6 +6,8 @@
 //
 // A read that fails, and a text that is too long, leave standard output empty, and standard error says so. A write that fails may leave
 // a part of the answer, and standard error says that it is not whole. Otherwise nothing is written to standard error.
+#![tactic(auto)]
+
 use input::read_text;
 use libc::STDERR_FILENO;
 use read::read_entries;

@@ -6,7 +6,7 @@ use job::read::entry_row;
 use words::put_row;
 
 // How many entries there are, and where the text goes on with rules.
-#[derive(Drop)]
+#[derive(Clone, Copy)]
 pub struct Base {
     pub used: u32,
     pub rules: usize,

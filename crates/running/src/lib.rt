@@ -1,4 +1,6 @@
 // The run: table, store and bindings as slices, the mark, the start, the subject, the units.
+#![tactic(auto)]
+
 ghost use Rattle.std.specs.Prelude.{◌≡◌};
 ghost use Rattle.std.proofs.Math.Option.{some};
 ghost use Rattle.state.specs.Answers.{packed};

@@ -23,7 +23,7 @@ pub const ROOM: u64 = CUT + 65;
 pub const NESTING: u64 = CUT + 66;
 
 // A visit's answer: the node and the units left, or the units left, or the word of a cut-off.
-#[derive(Drop)]
+#[derive(Clone, Copy)]
 pub enum Answer {
     Done(u32, u32),
     Failed(u32),
@@ -31,7 +31,7 @@ pub enum Answer {
 }
 
 // An answer for an operator that goes on after a failure: whether its operand succeeded, the node, the units left.
-#[derive(Drop)]
+#[derive(Clone, Copy)]
 pub enum Attempt {
     Ended(bool, u32, u32),
     Cut(u64),

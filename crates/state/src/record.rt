@@ -34,7 +34,7 @@ pub const FIRST: usize = 7;
 
 pub const RECORD: usize = FIRST + VARIABLES;
 
-#[derive(Drop)]
+#[derive(Clone, Copy)]
 pub struct Bindings {
     pub words: [u32; RECORD],
 }

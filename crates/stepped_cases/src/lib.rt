@@ -1,4 +1,6 @@
 // A run that can be set aside: the start call, and steps until the run has ended.
+#![tactic(auto)]
+
 use calls::Outcome;
 use cases::memory::{Given, spoil};
 use cases::numbers::{number, read_words};

@@ -1,5 +1,7 @@
 // An accepted run, visit by visit, with counts: four words for each entry of the table: its visits, successes and failures, and the visits
 // in flight at a cut-off.
+#![tactic(auto)]
+
 ghost use Rattle.std.specs.Prelude.{◌≡◌, ℕ, ◌+◌, ◌*◌, ◌<◌, ◌≤◌, length, nat_eq, slice_index, slice_set};
 ghost use Rattle.words.specs.Tests.{if◌then◌else◌};
 ghost use Rattle.words.specs.Words.{rows};
@@ -66,7 +68,7 @@ fn fly(kept: &[u32], counts: &mut [u64], n: u32)
 }
 
 // The visits of patterns and of pairs.
-#[derive(Drop)]
+#[derive(Clone, Copy)]
 pub struct Seen {
     pub patterns: u32,
     pub pairs: u32,
@@ -92,7 +94,7 @@ fn see(s: Seen, mode: u32) -> Seen
 }
 
 // What a counted run comes to: the machine where it stopped, and the visits of patterns and of pairs.
-#[derive(Drop)]
+#[derive(Clone, Copy)]
 pub struct Tally {
     pub machine: Machine,
     pub seen: Seen,
@@ -169,7 +171,7 @@ fn count_rest(kept: &[u32], counts: &mut [u64], m: Machine)
 }
 
 // What a counted run returns: the run's five numbers, and the visits of patterns and of pairs.
-#[derive(Drop)]
+#[derive(Clone, Copy)]
 pub struct Counted {
     pub ended: Outcome,
     pub seen: Seen,

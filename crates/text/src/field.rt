@@ -7,13 +7,13 @@ ghost use Rattle.text.specs.Held.{value_of, wide_of, numbers_held};
 use crate::Numbers;
 
 // The number of a field, or none: of 32 bits, and of 64.
-#[derive(Drop)]
+#[derive(Clone, Copy)]
 pub enum Field {
     Number(u32),
     Other,
 }
 
-#[derive(Drop)]
+#[derive(Clone, Copy)]
 pub enum Value {
     Wide(u64),
     None,

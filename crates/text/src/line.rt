@@ -6,7 +6,7 @@ use crate::field::next_at;
 
 // Where a line's bytes end, and where the text goes on. The line feed stands between the two; a line that no line feed ends has
 // both at the text's end.
-#[derive(Drop)]
+#[derive(Clone, Copy)]
 pub struct Bounds {
     pub end: usize,
     pub next: usize,

@@ -6,7 +6,7 @@ ghost use Rattle.text.specs.Lines.{bounds_at};
 
 use crate::line::{Bounds, line_at};
 
-#[derive(Drop)]
+#[derive(Clone, Copy)]
 pub struct Reader<'a> {
     pub text: &'a [u8],
     pub at: usize,

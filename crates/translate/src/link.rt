@@ -7,7 +7,7 @@ ghost use Rattle.translate.specs.Links.{inner_of, row_linked, LinkedFrom};
 use words::{put_row, word};
 
 // An entry's words with its operands, and where its tree ends.
-#[derive(Drop)]
+#[derive(Clone, Copy)]
 pub struct Linked {
     pub row: [u32; 8],
     pub end: u32,

@@ -11,7 +11,7 @@ use crate::turn::{
 use words::word;
 
 // A frame's head: what it waits for, its entry or first node, its node.
-#[derive(Drop)]
+#[derive(Clone, Copy)]
 pub struct Head {
     pub what: u32,
     pub x: u32,
@@ -19,7 +19,7 @@ pub struct Head {
 }
 
 // Its row, seen at the child that it is at: how many children there are, the next one, and what the other row has beside it.
-#[derive(Drop)]
+#[derive(Clone, Copy)]
 pub struct Seen {
     pub at: u32,
     pub count: u32,

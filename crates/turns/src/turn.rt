@@ -54,7 +54,7 @@ pub const PAIRS: u32 = 16;
 // The visit succeeds with the node y; fails; gives up at the pattern x; ends the run at the variable x, which has no binding; binds the
 // variable x to the node y and succeeds with it; makes the node of the constructor x without children; makes the node of its row; asks
 // for a visit, with the variables of the mask unbound, and opens a frame; asks for that of its next child; ends a SCOPE.
-#[derive(Drop)]
+#[derive(Clone, Copy)]
 pub enum Act {
     Done,
     Failed,
@@ -68,7 +68,7 @@ pub enum Act {
     Unscope,
 }
 
-#[derive(Drop)]
+#[derive(Clone, Copy)]
 pub struct Turn {
     pub act: Act,
     pub mode: u32,

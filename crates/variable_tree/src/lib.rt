@@ -1,6 +1,8 @@
 // Variables that a line has bound, in a tree by the bits of their numbers. Node n, from 1 on, holds the variable `keys[n]`. A
 // variable's lowest twelve bits choose its root among the links, and each further bit one of a node's two links; so no way is
 // longer than 21 nodes, whatever the variables are. Link 0 holds how many nodes there are.
+#![tactic(auto)]
+
 ghost use Rattle.std.specs.Prelude.{◌≡◌, ◌≤◌, get_or, length};
 ghost use Rattle.variable_tree.specs.Tree.{Keeps, KeepsOr, FoundIn};
 
@@ -19,7 +21,7 @@ fn at(words: &[u32], i: usize) -> u32
 }
 
 // Where a variable's way ends: at its node, or at the link that would lead to it.
-#[derive(Drop)]
+#[derive(Clone, Copy)]
 pub struct Way {
     pub found: bool,
     pub link: usize,

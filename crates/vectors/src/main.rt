@@ -8,6 +8,8 @@
 //
 // The bytes of `j` are a job's text. Those of the others say which memory is lent (memory.rt of the crate cases), and end in a
 // label. A further call takes a tag and a function in plain_cases, and tools/cases writes its cases.
+#![tactic(auto)]
+
 use cases::input::{next_byte, read_line};
 use cases::numbers::number;
 use libc::{STDIN_FILENO, STDOUT_FILENO};

@@ -1,4 +1,6 @@
 // A job's text in, its answer's text out: the text is read, run, and what comes back is written.
+#![tactic(auto)]
+
 ghost use Rattle.std.specs.Prelude.{◌≡◌, ◌≤◌, length};
 ghost use Rattle.checks.specs.Kinds.{variables};
 ghost use Rattle.text.specs.Written.{Put};

@@ -1,4 +1,6 @@
 // Eight words to a row: a node of the store, an entry of the table. A read outside the words answers 0.
+#![tactic(auto)]
+
 ghost use Rattle.std.specs.Prelude.{◌≡◌, ◌+◌, ◌*◌, ◌≤◌, ◌<◌, length};
 ghost use Rattle.words.specs.Words.{word_at, put_row, cleared_from};
 

@@ -11,7 +11,7 @@ use check_rules::line::check_line;
 use translate::lines::put_line;
 
 // The answer, the entry that it is about, and how many bytes were written.
-#[derive(Drop)]
+#[derive(Clone, Copy)]
 pub struct Written {
     pub answer: u32,
     pub place: u32,

@@ -8,7 +8,7 @@ use text::write::{put_byte, put_digits};
 use words::word;
 
 // The entry after those that were passed, and the place in the line after what was written.
-#[derive(Drop)]
+#[derive(Clone, Copy)]
 pub struct Passed {
     pub entry: u32,
     pub at: usize,

@@ -11,8 +11,8 @@ use mathlib.Core.Path.{◌≡◌, refl, sym, ap, ◌∙◌}
 use borrow.Author.Rules.{rules}
 use native.Mathlib.Omega.{arith}
 use Rattle.cycle.proofs.visits.apply_loop.Reads as apply-loop
-use Rattle.cycle.proofs.visits.+apply_apply_first_apply_in_scope_apply_loop_begin_seq_cong_guard_hiding_keep_subject_one_path_rule_scope_walk.Lts-apply_loop as apply-loop-lts
-use Rattle.cycle.proofs.visits.+apply_apply_first_apply_in_scope_apply_loop_begin_seq_cong_guard_hiding_keep_subject_one_path_rule_scope_walk.Proof.Common.{apply-loop-at, apply-loop-calls}
+use Rattle.cycle.proofs.visits.+visiting.Lts-apply_loop as apply-loop-lts
+use Rattle.cycle.proofs.visits.+visiting.Proof.Common.{apply-loop-at, apply-loop-calls}
 
 abbrev pub apply-loop-Inv-loop : apply-loop-lts.invariant-loop
 apply-loop-Inv-loop table store₀ st₀ start given deep e₀ s₀ d₀ store st e s d = Turn table store₀ st₀ start given deep store st e s d

@@ -6,8 +6,8 @@ use mathlib.Core.Logic.{⊎_elim}
 use borrow.Author.Rules.{rules}
 use native.Mathlib.Omega.{arith}
 use Rattle.cycle.proofs.visits.apply_first.Reads as apply-first
-use Rattle.cycle.proofs.visits.+apply_apply_first_apply_in_scope_apply_loop_begin_seq_cong_guard_hiding_keep_subject_one_path_rule_scope_walk.Lts-apply_first as apply-first-lts
-use Rattle.cycle.proofs.visits.+apply_apply_first_apply_in_scope_apply_loop_begin_seq_cong_guard_hiding_keep_subject_one_path_rule_scope_walk.Proof.Common.{apply-first-at, apply-first-calls}
+use Rattle.cycle.proofs.visits.+visiting.Lts-apply_first as apply-first-lts
+use Rattle.cycle.proofs.visits.+visiting.Proof.Common.{apply-first-at, apply-first-calls}
 
 pub apply-first-kind-requires : (t : ℕ) → apply-first-lts.Need-kind-requires (apply-first-calls t) (apply-first-at t) apply-first.Post
 apply-first-kind-requires t c κs = c.before.requires.1.inside

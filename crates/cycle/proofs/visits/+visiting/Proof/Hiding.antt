@@ -4,8 +4,8 @@ use Prim.Native.Nat.{ℕ}
 use borrow.Author.Rules.{rules}
 use native.Mathlib.Omega.{arith}
 use Rattle.cycle.proofs.visits.hiding.Reads as hiding
-use Rattle.cycle.proofs.visits.+apply_apply_first_apply_in_scope_apply_loop_begin_seq_cong_guard_hiding_keep_subject_one_path_rule_scope_walk.Lts-hiding as hiding-lts
-use Rattle.cycle.proofs.visits.+apply_apply_first_apply_in_scope_apply_loop_begin_seq_cong_guard_hiding_keep_subject_one_path_rule_scope_walk.Proof.Common.{hiding-at, hiding-calls}
+use Rattle.cycle.proofs.visits.+visiting.Lts-hiding as hiding-lts
+use Rattle.cycle.proofs.visits.+visiting.Proof.Common.{hiding-at, hiding-calls}
 
 pub hiding-scope-mask-requires : (t : ℕ) → hiding-lts.Need-scope-mask-requires (hiding-calls t) (hiding-at t) hiding.Post
 hiding-scope-mask-requires t c κs = c.before.requires.1.0.inside

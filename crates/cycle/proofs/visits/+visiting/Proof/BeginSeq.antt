@@ -7,8 +7,8 @@ use mathlib.Core.Path.{sym, ◌∙◌}
 use borrow.Author.Rules.{rules}
 use native.Mathlib.Omega.{arith}
 use Rattle.cycle.proofs.visits.begin_seq.Reads as begin-seq
-use Rattle.cycle.proofs.visits.+apply_apply_first_apply_in_scope_apply_loop_begin_seq_cong_guard_hiding_keep_subject_one_path_rule_scope_walk.Lts-begin_seq as begin-seq-lts
-use Rattle.cycle.proofs.visits.+apply_apply_first_apply_in_scope_apply_loop_begin_seq_cong_guard_hiding_keep_subject_one_path_rule_scope_walk.Proof.Common.{begin-seq-at, begin-seq-calls}
+use Rattle.cycle.proofs.visits.+visiting.Lts-begin_seq as begin-seq-lts
+use Rattle.cycle.proofs.visits.+visiting.Proof.Common.{begin-seq-at, begin-seq-calls}
 
 pub begin-seq-kind-requires : (t : ℕ) → begin-seq-lts.Need-kind-requires (begin-seq-calls t) (begin-seq-at t) begin-seq.Post
 begin-seq-kind-requires t c κs = c.before.requires.1.inside

@@ -8,8 +8,8 @@ use Prim.Native.Nat.{ℕ, ◌-◌, ◌≤◌}
 use borrow.Author.Rules.{rules}
 use native.Mathlib.Omega.{arith}
 use Rattle.cycle.proofs.visits.one.Reads as one
-use Rattle.cycle.proofs.visits.+apply_apply_first_apply_in_scope_apply_loop_begin_seq_cong_guard_hiding_keep_subject_one_path_rule_scope_walk.Lts-one as one-lts
-use Rattle.cycle.proofs.visits.+apply_apply_first_apply_in_scope_apply_loop_begin_seq_cong_guard_hiding_keep_subject_one_path_rule_scope_walk.Proof.Common.{one_at, one-calls}
+use Rattle.cycle.proofs.visits.+visiting.Lts-one as one-lts
+use Rattle.cycle.proofs.visits.+visiting.Proof.Common.{one_at, one-calls}
 
 abbrev pub one-Inv-loop : one-lts.invariant-loop
 one-Inv-loop table store₀ st₀ e s deep t u₀ n mark mask ahead op i₀ store st u i = Trying table store₀ st₀ deep e s n store st u i

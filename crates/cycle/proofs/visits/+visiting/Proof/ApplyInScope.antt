@@ -5,9 +5,9 @@ use mathlib.Core.Path.{sym, ◌∙◌}
 use borrow.Author.Rules.{rules}
 use native.Mathlib.Omega.{arith}
 use Rattle.cycle.proofs.visits.apply_in_scope.Reads as apply-in-scope
-use Rattle.cycle.proofs.visits.+apply_apply_first_apply_in_scope_apply_loop_begin_seq_cong_guard_hiding_keep_subject_one_path_rule_scope_walk.Lts-apply_in_scope as apply-in-scope-lts
-use Rattle.cycle.proofs.visits.+apply_apply_first_apply_in_scope_apply_loop_begin_seq_cong_guard_hiding_keep_subject_one_path_rule_scope_walk.Proof.Common.{apply-in-scope-at}
-use Rattle.cycle.proofs.visits.+apply_apply_first_apply_in_scope_apply_loop_begin_seq_cong_guard_hiding_keep_subject_one_path_rule_scope_walk.Proof.Common.{apply-in-scope-calls}
+use Rattle.cycle.proofs.visits.+visiting.Lts-apply_in_scope as apply-in-scope-lts
+use Rattle.cycle.proofs.visits.+visiting.Proof.Common.{apply-in-scope-at}
+use Rattle.cycle.proofs.visits.+visiting.Proof.Common.{apply-in-scope-calls}
 
 pub apply-in-scope-kind-requires : (t : ℕ) → apply-in-scope-lts.Need-kind-requires (apply-in-scope-calls t) (apply-in-scope-at t) apply-in-scope.Post
 apply-in-scope-kind-requires t c κs = c.before.requires.1.inside

@@ -8,8 +8,8 @@ use mathlib.Core.Path.{◌≡◌, refl, sym, ap, ◌∙◌}
 use borrow.Author.Rules.{rules}
 use native.Mathlib.Omega.{arith}
 use Rattle.cycle.proofs.visits.rule.Reads as rule
-use Rattle.cycle.proofs.visits.+apply_apply_first_apply_in_scope_apply_loop_begin_seq_cong_guard_hiding_keep_subject_one_path_rule_scope_walk.Lts-rule as rule-lts
-use Rattle.cycle.proofs.visits.+apply_apply_first_apply_in_scope_apply_loop_begin_seq_cong_guard_hiding_keep_subject_one_path_rule_scope_walk.Proof.Common.{rule-at, rule-calls}
+use Rattle.cycle.proofs.visits.+visiting.Lts-rule as rule-lts
+use Rattle.cycle.proofs.visits.+visiting.Proof.Common.{rule-at, rule-calls}
 
 pub rule-kind-requires : (t : ℕ) → rule-lts.Need-kind-requires (rule-calls t) (rule-at t) rule.Post
 rule-kind-requires t c κs = c.before.requires.1.0.inside

@@ -6,8 +6,8 @@ use mathlib.Core.Path.{◌≡◌, refl, sym, ap, ◌∙◌}
 use borrow.Author.Rules.{rules}
 use native.Mathlib.Omega.{arith}
 use Rattle.cycle.proofs.visits.guard.Reads as guard
-use Rattle.cycle.proofs.visits.+apply_apply_first_apply_in_scope_apply_loop_begin_seq_cong_guard_hiding_keep_subject_one_path_rule_scope_walk.Lts-guard as guard-lts
-use Rattle.cycle.proofs.visits.+apply_apply_first_apply_in_scope_apply_loop_begin_seq_cong_guard_hiding_keep_subject_one_path_rule_scope_walk.Proof.Common.{guard-at, guard-calls}
+use Rattle.cycle.proofs.visits.+visiting.Lts-guard as guard-lts
+use Rattle.cycle.proofs.visits.+visiting.Proof.Common.{guard-at, guard-calls}
 
 pub guard-entry-requires : (t : ℕ) → guard-lts.Need-entry-requires (guard-calls t) (guard-at t) guard.Post
 guard-entry-requires t c κs = (c.before.before.before.before.before.before.requires.1.0.inside, omega arith)

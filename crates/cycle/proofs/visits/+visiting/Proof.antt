@@ -13,8 +13,8 @@ mod Path
 mod Rule
 mod Scope
 mod Walk
-use Rattle.cycle.proofs.visits.+apply_apply_first_apply_in_scope_apply_loop_begin_seq_cong_guard_hiding_keep_subject_one_path_rule_scope_walk.{statement}
-use Rattle.cycle.proofs.visits.+apply_apply_first_apply_in_scope_apply_loop_begin_seq_cong_guard_hiding_keep_subject_one_path_rule_scope_walk.Tie.{close}
+use Rattle.cycle.proofs.visits.+visiting.{statement}
+use Rattle.cycle.proofs.visits.+visiting.Tie.{close}
 use Common.{μ-apply, μ-apply-first, μ-apply-in-scope, μ-begin-seq, μ-keep-subject, μ-cong, μ-guard, μ-hiding, μ-one, μ-path, μ-rule, μ-scope, μ-apply-loop, μ-walk}
 use Apply.{apply-closed}
 use ApplyFirst.{apply-first-closed}

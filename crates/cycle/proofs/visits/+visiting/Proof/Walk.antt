@@ -15,8 +15,8 @@ use mathlib.Core.Path.{◌≡◌, refl, sym, ap, ◌∙◌}
 use borrow.Author.Rules.{rules}
 use native.Mathlib.Omega.{arith}
 use Rattle.cycle.proofs.visits.walk.Reads as walk
-use Rattle.cycle.proofs.visits.+apply_apply_first_apply_in_scope_apply_loop_begin_seq_cong_guard_hiding_keep_subject_one_path_rule_scope_walk.Lts-walk as walk-lts
-use Rattle.cycle.proofs.visits.+apply_apply_first_apply_in_scope_apply_loop_begin_seq_cong_guard_hiding_keep_subject_one_path_rule_scope_walk.Proof.Common.{walk_at, walk-calls}
+use Rattle.cycle.proofs.visits.+visiting.Lts-walk as walk-lts
+use Rattle.cycle.proofs.visits.+visiting.Proof.Common.{walk_at, walk-calls}
 
 abbrev pub walk-Inv-loop : walk-lts.invariant-loop
 walk-Inv-loop table store₀ st₀ e s deep t u₀ kind n name ahead first won₀ a₀ b₀ more₀ i₀ store st u won a b more i =

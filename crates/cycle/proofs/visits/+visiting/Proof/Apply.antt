@@ -8,8 +8,8 @@ use mathlib.Core.Path.{◌≡◌, refl, sym, ap, ◌∙◌}
 use borrow.Author.Rules.{rules}
 use native.Mathlib.Omega.{arith}
 use Rattle.cycle.proofs.visits.apply.Reads as apply
-use Rattle.cycle.proofs.visits.+apply_apply_first_apply_in_scope_apply_loop_begin_seq_cong_guard_hiding_keep_subject_one_path_rule_scope_walk.Lts-apply as apply-lts
-use Rattle.cycle.proofs.visits.+apply_apply_first_apply_in_scope_apply_loop_begin_seq_cong_guard_hiding_keep_subject_one_path_rule_scope_walk.Proof.Common.{apply_at, apply-calls}
+use Rattle.cycle.proofs.visits.+visiting.Lts-apply as apply-lts
+use Rattle.cycle.proofs.visits.+visiting.Proof.Common.{apply_at, apply-calls}
 
 pub apply-kind-requires : (t : ℕ) → apply-lts.Need-kind-requires (apply-calls t) (apply_at t) apply.Post
 apply-kind-requires t c κs = c.before.requires.1.inside

@@ -5,8 +5,8 @@ use Prim.Native.Nat.{ℕ}
 use borrow.Author.Rules.{rules}
 use native.Mathlib.Omega.{arith}
 use Rattle.cycle.proofs.visits.cong.Reads as cong
-use Rattle.cycle.proofs.visits.+apply_apply_first_apply_in_scope_apply_loop_begin_seq_cong_guard_hiding_keep_subject_one_path_rule_scope_walk.Lts-cong as cong-lts
-use Rattle.cycle.proofs.visits.+apply_apply_first_apply_in_scope_apply_loop_begin_seq_cong_guard_hiding_keep_subject_one_path_rule_scope_walk.Proof.Common.{cong-at, cong-calls}
+use Rattle.cycle.proofs.visits.+visiting.Lts-cong as cong-lts
+use Rattle.cycle.proofs.visits.+visiting.Proof.Common.{cong-at, cong-calls}
 
 pub cong-agree-requires : (t : ℕ) → cong-lts.Need-agree-requires (cong-calls t) (cong-at t) cong.Post
 cong-agree-requires t c κs = let r = c.before.before.requires.1.0 in (r.inside, ready-stored r)

@@ -5,8 +5,8 @@ use Prim.Native.Nat.{ℕ}
 use borrow.Author.Rules.{rules}
 use native.Mathlib.Omega.{arith}
 use Rattle.cycle.proofs.visits.scope.Reads as scope
-use Rattle.cycle.proofs.visits.+apply_apply_first_apply_in_scope_apply_loop_begin_seq_cong_guard_hiding_keep_subject_one_path_rule_scope_walk.Lts-scope as scope-lts
-use Rattle.cycle.proofs.visits.+apply_apply_first_apply_in_scope_apply_loop_begin_seq_cong_guard_hiding_keep_subject_one_path_rule_scope_walk.Proof.Common.{scope-at, scope-calls}
+use Rattle.cycle.proofs.visits.+visiting.Lts-scope as scope-lts
+use Rattle.cycle.proofs.visits.+visiting.Proof.Common.{scope-at, scope-calls}
 
 pub scope-scope-mask-requires : (t : ℕ) → scope-lts.Need-scope-mask-requires (scope-calls t) (scope-at t) scope.Post
 scope-scope-mask-requires t c κs = c.before.requires.1.0.inside

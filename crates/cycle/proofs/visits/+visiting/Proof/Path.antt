@@ -6,8 +6,8 @@ use Prim.Native.Nat.{ℕ}
 use borrow.Author.Rules.{rules}
 use native.Mathlib.Omega.{arith}
 use Rattle.cycle.proofs.visits.path.Reads as path
-use Rattle.cycle.proofs.visits.+apply_apply_first_apply_in_scope_apply_loop_begin_seq_cong_guard_hiding_keep_subject_one_path_rule_scope_walk.Lts-path as path-lts
-use Rattle.cycle.proofs.visits.+apply_apply_first_apply_in_scope_apply_loop_begin_seq_cong_guard_hiding_keep_subject_one_path_rule_scope_walk.Proof.Common.{path-at, path-calls}
+use Rattle.cycle.proofs.visits.+visiting.Lts-path as path-lts
+use Rattle.cycle.proofs.visits.+visiting.Proof.Common.{path-at, path-calls}
 
 -- ---- the places that the proof speaks of, each after those before it
 

@@ -5,8 +5,8 @@ use mathlib.Core.Path.{◌≡◌, refl, sym, ap, ◌∙◌}
 use borrow.Author.Rules.{rules}
 use native.Mathlib.Omega.{arith}
 use Rattle.cycle.proofs.visits.keep_subject.Reads as keep-subject
-use Rattle.cycle.proofs.visits.+apply_apply_first_apply_in_scope_apply_loop_begin_seq_cong_guard_hiding_keep_subject_one_path_rule_scope_walk.Lts-keep_subject as keep-subject-lts
-use Rattle.cycle.proofs.visits.+apply_apply_first_apply_in_scope_apply_loop_begin_seq_cong_guard_hiding_keep_subject_one_path_rule_scope_walk.Proof.Common.{keep-subject-at, keep-subject-calls}
+use Rattle.cycle.proofs.visits.+visiting.Lts-keep_subject as keep-subject-lts
+use Rattle.cycle.proofs.visits.+visiting.Proof.Common.{keep-subject-at, keep-subject-calls}
 
 pub keep-subject-entry-requires : (t : ℕ) → keep-subject-lts.Need-entry-requires (keep-subject-calls t) (keep-subject-at t) keep-subject.Post
 keep-subject-entry-requires t c κs = (c.before.before.before.requires.1.0.inside, omega arith)
