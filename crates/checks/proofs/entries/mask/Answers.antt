@@ -1,0 +1,8 @@
+-- `checks::entries::mask` meets its contract: two words, the low one first. Assumes nothing.
+use borrow.Author.Rules.{rules}
+use Rattle.checks.specs.Good.{number}
+use Rattle.checks.proofs.entries.mask.Goals as goal
+
+pub returns : goal.returns
+unfolding number
+returns c = rw (c.word-low.ensures, c.word-high.ensures)

@@ -1,0 +1,7 @@
+-- `checks::kinds::most` meets its contract, as the tables agree with document 01. Assumes nothing.
+use borrow.Author.Rules.{rules}
+use Rattle.checks.proofs.Tables.{at-kind}
+use Rattle.checks.proofs.kinds.most.Goals as goal
+
+pub returns : goal.returns
+returns c = (at-kind c.args.k c.requires).most

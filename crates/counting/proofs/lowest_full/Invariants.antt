@@ -1,0 +1,18 @@
+-- `lowest_full` meets its contract. The loop's invariant: what comes from x on decides. Assumes nothing.
+use mathlib.Core.Path.{◌≡◌, sym, ◌∙◌}
+use Prim.Native.Nat.{◌-◌, ◌≤◌}
+use native.Mathlib.Nat.{sub-zero}
+use native.Mathlib.Omega.{arith}
+use borrow.Author.Tests.{not-true, not-false}
+use Rattle.words.specs.Tests.{rejected}
+use Rattle.words.proofs.Tests.{rejected-turn, rejected-stop, rejected-end}
+use Rattle.counting.specs.Counted.{has_room}
+use Rattle.counting.proofs.lowest_full.Given as goal
+
+abbrev pub invariant-loop-x : goal.invariant-loop-x
+invariant-loop-x l =
+    (l.x ≤ l.n) × (rejected (has_room l.counts) l.x (l.n - l.x) ≡ rejected (has_room l.counts) 0 l.n)
+
+abbrev pub decreases-loop-x : goal.decreases-loop-x
+decreases-loop-x l =
+    l.n - l.x

@@ -1,0 +1,116 @@
+use Rattle.std.proofs.Common.{◌≡◌, suc, ◌+◌, ◌-◌, ◌<◌, get_or, sym, ap, ◌∙◌, subst, ⊎_elim, arith, rules}
+use borrow.Author.Tests.{not-true, not-false}
+use Rattle.index.specs.Key.{home}
+use Rattle.index.proofs.Keying.{home_below, above_zero}
+use Rattle.index.proofs.Chaining.{Follows, follows-head, follows-less, follows-past, follows_next, follows-found, follows-end}
+use Rattle.index.proofs.chains.find.Goals as goal
+use Rattle.index.proofs.chains.find.Goals.{else-k-m, then-k-m}
+
+pub overflow_add-nexts : goal.overflow_add-nexts
+overflow_add-nexts c = omega (arith, c.requires.0.long)
+
+pub overflow_add-x : goal.overflow_add-x
+overflow_add-x c =
+    omega (
+      arith,
+      c.requires.0.long,
+      c.home_of-p.ensures,
+      home_below c.args.n
+          c.args.r c.requires.0.some,
+    )
+
+pub offset_bounds-index-at : goal.offset_bounds-index-at
+offset_bounds-index-at c =
+    omega (
+      arith,
+      c.requires.0.long,
+      c.home_of-p.ensures,
+      home_below c.args.n
+          c.args.r c.requires.0.some,
+    )
+
+pub bounds-index-at : goal.bounds-index-at
+bounds-index-at c =
+    omega (
+      arith,
+      c.requires.0.long,
+      c.home_of-p.ensures,
+      home_below
+          c.args.n c.args.r
+          c.requires.0.some,
+    )
+
+pub loop-x-init : goal.loop-x-init
+loop-x-init c =
+    subst (λ p. Follows c.args.store.now c.args.r
+    c.args.n c.args.m
+    c.args.top (get_or c.args.index.now
+    (c.args.at + p) 0)) (sym c.home_of-p.ensures)
+    (follows-head c.requires.0 c.args.r c.args.m c.requires.1)
+
+pub overflow_sub-k : goal.overflow_sub-k
+overflow_sub-k c = omega (arith, above_zero c.loop-x-test.true)
+
+pub returns-then-has : goal.returns-then-has
+returns-then-has c =
+    follows-found c.requires.0
+    c.args.r
+    c.args.m c.loop-x.x
+    (above_zero c.loop-x-test.true) c.loop-x.invariant
+    c.if-k-m.true (sym c.has.ensures ∙ c.if-has.true)
+
+pub overflow_add-x-in-loop-x : goal.overflow_add-x-in-loop-x
+overflow_add-x-in-loop-x c =
+    omega (
+      arith,
+      c.requires.0.long,
+      c.requires.0.fits,
+      c.loop-x.invariant.below,
+      above_zero
+          c.loop-x-test.true,
+    )
+
+pub offset_bounds-index-nexts : goal.offset_bounds-index-nexts
+offset_bounds-index-nexts c =
+    omega (
+      arith,
+      c.requires.0.long,
+      c.requires.0.fits,
+      c.loop-x.invariant.below,
+      above_zero
+          c.loop-x-test.true,
+    )
+
+pub bounds-index-nexts : goal.bounds-index-nexts
+bounds-index-nexts c =
+    omega (
+      arith,
+      c.requires.0.long,
+      c.requires.0.fits,
+      c.loop-x.invariant.below,
+      above_zero
+          c.loop-x-test.true,
+    )
+
+pub loop-x-smaller : goal.loop-x-smaller
+loop-x-smaller c =
+    follows-less c.requires.0
+    c.args.r
+    c.args.m c.loop-x.x
+    (above_zero c.loop-x-test.true) c.loop-x.invariant
+
+pub loop-x-preserved : goal.loop-x-preserved
+loop-x-preserved c =
+    elim c.if-k-m.branch [ then-k-m w ↦ follows_next c.requires.0
+    c.args.r
+    c.args.m c.loop-x.x
+    (above_zero c.loop-x-test.true) c.loop-x.invariant w.0.taken
+    (sym w.1.ensures ∙ w.2.left) | else-k-m w ↦ follows-past c.requires.0
+    c.args.r
+    c.args.m c.loop-x.x
+    (above_zero c.loop-x-test.true) c.loop-x.invariant w.left ]
+
+pub returns : goal.returns
+returns c =
+    follows-end c.requires.0 c.args.r
+    c.args.m c.loop-x.x c.loop-x-test.false c.loop-x.invariant

@@ -1,0 +1,48 @@
+-- `lent::ask` meets its contract, way by way: the node stands, there is no room, a new one is made. Assumes nothing.
+use Rattle.std.proofs.Common.{◌≡◌, ◌+◌, ◌*◌, ◌≤◌, length, sym, ap, ◌∙◌, subst, rules}
+use Rattle.checks.specs.Checked.{place_of}
+use Rattle.index.proofs.Keying.{place-below}
+use Rattle.index.proofs.Lending.{asked-stands, asked-full, asked-made, made-long}
+use Rattle.index.proofs.lent.ask.Goals as goal
+
+pub returns-then-n-mark : goal.returns-then-n-mark
+returns-then-n-mark c =
+    asked-full c.args.n c.args.mark
+    c.args.top c.args.r
+    c.args.lent.now
+    (sym (ap place_of c.in-Nothing.is) ∙ c.find-found.ensures)
+    c.if-n-mark.true
+
+pub link-requires : goal.link-requires
+link-requires c =
+    let eight : length c.args.r ≡ 8
+    = search rules in
+    (
+      subst (λ l. 8 * c.args.n + c.args.n + c.args.n ≤ length l) (sym c.put_row.ensures)
+          (made-long c.args.n c.args.mark c.args.top c.args.r c.args.lent.now
+          (sym (ap place_of c.in-Nothing.is)
+          ∙ c.find-found.ensures)
+          c.if-n-mark.false eight
+          c.forget.new.0
+          c.forget.ensures.0
+          c.forget.ensures.1),
+      place-below c.args.n c.args.r c.home_of-p.ensures c.forget.ensures.1.some,
+      c.if-n-mark.false,
+    )
+
+pub returns-in-At : goal.returns-in-At
+returns-in-At c =
+    asked-stands c.args.n
+    c.args.mark c.args.top
+    c.args.r c.args.lent.now _
+    (sym (ap place_of c.in-At.is) ∙ c.find-found.ensures)
+
+pub returns-else-n-mark : goal.returns-else-n-mark
+returns-else-n-mark c =
+    let eight : length c.args.r ≡ 8
+    = search rules in
+    asked-made c.args.n c.args.mark c.args.top c.args.r c.args.lent.now
+    (sym (ap place_of c.in-Nothing.is) ∙ c.find-found.ensures) c.if-n-mark.false eight
+    c.forget.new.0 c.forget.ensures.0 c.forget.ensures.1
+    c.put_row.new.0 c.link.new.0 c.home_of-p.result
+    c.put_row.ensures c.home_of-p.ensures c.link.ensures

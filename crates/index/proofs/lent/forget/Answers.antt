@@ -1,0 +1,81 @@
+use Rattle.std.proofs.Common.{◌≡◌, suc, ◌-◌, ◌*◌, ◌<◌, ◌≤◌, length, sym, refl, ap, ◌∙◌, subst, arith, rules}
+use Rattle.index.specs.Lent.{Held, parted, forgotten}
+use Rattle.index.proofs.Keying.{place-below}
+use Rattle.index.proofs.Lending.{held-parted, length-parted, parted-so, forgotten-step}
+use Rattle.index.proofs.lent.forget.Goals as goal
+
+pub overflow_mul-at : goal.overflow_mul-at
+overflow_mul-at c = omega (arith, c.requires.0.long)
+
+pub loop-k-init : goal.loop-k-init
+loop-k-init c = (c.requires.1, refl, c.requires.0, refl)
+
+pub overflow_sub-k : goal.overflow_sub-k
+overflow_sub-k c = omega (arith, c.loop-k-test.true)
+
+pub home_of-p-requires : goal.home_of-p-requires
+home_of-p-requires c = c.loop-k.invariant.2.some
+
+pub unlink-requires : goal.unlink-requires
+unlink-requires c = (
+  c.loop-k.invariant.2.long,
+  place-below
+      c.args.n c.eight_words.result
+      c.home_of-p.ensures c.loop-k.invariant.2.some,
+  omega
+      (arith, c.loop-k-test.true, c.loop-k.invariant.2.fits),
+)
+
+pub loop-k-smaller : goal.loop-k-smaller
+loop-k-smaller c = omega (arith, c.loop-k-test.true)
+
+pub loop-k-preserved : goal.loop-k-preserved
+loop-k-preserved c =
+    let e : c.unlink.new.0 ≡ parted
+    c.args.n
+    (c.loop-k.k - 1)
+    c.loop-k.lent =
+    parted-so c.args.n
+    c.loop-k.lent
+    (c.loop-k.k - 1)
+    c.eight_words.result c.home_of-p.result
+    c.unlink.ensures c.home_of-p.ensures
+    c.eight_words.ensures in
+    let s : c.loop-k.k
+    ≡ suc (c.loop-k.k - 1) =
+    omega (arith, c.loop-k-test.true) in
+    let h = held-parted c.args.n
+    c.loop-k.lent
+    (c.loop-k.k - 1)
+    (subst (Held c.loop-k.lent
+    c.args.n) s
+    c.loop-k.invariant.2) in (
+      omega (arith, c.loop-k-test.true),
+      ap length e ∙ length-parted c.args.n _ _
+          ∙ c.loop-k.invariant.1,
+      subst (λ l. Held l c.args.n
+          (c.loop-k.k - 1)) (sym e) h,
+      ap (forgotten c.args.n
+          c.args.mark
+          (c.loop-k.k - 1
+          - c.args.mark)) e
+          ∙ sym (forgotten-step c.args.n
+          c.loop-k.lent
+          c.args.mark
+          c.loop-k.k
+          c.loop-k-test.true)
+          ∙ c.loop-k.invariant.3,
+    )
+
+pub shape_of-lent : goal.shape_of-lent
+shape_of-lent c = c.loop-k.invariant.1
+
+pub returns : goal.returns
+unfolding forgotten
+returns c =
+    let e : c.loop-k.k ≡ c.args.mark = omega (arith, c.loop-k-test.false, c.loop-k.invariant.0) in
+    let z : c.loop-k.k - c.args.mark ≡ 0 = omega arith in (
+      ap (λ d. forgotten c.args.n c.args.mark d c.loop-k.lent) (sym z)
+          ∙ c.loop-k.invariant.3,
+      subst (Held c.loop-k.lent c.args.n) e c.loop-k.invariant.2,
+    )

@@ -1,0 +1,19 @@
+-- `job::read::read_lines` meets its contract. The loop's invariant: what the rest of the text means after what is read so far is what the whole means. Assumes nothing.
+use mathlib.Core.Path.{refl, sym, ◌∙◌}
+use Prim.Native.Nat.{◌-◌}
+use borrow.Author.Rules.{rules}
+use borrow.Author.Tests.{not-true, not-false}
+use native.Mathlib.Omega.{arith}
+use lib.ListN.{length}
+use Rattle.job.specs.Job.{blank}
+use Rattle.job.proofs.Readings.{stopped, finished}
+use Rattle.job.proofs.Going.{Goes, goes_none, goes-all, goes-bad, goes-refused, line-sound, entry-asks, node-asks, binding-asks, heading-asks, goes_on}
+use Rattle.job.proofs.read.read_lines.Given as goal
+
+abbrev pub invariant-loop-at : goal.invariant-loop-at
+invariant-loop-at l =
+    Goes l.text (record { heading = blank; l.table = l.initial.table; l.store = l.initial.store; l.bindings = l.initial.bindings }) (record { heading = l.h; l.table = l.table; l.store = l.store; l.bindings = l.bindings }) l.at l.n
+
+abbrev pub decreases-loop-at : goal.decreases-loop-at
+decreases-loop-at l =
+    length l.text - l.at

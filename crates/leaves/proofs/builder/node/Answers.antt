@@ -1,0 +1,46 @@
+use Rattle.leaves.proofs.Building.{eight-again, row_inside, plain-small, node_made}
+use Rattle.leaves.proofs.Building.{row_inside, node_made}
+use native.Mathlib.Omega.{arith}
+use mathlib.Core.Path.{◌≡◌, refl}
+use borrow.Author.Rules.{rules}
+use Rattle.leaves.proofs.builder.node.Reads as reads
+use Rattle.leaves.proofs.builder.node.Lts as lts
+use Rattle.state.proofs.answers.done.Reads as done-reads
+use Rattle.leaves.proofs.builder.node_asked.Reads as node-asked-reads
+use Rattle.words.proofs.put_row.Reads as put-row-reads
+use Rattle.leaves.proofs.builder.node.Goals as goal
+
+pub returns-then-st-k : goal.returns-then-st-k
+returns-then-st-k c = rw (eight-again c.args.made (search rules)) at
+    c.node_asked.ensures
+
+pub put_row-requires : goal.put_row-requires
+put_row-requires c = row_inside c.args.made
+    c.args.st.now c.args.store.now 0 0
+    c.requires.0 (omega arith) c.if-st-k.false
+
+pub overflow_add-st : goal.overflow_add-st
+overflow_add-st c = omega (
+  arith,
+  row_inside c.args.made
+      c.args.st.now
+      c.args.store.now 0 0
+      c.requires.0 (omega arith)
+      c.if-st-k.false,
+  plain-small
+      c.args.made
+      c.args.st.now
+      c.args.store.now 0 0
+      c.requires.0 (omega arith)
+      c.if-st-k.false,
+)
+
+pub returns : goal.returns
+returns c = rw c.put_row.ensures
+    (node_made c.args.made
+    c.args.st.now
+    c.args.store.now
+    c.args.left _
+    c.requires.0 (omega arith)
+    c.if-st-k.false
+    c.requires.1 c.done.ensures)

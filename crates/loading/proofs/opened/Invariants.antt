@@ -1,0 +1,21 @@
+use Rattle.checks.specs.Kinds.{variables}
+use Rattle.loading.proofs.Copying.{Filled, filled_none, filled-skip, filled-bind, filled-all}
+use native.Mathlib.Omega.{arith}
+use Rattle.meaning.specs.Limits.{at}
+use Rattle.index.specs.Run.{lending}
+use borrow.Author.Rules.{rules}
+use Prim.Native.Nat.{◌-◌, ◌≤◌}
+use mathlib.Core.Path.{refl, ◌∙◌}
+use mathlib.Core.Logic.{⊎_elim}
+use Rattle.loading.proofs.opened.Reads as reads
+use Rattle.loading.proofs.opened.Lts as lts
+use Rattle.state.proofs.record.bind.Reads as bind-reads
+use Rattle.loading.proofs.opened.Given as goal
+
+abbrev pub invariant-loop-v : goal.invariant-loop-v
+invariant-loop-v l =
+    (l.v ≤ variables) × Filled l.bindings (at l.mark (lending 0 l.room l.top l.nodes)) l.words l.v
+
+abbrev pub decreases-loop-v : goal.decreases-loop-v
+decreases-loop-v l =
+    variables - l.v

@@ -1,0 +1,107 @@
+use mathlib.Core.Path.{◌≡◌, refl, sym, ap, ◌∙◌, subst}
+use mathlib.Core.Bool.{Bool, true, false, true≢false}
+use mathlib.Core.Logic.{◌⊎◌, inl, inr, ⊎_elim}
+use Prim.Native.Nat.{ℕ, ◌+◌, ◌-◌, ◌*◌, ◌<◌, ◌≤◌}
+use native.Mathlib.Omega.{arith}
+use Rattle.words.proofs.Tests.{below-or-from}
+use Rattle.machine.specs.Machine.{spent}
+use Rattle.machine.proofs.Going.{rank, SoFar, none_yet, Comes, counted, told, deep-enough, nearer, further, stopped-asking, stopped-ended}
+use Rattle.machine.proofs.Going.{Untouched, gone-once, gone-asking, gone-ended}
+use Rattle.machine.proofs.go.Reads as reads
+use Rattle.machine.proofs.go.Lts as lts
+use Rattle.machine.proofs.turned.Reads as turned-reads
+use Rattle.machine.proofs.go.Goals as goal
+use Rattle.machine.proofs.go.Goals.{Joined-m-lt4}
+use Rattle.machine.proofs.go.Goals.{else-m-lt4, then-m-lt4}
+
+pub loop-m-init : goal.loop-m-init
+loop-m-init c = (none_yet c.requires.0 c.requires.1 c.requires.2 c.requires.3, λ _. (refl, refl, refl))
+
+pub shape_of-store-then-m-stop : goal.shape_of-store-then-m-stop
+shape_of-store-then-m-stop c = c.loop-m.invariant.0.store
+
+pub shape_of-work-then-m-stop : goal.shape_of-work-then-m-stop
+shape_of-work-then-m-stop c = c.loop-m.invariant.0.work
+
+pub returns-then-m-stop : goal.returns-then-m-stop
+returns-then-m-stop c =
+    gone-asking c.loop-m.invariant.1 (inl c.if-m-stop.true) c.if-m-lt4.true
+    (stopped-asking c.loop-m.invariant.0 (inl c.if-m-stop.true) c.if-m-lt4.true)
+
+pub shape_of-store-then-m-gt4095 : goal.shape_of-store-then-m-gt4095
+shape_of-store-then-m-gt4095 c = c.loop-m.invariant.0.store
+
+pub shape_of-work-then-m-gt4095 : goal.shape_of-work-then-m-gt4095
+shape_of-work-then-m-gt4095 c = c.loop-m.invariant.0.work
+
+pub returns-then-m-gt4095 : goal.returns-then-m-gt4095
+returns-then-m-gt4095 c =
+    gone-asking c.loop-m.invariant.1 (inr (omega (arith, c.if-m-gt4095.true))) c.if-m-lt4.true
+    (stopped-asking c.loop-m.invariant.0 (inr (omega (arith, c.if-m-gt4095.true))) c.if-m-lt4.true)
+
+pub overflow_sub-m : goal.overflow_sub-m
+overflow_sub-m c =
+    ⊎_elim (λ z. omega arith) (λ z. absurd (c.if-m-stop.false
+    (omega (arith, c.loop-m.invariant.0.rest))))
+    (below-or-from 0 c.loop-m.m.fuel)
+
+pub shape_of-store-then-m-gt5 : goal.shape_of-store-then-m-gt5
+shape_of-store-then-m-gt5 c = c.loop-m.invariant.0.store
+
+pub shape_of-work-then-m-gt5 : goal.shape_of-work-then-m-gt5
+shape_of-work-then-m-gt5 c = c.loop-m.invariant.0.work
+
+pub returns-then-m-gt5 : goal.returns-then-m-gt5
+returns-then-m-gt5 c =
+    gone-ended c.loop-m.invariant.1 (λ h. absurd (omega (arith, c.if-m-gt5.true))) (omega (arith, c.if-m-lt4.false))
+    (stopped-ended c.loop-m.invariant.0 (λ h. absurd (omega (arith, c.if-m-gt5.true))) (omega (arith, c.if-m-lt4.false)))
+
+pub shape_of-store-then-m-eq0 : goal.shape_of-store-then-m-eq0
+shape_of-store-then-m-eq0 c = c.loop-m.invariant.0.store
+
+pub shape_of-work-then-m-eq0 : goal.shape_of-work-then-m-eq0
+shape_of-work-then-m-eq0 c = c.loop-m.invariant.0.work
+
+pub returns-then-m-eq0 : goal.returns-then-m-eq0
+returns-then-m-eq0 c =
+    gone-ended c.loop-m.invariant.1 (λ _. c.if-m-eq0.true) (omega (arith, c.if-m-lt4.false))
+    (stopped-ended c.loop-m.invariant.0 (λ _. c.if-m-eq0.true) (omega (arith, c.if-m-lt4.false)))
+
+pub overflow_sub-i : goal.overflow_sub-i
+overflow_sub-i c = ⊎_elim (λ z. omega arith) (λ z. absurd (c.if-m-eq0.false (omega arith))) (below-or-from 0 c.loop-m.m.level)
+
+-- how a turn comes
+comes : (c : Joined-m-lt4) → Comes c.loop-m.m c.args.stop c.if-m-lt4.m c.if-m-lt4.i
+comes c =
+    elim c.if-m-lt4.branch [ then-m-lt4 w ↦ subst (λ m. Comes c.loop-m.m c.args.stop m c.if-m-lt4.i) (sym w.6) (subst (λ (i : ℕ). Comes c.loop-m.m c.args.stop (spent c.loop-m.m) i) (sym w.7) (counted w.0.taken w.2.left (omega (arith, w.4.left)))) | else-m-lt4 w ↦ subst (λ m. Comes c.loop-m.m c.args.stop m c.if-m-lt4.i) (sym w.6) (subst (λ (i : ℕ). Comes c.loop-m.m c.args.stop c.loop-m.m i) (sym w.7) (told (omega (arith, w.0.left)) (omega
+    (arith, w.2.left)) w.4.left)) ]
+
+pub turned-m-requires : goal.turned-m-requires
+turned-m-requires c =
+    let d = deep-enough c.loop-m.invariant.0 _ _ (comes c.before.before) in
+    (d.0, d.1, c.loop-m.invariant.0.lent)
+
+pub shape_of-store-then-once : goal.shape_of-store-then-once
+shape_of-store-then-once c = c.turned-m.ensures.store ∙ c.loop-m.invariant.0.store
+
+pub shape_of-work-then-once : goal.shape_of-work-then-once
+shape_of-work-then-once c = c.turned-m.ensures.work ∙ c.loop-m.invariant.0.work
+
+pub returns-then-once : goal.returns-then-once
+returns-then-once c =
+    gone-once c.loop-m.invariant.1 c.if-once.true
+    (comes c.before.before.before.before.before.before.before.before) c.turned-m.ensures
+
+pub loop-m-smaller : goal.loop-m-smaller
+loop-m-smaller c =
+    nearer c.loop-m.invariant.0 _ _
+    (comes c.before.before.before.before.before.before.before.before) _
+    c.turned-m.ensures
+
+pub loop-m-preserved : goal.loop-m-preserved
+loop-m-preserved c = (
+  further c.loop-m.invariant.0 _ _
+      (comes c.before.before.before.before.before.before.before.before) _
+      c.turned-m.ensures,
+  λ e. absurd (true≢false (sym e ∙ c.if-once.false)),
+)

@@ -1,0 +1,7 @@
+-- `marshtrundle::exported::marshtrundle_run` meets its contract: the five numbers are those of `run`, each at its place. Assumes nothing.
+use borrow.Author.Rules.{rules}
+use Rattle.marshtrundle.proofs.exported.marshtrundle_run.Goals as goal
+
+pub returns : goal.returns
+returns c =
+    c.run-r.ensures

@@ -1,0 +1,41 @@
+-- `conclude` meets its contract. Assumes nothing.
+use Rattle.std.proofs.Common.{◌≡◌, ℕ, ◌+◌, ◌-◌, ◌*◌, ◌<◌, ◌≤◌, ◌⊎◌, sym, refl, ap, ◌∙◌, subst, inl, inr, ⊎_elim, arith, rules}
+use Rattle.words.specs.Words.{word_at}
+use Rattle.stepping.specs.Stepping.{numbers, own_row}
+use Rattle.stepping.specs.Ended.{Saved, Paused, Went, deepest, used-up, paused, done, failed, full, stuck}
+use Rattle.stepping.proofs.Concluding.{past-six, paused-with}
+use Rattle.stepping.proofs.conclude.Reads as reads
+use Rattle.stepping.proofs.conclude.Lts as lts
+use Rattle.std.proofs.num.wrapping_sub_u32.Reads as wrapping-sub-u32-reads
+use Rattle.stepping.proofs.end_run.Reads as end-run-reads
+use Rattle.stepping.proofs.finish.Reads as finish-reads
+use Rattle.stepping.proofs.own.given.Reads as given-reads
+use Rattle.stepping.proofs.own.save.Reads as save-reads
+use Rattle.stepping.proofs.conclude.Goals as goal
+
+pub returns-then-m-stop : goal.returns-then-m-stop
+returns-then-m-stop c = deepest c.if-m-lt-SUCCEEDED.true c.if-m-stop.true refl c.end_run.ensures
+
+pub returns-then-had-visits : goal.returns-then-had-visits
+returns-then-had-visits c = used-up c.if-m-lt-SUCCEEDED.true c.if-m-stop.false c.if-had-visits.true
+    refl c.end_run-then-had-visits.ensures
+
+pub returns-then-m-lt-SUCCEEDED : goal.returns-then-m-lt-SUCCEEDED
+returns-then-m-lt-SUCCEEDED c = paused c.if-m-lt-SUCCEEDED.true c.if-m-stop.false (omega
+    (arith, c.if-had-visits.false)) (paused-with _ _ _ _ _ _
+    _ _ _ c.given-units.ensures c.given-subject.ensures c.given-mark.ensures (search rules) c.wrapping_sub_u32.ensures c.save.ensures)
+
+pub returns-then-m-eq-SUCCEEDED : goal.returns-then-m-eq-SUCCEEDED
+returns-then-m-eq-SUCCEEDED c = done c.if-m-eq-SUCCEEDED.true c.finish.ensures
+
+pub returns-then-m-eq-FAILED : goal.returns-then-m-eq-FAILED
+returns-then-m-eq-FAILED c = failed c.if-m-eq-FAILED.true refl c.end_run-then-m-eq-FAILED.ensures
+
+pub returns-then-m-eq-FULL : goal.returns-then-m-eq-FULL
+returns-then-m-eq-FULL c = full c.if-m-eq-FULL.true refl c.end_run-then-m-eq-FULL.ensures
+
+pub returns : goal.returns
+returns c = stuck (past-six _ (omega (
+  arith,
+  c.if-m-lt-SUCCEEDED.false,
+)) c.if-m-eq-SUCCEEDED.false c.if-m-eq-FAILED.false c.if-m-eq-FULL.false) refl c.end_run-2.ensures

@@ -1,0 +1,64 @@
+-- `step_run` meets its contract. Assumes nothing.
+use Rattle.std.proofs.Common.{◌≡◌, ℕ, ◌+◌, ◌-◌, ◌*◌, ◌<◌, ◌≤◌, ◌⊎◌, sym, refl, ap, ◌∙◌, subst, inl, inr, ⊎_elim, true≢false, arith, rules}
+use borrow.Author.Tests.{not-true, not-false}
+use Rattle.stepping.specs.Stepping.{lists, lengths_fit, bad-length, nothing-begun, machine_in}
+use Rattle.stepping.proofs.Concluding.{lengths-hold, lengths-lent, level-low, stop_at, stop-then, stop-else, stop-few, went-listed, step-goes}
+use Rattle.stepping.proofs.step_run.Reads as reads
+use Rattle.stepping.proofs.step_run.Lts as lts
+use Rattle.machine.proofs.go.Reads as go-reads
+use Rattle.stepping.proofs.conclude.Reads as conclude-reads
+use Rattle.stepping.proofs.lengths_fit.Reads as lengths-fit-reads
+use Rattle.stepping.proofs.own.saved.Reads as saved-reads
+use Rattle.words.proofs.word.Reads as word-reads
+use Rattle.stepping.proofs.step_run.Goals as goal
+use Rattle.stepping.proofs.step_run.Goals.{Joined-visits-a}
+use Rattle.stepping.proofs.step_run.Goals.{else-visits-a, then-visits-a}
+
+pub returns-then-not-lengths_fit : goal.returns-then-not-lengths_fit
+returns-then-not-lengths_fit c =
+    let no = sym c.lengths_fit.ensures ∙ not-true _ c.if-not-lengths_fit.true-raw in
+    record {
+      lengths = λ _. (refl, refl);
+      zero = λ h. absurd (true≢false (sym h ∙ no));
+      goes = λ i n a e h. absurd (true≢false (sym (lengths-hold i _ _ _ a e h) ∙ no));
+      listed = bad-length;
+    }
+
+pub returns-then-word-eq0 : goal.returns-then-word-eq0
+returns-then-word-eq0 c =
+    let yes = sym c.lengths_fit.ensures ∙ not-false _ c.if-not-lengths_fit.false-raw in
+    record {
+      lengths = λ h. absurd (true≢false (sym yes ∙ h));
+      zero = λ _ _. (refl, refl);
+      goes = λ i n a e h. absurd (omega (arith, h.begun, sym c.word.ensures ∙ c.if-word-eq0.true));
+      listed = nothing-begun;
+    }
+
+-- where it is to stop
+stopped : (c : Joined-visits-a) → c.if-visits-a.stop ≡ stop_at c.saved-a.result.fuel c.args.visits
+stopped c =
+    elim c.if-visits-a.branch [ then-visits-a w ↦ w.2 ∙ stop-then _ _ w.0.taken | else-visits-a w ↦ w.1 ∙ stop-else c.saved-a.result.fuel c.args.visits
+    (omega (arith, w.0.left)) ]
+
+pub go-m-requires : goal.go-m-requires
+go-m-requires c =
+    let z = lengths-lent c.args.table.now (lists c.args.store.now c.args.bindings.now c.args.work.now)
+    (sym c.lengths_fit.ensures ∙ not-false _ c.if-not-lengths_fit.false-raw) in
+    let l = level-low c.args.work.now _ c.saved-a.ensures in
+    (l.0, l.1, stop-few _ _ _ (stopped c.before.before), z.0)
+
+pub conclude-requires : goal.conclude-requires
+conclude-requires c =
+    let z = lengths-lent c.args.table.now (lists c.args.store.now c.args.bindings.now c.args.work.now)
+    (sym c.lengths_fit.ensures ∙ not-false _ c.if-not-lengths_fit.false-raw) in
+    (z.1, (c.go-m.ensures.on refl).lent.frames)
+
+pub returns : goal.returns
+returns c =
+    let yes = sym c.lengths_fit.ensures ∙ not-false _ c.if-not-lengths_fit.false-raw in
+    record {
+      lengths = λ h. absurd (true≢false (sym yes ∙ h));
+      zero = λ _ z. absurd (c.if-word-eq0.false (c.word.ensures ∙ z));
+      goes = λ i n a e h. step-goes i n c.args.visits (lists c.args.store.now c.args.bindings.now c.args.work.now) a h _ e _ c.saved-a.ensures _ (stopped c.before.before.before.before.before.before.before.before.before.before.before.before.before.before.before.before.before) _ _ _ (c.go-m.ensures.on refl) _ _ _ _ c.conclude.ensures;
+      listed = went-listed c.conclude.ensures;
+    }

@@ -1,0 +1,18 @@
+-- `begin` meets its contract. Assumes nothing.
+use Rattle.std.proofs.Common.{◌≡◌, ℕ, ◌+◌, ◌-◌, ◌*◌, ◌<◌, ◌≤◌, set, sym, refl, ap, ◌∙◌, ⊎_elim, arith, rules}
+use Rattle.tallying.specs.Counts.{bumped, visited_code}
+use Rattle.tallying.proofs.Counting.{code-applied, code_other}
+use Rattle.tallying.proofs.begin.Reads as reads
+use Rattle.tallying.proofs.begin.Lts as lts
+use Rattle.tallying.proofs.add.Reads as add_reads
+use Rattle.tallying.proofs.begin.Goals as goal
+use Rattle.tallying.proofs.begin.Goals.{else-m-eq-APPLY, then-m-eq-APPLY}
+
+pub returns : goal.returns
+returns c =
+    let e : c.if-m-eq-APPLY.e ≡ visited_code c.args.m =
+    elim c.if-m-eq-APPLY.branch [ then-m-eq-APPLY z ↦ z.1 ∙ code-applied c.args.m z.0.taken | else-m-eq-APPLY z ↦ z.1 ∙ code_other c.args.m z.0.left ] in (
+      ap (set c.args.kept.now c.args.m.level) e,
+      c.add.ensures
+          ∙ ap (λ (e : ℕ). bumped c.args.counts.now e 0) e,
+    )

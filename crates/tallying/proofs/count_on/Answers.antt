@@ -1,0 +1,129 @@
+use Rattle.std.proofs.Common.{◌≡◌, ℕ, ◌+◌, ◌-◌, ◌*◌, ◌<◌, ◌≤◌, ◌⊎◌, sym, refl, ap, ◌∙◌, subst, inl, inr, ⊎_elim, arith, rules}
+use Rattle.words.proofs.Tests.{below-or-from}
+use Rattle.machine.proofs.Going.{rank}
+use Rattle.tallying.proofs.Onward.{Comes, comes-visit, comes-end, counted_none, nearer, further}
+use Rattle.tallying.specs.Counts.{Room}
+use Rattle.tallying.specs.Tally.{CountedOn}
+use Rattle.tallying.proofs.count_on.Reads as reads
+use Rattle.tallying.proofs.count_on.Lts as lts
+use Rattle.tallying.proofs.begin.Reads as begin-reads
+use Rattle.tallying.proofs.end.Reads as end_reads
+use Rattle.tallying.proofs.see.Reads as see-reads
+use Rattle.machine.proofs.go.Reads as go-reads
+use Rattle.tallying.proofs.count_on.Goals as goal
+use Rattle.tallying.proofs.count_on.Goals.{Joined-m-lt4}
+use Rattle.tallying.proofs.count_on.Goals.{else-m-lt4, then-m-lt4}
+
+pub loop-m-init : goal.loop-m-init
+loop-m-init c =
+    let p = c.requires in
+    (counted_none p.0 p.1 p.2 p.3 refl refl, p.4, search rules)
+
+pub shape_of-store-then-m-eq0 : goal.shape_of-store-then-m-eq0
+shape_of-store-then-m-eq0 c = c.loop-m.invariant.0.store
+
+pub shape_of-work-then-m-eq0 : goal.shape_of-work-then-m-eq0
+shape_of-work-then-m-eq0 c = c.loop-m.invariant.0.work
+
+pub shape_of-kept-then-m-eq0 : goal.shape_of-kept-then-m-eq0
+shape_of-kept-then-m-eq0 c = c.loop-m.invariant.0.long
+    ∙ sym c.requires.3
+
+pub shape_of-counts-then-m-eq0 : goal.shape_of-counts-then-m-eq0
+shape_of-counts-then-m-eq0 c = c.loop-m.invariant.0.counts.long
+
+pub returns-then-m-eq0 : goal.returns-then-m-eq0
+returns-then-m-eq0 c = (
+  c.loop-m.invariant.0,
+  record { asking = λ _. inl c.if-m-eq0.true; ended = λ h _. absurd (omega (arith, c.if-m-lt4.true)) },
+)
+
+pub shape_of-store-then-m-gt4095 : goal.shape_of-store-then-m-gt4095
+shape_of-store-then-m-gt4095 c = c.loop-m.invariant.0.store
+
+pub shape_of-work-then-m-gt4095 : goal.shape_of-work-then-m-gt4095
+shape_of-work-then-m-gt4095 c = c.loop-m.invariant.0.work
+
+pub shape_of-kept-then-m-gt4095 : goal.shape_of-kept-then-m-gt4095
+shape_of-kept-then-m-gt4095 c = c.loop-m.invariant.0.long
+    ∙ sym c.requires.3
+
+pub shape_of-counts-then-m-gt4095 : goal.shape_of-counts-then-m-gt4095
+shape_of-counts-then-m-gt4095 c = c.loop-m.invariant.0.counts.long
+
+pub returns-then-m-gt4095 : goal.returns-then-m-gt4095
+returns-then-m-gt4095 c = (
+  c.loop-m.invariant.0,
+  record { asking = λ _. inr (omega (arith, c.if-m-gt4095.true)); ended = λ h _. absurd (omega (arith, c.if-m-lt4.true)) },
+)
+
+pub begin-requires : goal.begin-requires
+begin-requires c = (omega (arith, c.if-m-gt4095.false), omega (arith, c.loop-m.invariant.0.long))
+
+pub see-s-requires : goal.see-s-requires
+see-s-requires c = tt
+
+pub shape_of-store-then-m-gt5 : goal.shape_of-store-then-m-gt5
+shape_of-store-then-m-gt5 c = c.loop-m.invariant.0.store
+
+pub shape_of-work-then-m-gt5 : goal.shape_of-work-then-m-gt5
+shape_of-work-then-m-gt5 c = c.loop-m.invariant.0.work
+
+pub shape_of-kept-then-m-gt5 : goal.shape_of-kept-then-m-gt5
+shape_of-kept-then-m-gt5 c = c.loop-m.invariant.0.long
+    ∙ sym c.requires.3
+
+pub shape_of-counts-then-m-gt5 : goal.shape_of-counts-then-m-gt5
+shape_of-counts-then-m-gt5 c = c.loop-m.invariant.0.counts.long
+
+pub returns-then-m-gt5 : goal.returns-then-m-gt5
+returns-then-m-gt5 c = (
+  c.loop-m.invariant.0,
+  record { asking = λ h. absurd (omega (arith, c.if-m-lt4.false)); ended = λ _ h. absurd (omega (arith, c.if-m-gt5.true)) },
+)
+
+pub shape_of-store-then-m-eq0-2 : goal.shape_of-store-then-m-eq0-2
+shape_of-store-then-m-eq0-2 c = c.loop-m.invariant.0.store
+
+pub shape_of-work-then-m-eq0-2 : goal.shape_of-work-then-m-eq0-2
+shape_of-work-then-m-eq0-2 c = c.loop-m.invariant.0.work
+
+pub shape_of-kept-then-m-eq0-2 : goal.shape_of-kept-then-m-eq0-2
+shape_of-kept-then-m-eq0-2 c = c.loop-m.invariant.0.long
+    ∙ sym c.requires.3
+
+pub shape_of-counts-then-m-eq0-2 : goal.shape_of-counts-then-m-eq0-2
+shape_of-counts-then-m-eq0-2 c = c.loop-m.invariant.0.counts.long
+
+pub returns-then-m-eq0-2 : goal.returns-then-m-eq0-2
+returns-then-m-eq0-2 c = (
+  c.loop-m.invariant.0,
+  record { asking = λ h. absurd (omega (arith, c.if-m-lt4.false)); ended = λ _ _. c.if-m-eq0-2.true },
+)
+
+pub end-requires : goal.end-requires
+end-requires c = (
+  c.loop-m.invariant.0.low
+      (omega (arith, c.if-m-lt4.false)),
+  omega
+      (arith, c.loop-m.invariant.0.long),
+)
+
+comes : (c : Joined-m-lt4) → Comes c.loop-m.m c.loop-m.s c.loop-m.auto
+    c.loop-m.counts c.if-m-lt4.s c.if-m-lt4.auto c.if-m-lt4.counts
+comes c =
+    elim c.if-m-lt4.branch [ then-m-lt4 w ↦ comes-visit (w.15 ∙ w.12.ensures) w.0.taken w.2.left (omega (arith, w.4.left))
+    (w.13 ∙ w.7.ensures.0) (w.14 ∙ w.7.ensures.1) | else-m-lt4 w ↦ comes-end w.12 w.10 (omega (arith, w.0.left)) (omega (arith, w.2.left)) w.4.left (w.11 ∙ w.7.ensures) ]
+
+pub go-m-requires : goal.go-m-requires
+go-m-requires c = let so = c.loop-m.invariant.0 in (so.level, so.low, omega arith, so.lent)
+
+pub loop-m-smaller : goal.loop-m-smaller
+loop-m-smaller c =
+    let inv = c.loop-m.invariant in
+    nearer inv.1 inv.2 inv.0 (comes c.before.before.before.before.before.before.before) _ (c.go-m.ensures.alone refl)
+
+pub loop-m-preserved : goal.loop-m-preserved
+loop-m-preserved c =
+    let inv = c.loop-m.invariant in
+    (further inv.1 inv.2 inv.0 (comes c.before.before.before.before.before.before.before) _ (c.go-m.ensures.alone refl), inv.1, inv.2)

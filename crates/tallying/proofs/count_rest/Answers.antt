@@ -1,0 +1,35 @@
+-- `count_rest` meets its contract. Assumes nothing.
+use Rattle.std.proofs.Common.{◌≡◌, ℕ, ◌+◌, ◌<◌, ◌≤◌, sym, refl, ◌∙◌, arith, rules}
+use Rattle.tallying.proofs.Counting.{rest-asked, rest_ended, rest-cut}
+use Rattle.tallying.proofs.count_rest.Reads as reads
+use Rattle.tallying.proofs.count_rest.Lts as lts
+use Rattle.tallying.proofs.end.Reads as end_reads
+use Rattle.tallying.proofs.fly.Reads as fly-reads
+use Rattle.tallying.proofs.count_rest.Goals as goal
+
+pub returns-then-m-lt-SUCCEEDED : goal.returns-then-m-lt-SUCCEEDED
+returns-then-m-lt-SUCCEEDED c = c.fly.ensures ∙ rest-asked _ _ c.args.m c.if-m-lt-SUCCEEDED.true
+
+pub end-requires : goal.end-requires
+end-requires c = (
+  c.requires.1 (omega (arith, c.if-m-lt-SUCCEEDED.false)),
+  c.requires.2,
+)
+
+pub returns-then-m-lt-FULL : goal.returns-then-m-lt-FULL
+returns-then-m-lt-FULL c =
+    c.end.ensures ∙ rest_ended _ _ c.args.m c.if-m-lt-SUCCEEDED.false c.if-m-lt-FULL.true
+
+pub fly-requires-2 : goal.fly-requires-2
+fly-requires-2 c = (
+  omega (
+    arith,
+    c.requires.1
+        (omega (arith, c.if-m-lt-SUCCEEDED.false)),
+  ),
+  c.requires.2,
+)
+
+pub returns : goal.returns
+returns c =
+    c.fly-2.ensures ∙ rest-cut _ _ c.args.m c.if-m-lt-FULL.false

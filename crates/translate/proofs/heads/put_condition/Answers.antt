@@ -1,0 +1,57 @@
+-- `translate::heads::put_condition` meets its contract, part by part. Assumes nothing.
+use Rattle.translate.proofs.Placing.{found-long, placed-found}
+use native.Mathlib.Omega.{arith}
+use borrow.Author.Rules.{rules}
+use Rattle.translate.proofs.heads.put_condition.Goals as goal
+
+pub open_condition-start-requires : goal.open_condition-start-requires
+open_condition-start-requires c =
+    (omega (arith, c.requires.0, found-long c.args.line.now c.args.c), c.requires.1)
+
+pub put_term-call-requires : goal.put_term-call-requires
+put_term-call-requires c =
+    (
+      omega (arith, c.requires.0, found-long c.args.line.now c.args.c, c.open_condition-start.ensures.place, c.open_condition-start.auto.0),
+      omega
+          (arith, c.requires.1, c.open_condition-start.auto.0),
+    )
+
+pub put_call-outcome-requires : goal.put_call-outcome-requires
+put_call-outcome-requires c =
+    (
+      omega (
+        arith,
+        c.requires.0,
+        found-long c.args.line.now
+            c.args.c,
+        c.open_condition-start.ensures.place,
+        c.open_condition-start.auto.0,
+        c.put_term-call.ensures.place,
+        c.put_term-call.auto.0,
+      ),
+      omega (arith, c.requires.1, c.open_condition-start.auto.0, c.put_term-call.auto.0),
+    )
+
+pub put_term-requires : goal.put_term-requires
+put_term-requires c =
+    (
+      omega (
+        arith,
+        c.requires.0,
+        found-long c.args.line.now
+            c.args.c,
+        c.open_condition-start.ensures.place,
+        c.open_condition-start.auto.0,
+        c.put_term-call.ensures.place,
+        c.put_term-call.auto.0,
+        c.put_call-outcome.ensures.place,
+        c.put_call-outcome.auto.0,
+      ),
+      omega
+          (arith, c.requires.1, c.open_condition-start.auto.0, c.put_term-call.auto.0, c.put_call-outcome.auto.0),
+    )
+
+pub returns : goal.returns
+returns c =
+    placed-found c.args.line.now c.args.c c.open_condition-start.ensures c.put_term-call.ensures c.put_call-outcome.ensures
+    c.put_term.ensures

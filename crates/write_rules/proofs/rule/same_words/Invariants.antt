@@ -1,0 +1,14 @@
+-- `write_rules::rule::same_words` meets its contract. The loop's invariant: the words up to a place are the same. Assumes nothing.
+use Rattle.write_rules.proofs.Copying.{Compares, compares-begin, compares-on, compares-differ, compares-end}
+use borrow.Author.Rules.{rules}
+use mathlib.Core.Path.{sym, ◌∙◌}
+use Prim.Native.Nat.{◌-◌}
+use Rattle.write_rules.proofs.rule.same_words.Given as goal
+
+abbrev pub invariant-loop-i : goal.invariant-loop-i
+invariant-loop-i l =
+    Compares l.a l.b l.from l.i
+
+abbrev pub decreases-loop-i : goal.decreases-loop-i
+decreases-loop-i l =
+    l.to - l.i
