@@ -12,7 +12,7 @@ COMMAND = rust/command/target/release/marshtrundle
 VERSION = $$(sed -n 's/^version = "\(.*\)"$$/\1/p' rust/marshtrundle/Cargo.toml)
 
 all:
-	rt staticlib marshtrundle
+	tools/archive.sh
 
 command:
 	cd rust/command && $(CARGO) build --release --offline

@@ -1,7 +1,7 @@
 /*
  * Marshtrundle: runs System S strategies over a store of terms.
  *
- * Link with libmarshtrundle.a, which `rt staticlib marshtrundle` writes to target/staticlib. It is x86-64 code for the
+ * Link with libmarshtrundle.a, which tools/archive.sh writes to target/staticlib. It is x86-64 code for the
  * System V calling convention. It needs memcpy and memset of the C library and nothing else. C99 or later, or C++.
  *
  * Call the mt_ functions below. They take any words, any lengths and any numbers, and always give an answer.

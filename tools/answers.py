@@ -16,7 +16,7 @@ ROOT = pathlib.Path(__file__).resolve().parent.parent
 # number: the name in the header, in the crate, in rust/twin, and in the definitions
 LIST = {
     0: ("MT_DONE", "Done", "DONE", "returned"),
-    1: ("MT_FAILED", "Failed", "FAILED", "asGiven"),
+    1: ("MT_FAILED", "Failed", "FAILED", "as_given"),
     2: ("MT_BAD_SIZES", "RefusedSizes", "BAD_LENGTH", "checked"),
     4: ("MT_BAD_NODE", "BadNode", "BAD_NODE", "found"),
     5: ("MT_BAD_START", "BadStart", "BAD_START", "checked"),
@@ -34,10 +34,10 @@ LIST = {
     17: ("MT_BAD_WORD", "Word", "BAD_WORD", "of-unused"),
     # of rules as text alone
     18: ("MT_BAD_RULE", "Text", "BAD_RULE", "told"),
-    19: ("MT_RULE_UNBOUND", "NothingBinds", "NOT_BOUND", "variablesAnswer"),
-    20: ("MT_RULE_VARIABLE", "NoSuchVariable", "BAD_VARIABLE", "variablesAnswer"),
+    19: ("MT_RULE_UNBOUND", "NothingBinds", "NOT_BOUND", "variables_answer"),
+    20: ("MT_RULE_VARIABLE", "NoSuchVariable", "BAD_VARIABLE", "variables_answer"),
     21: ("MT_TWIN_NODE", "TwinNode", "REPEATED_NODE", "found"),  # with an index alone
-    22: ("MT_RULE_CALL", "NoSuchStrategy", "BAD_REC", "ruleAnswer"),
+    22: ("MT_RULE_CALL", "NoSuchStrategy", "BAD_REC", "rule_answer"),
     23: ("MT_NO_ENTRIES", "TooManyEntries", "FULL_TABLE", "told"),
     24: ("MT_FULL_COUNT", "FullCount", "FULL_COUNT", "found"),  # with counts alone
     26: ("MT_SHORT_BUFFER", "ShortBuffer", "SHORT_BUFFER", "wrote"),
@@ -64,7 +64,7 @@ def specs():
     answer = (ROOT / "crates/meaning/specs/Answer.antt").read_text()
     found = {("number " + name, int(n)) for name, n in pairs(answer, r"(?m)^number \(?(\w+)(?: \w+\))? = (\d+)$")}
     found |= {("returned", int(n)) for n in re.findall(r"\banswer = (\d+);", answer)}
-    found |= pairs(answer, r"\b(asGiven) i (\d+) ")
+    found |= pairs(answer, r"\b(as_given) i (\d+) ")
     for path in ("crates/checks/specs/Checked.antt", "crates/checks/specs/Signature.antt", "crates/calls/specs/Refused.antt", "crates/calls/specs/Indexed.antt",
                  "crates/counting/specs/Counted.antt"):
         found |= pairs((ROOT / path).read_text(), r"\b(checked|found) (\d+) ")
@@ -72,8 +72,8 @@ def specs():
     found |= pairs((ROOT / "crates/whole_job/specs/Whole.antt").read_text(), r"\b(answered) (\d+) ")
     found |= pairs((ROOT / "crates/check_rules/specs/Check.antt").read_text(), r"\b(told) used (\d+) ")
     bound = (ROOT / "crates/check_rules/specs/Bound.antt").read_text()
-    found |= {("variablesAnswer", int(n)) for n in re.findall(r"(?m)^variablesAnswer r = .* (\d+)\) else (\d+)$", bound)[0]}
-    found |= pairs((ROOT / "crates/check_rules/specs/Line.antt").read_text(), r"(?m)^(ruleAnswer) f r = .* else (\d+)\) else ")
+    found |= {("variables_answer", int(n)) for n in re.findall(r"(?m)^variables_answer r = .* (\d+)\) else (\d+)$", bound)[0]}
+    found |= pairs((ROOT / "crates/check_rules/specs/Line.antt").read_text(), r"(?m)^(rule_answer) f r = .* else (\d+)\) else ")
     found |= pairs((ROOT / "crates/write_rules/specs/Written.antt").read_text(), r"\b(wrote) (\d+) 0 0\b")
     found |= pairs((ROOT / "crates/stepping/specs/Stepping.antt").read_text(), r"\b(numbers) (\d+) 0 ")
     # nothing is refused; and the writer's 5 and the 2 of a run in steps are the run's numbers

@@ -1,6 +1,6 @@
 #!/bin/sh
 # job.sh FILE: answers the job of FILE by the program run_job, which it has proved and built first where that is not done yet.
-# On a processor that is not x86-64 the program runs under the kit's emulator.
+# The Rattle kit, which proves and builds it, runs on x86-64.
 # Exit status: 0 the answer is 0 or 1; 3 it is another; 1 the program is not proved, or could not read or write; 2 bad usage.
 set -eu
 if [ "$#" -ne 1 ] || [ "${1#-}" != "$1" ]; then
@@ -16,25 +16,21 @@ here=$(cd "$(dirname "$0")/.." && pwd)
 work=$(mktemp -d)
 trap 'rm -rf "$work"' EXIT
 
-# Each crate is named as it is proved; all that was said is shown where one is not.
-{ (cd "$here" && rt check run_job) 2>&1 && echo proved >"$work/proved"; } | tee "$work/log" |
-    { grep --line-buffered '^rt: .* proved ([0-9]' || true; } >&2
+# Each crate is named as it is proved; all that was said is shown where one is not. rt runs the program too, on a job of no line.
+{ (cd "$here/crates/run_job" && rt run) </dev/null 2>&1 >/dev/null && echo proved >"$work/proved"; } | tee "$work/log" |
+    while IFS= read -r line; do
+        case $line in
+        'crate '*) name=${line#crate } ;;
+        'logic=proved '*) echo "job.sh: ${name%%:*} is proved" ;;
+        esac
+    done >&2
 if [ ! -f "$work/proved" ]; then
     cat "$work/log" >&2
     exit 1
 fi
 
-kit=$(dirname "$(dirname "$(rt doc)")")
-tools=$kit/on/$(uname -m)/toolchain
-program=$here/target/bin/run_job
-if [ "$(uname -m)" = x86_64 ]; then
-    set -- "$1" "$program"
-else
-    set -- "$1" "$tools/bin/qemu-x86_64" "$tools/lib/ld-linux-x86-64.so.2" --library-path "$tools/lib" "$program"
-fi
 job=$1
-shift
-"$@" <"$job" >"$work/answer" 2>"$work/said"
+"$here/crates/run_job/out/run_job" <"$job" >"$work/answer" 2>"$work/said"
 cat "$work/answer" || exit 1
 if [ -s "$work/said" ]; then
     cat "$work/said" >&2

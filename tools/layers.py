@@ -29,7 +29,7 @@ def crates():
     for line in (ROOT / "crates.txt").read_text().splitlines():
         name, colon, under = line.partition("#")[0].partition(":")
         if colon:
-            found[name.strip()] = under.split()
+            found[name.split()[0]] = under.split()
     return {name: [d for d in under if d in found] for name, under in found.items()}
 
 

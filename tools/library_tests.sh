@@ -1,13 +1,13 @@
 #!/bin/sh
-# Tests the C header, the Rust crate and the command over target/staticlib/libmarshtrundle.a, which 'rt staticlib marshtrundle' writes.
+# Tests the C header, the Rust crate and the command over target/staticlib/libmarshtrundle.a, which tools/archive.sh writes.
 #
 #   tools/library_tests.sh          the C test, the crate's tests and its documentation's examples, the command's tests, what
 #                                   stands on the pages
 #   tools/library_tests.sh stack    the least stack of each recursive form at 4,096 levels
 #
 # The archive is x86-64 code. An x86-64 machine needs cargo and cc. An Arm machine needs a rustc with the standard library
-# of x86_64-unknown-linux-gnu, the cargo beside it, x86_64-linux-gnu-gcc, and the Rattle kit, under whose emulator the
-# programs run; on Debian these are the packages rustc, cargo, libstd-rust-dev:amd64 and gcc-x86-64-linux-gnu.
+# of x86_64-unknown-linux-gnu, the cargo beside it, x86_64-linux-gnu-gcc, qemu-x86_64, under which the programs run, and the
+# Rattle kit for its C library; on Debian the packages rustc, cargo, libstd-rust-dev:amd64, gcc-x86-64-linux-gnu and qemu-user.
 #
 # MARSHTRUNDLE_LIB names another folder with the archive.
 # Exit status: 0 all is right; 1 something is not; 2 bad usage; 77 something is missing, and no test was run.
@@ -35,7 +35,7 @@ case ${1-} in
 esac
 
 [ -f "$MARSHTRUNDLE_LIB/libmarshtrundle.a" ] ||
-    missing "$MARSHTRUNDLE_LIB/libmarshtrundle.a; 'rt staticlib marshtrundle' writes it"
+    missing "$MARSHTRUNDLE_LIB/libmarshtrundle.a; tools/archive.sh writes it"
 
 # The first folder of PATH with a rustc that has the standard library of the target, and a cargo.
 rust_folder() {
@@ -66,10 +66,11 @@ x86_64)
 aarch64 | arm64)
     cc=x86_64-linux-gnu-gcc
     command -v rt >/dev/null || missing "rt, of the Rattle kit"
-    kit=$(dirname "$(dirname "$(rt doc)")")/on/aarch64/toolchain
-    for file in bin/qemu-x86_64 lib/ld-linux-x86-64.so.2 lib/libc.so.6 lib/libc_nonshared.a lib/libm.so.6 \
+    command -v qemu-x86_64 >/dev/null || missing qemu-x86_64
+    kit=$(dirname "$(rt doc)")/toolchain
+    for file in lib/ld-linux-x86-64.so.2 lib/libc.so.6 lib/libc_nonshared.a lib/libm.so.6 \
         lib/libgcc_s.so.1 lib/Scrt1.o; do
-        [ -f "$kit/$file" ] || missing "$file, of the Rattle kit for Arm"
+        [ -f "$kit/$file" ] || missing "$file, of the Rattle kit"
     done
     ;;
 *) missing "an x86-64 or an Arm machine" ;;
@@ -87,11 +88,11 @@ if [ "$machine" != x86_64 ]; then
         "$kit" "$kit" "$kit" >"$link/libc.so"
     ln -sf "$kit/lib/libm.so.6" "$link/libm.so"
     ln -sf "$kit/lib/libgcc_s.so.1" "$link/libgcc_s.so"
-    # A Rust program reads /proc/self/maps when it starts, to find its stack's guard page, and the kit's emulator can end
+    # A Rust program reads /proc/self/maps when it starts, to find its stack's guard page, and the emulator can end
     # with a fault there. Here the question is answered with an error, which Rust's start allows for.
     echo 'int pthread_getattr_np(unsigned long t, void *a) { (void)t; (void)a; return 38; }' >"$link/guard.c"
     "$cc" -c "$link/guard.c" -o "$link/guard.o"
-    run="$kit/bin/qemu-x86_64 $kit/lib/ld-linux-x86-64.so.2 --library-path $kit/lib"
+    run="qemu-x86_64 $kit/lib/ld-linux-x86-64.so.2 --library-path $kit/lib"
     rust_flags="-C link-arg=-B$kit/lib/ -L native=$link -C link-arg=$link/guard.o"
     c_flags="-ffreestanding -B$kit/lib/ -L$link"
     CARGO_BUILD_TARGET=$target
@@ -189,12 +190,13 @@ else
 fi
 
 # The tools: that each says how it is used, both job programs on every example, and a new user's way.
-if command -v rt >/dev/null && [ -f target/bin/run_job ]; then
+run_job=crates/run_job/out/run_job
+if command -v rt >/dev/null && [ -f "$run_job" ]; then
     tools/job.sh examples/swap.job | cmp - examples/swap.answer || exit 1
 fi
 if command -v python3 >/dev/null && [ "$machine" = x86_64 ]; then
     tools/usage_tests.sh || exit 1
-    [ ! -f target/bin/run_job ] || tools/examples.py target/bin/run_job || exit 1
+    [ ! -f "$run_job" ] || tools/examples.py "$run_job" || exit 1
     "$rust/cargo" build --quiet --offline --manifest-path rust/twin/Cargo.toml --bin twin || exit 1
     tools/examples.py "$built/twin" job || exit 1
     CARGO=$rust/cargo tools/new_user.sh || [ $? -eq 77 ] || exit 1

@@ -1,7 +1,7 @@
 #!/bin/sh
 # new_user.sh: goes a new user's way and says how long each step takes. A clone; a first answer, by the second implementation; a crate of
 # one's own with a rule of one's own, over the archive; the job of that run, explained by the command.
-# It needs git, cargo and the archive, which 'rt staticlib marshtrundle' writes; MARSHTRUNDLE_LIB names another folder that has it.
+# It needs git, cargo and the archive, which tools/archive.sh writes; MARSHTRUNDLE_LIB names another folder that has it.
 # Exit status: 0 the way is open; 1 a step failed; 2 bad usage; 77 something is missing.
 set -eu
 if [ "$#" -ne 0 ]; then

@@ -23,7 +23,7 @@ def is_text(line):
 def uses(text):
     """name here -> (crate, file, name there)"""
     found = {}
-    for crate, path, group in re.findall(r"^(?:pub )?use Rattle·(\w+)(?:·specs)?\.specs\.([\w.-]+)\.\{(.*)\}$", text, re.M):
+    for crate, path, group in re.findall(r"^(?:pub )?use Rattle\.(\w+)\.specs\.([\w.-]+)\.\{(.*)\}$", text, re.M):
         for item in group.split(", "):
             there, _, here = item.partition(" as ")
             found[here or there] = (crate, path, there)
@@ -57,8 +57,8 @@ def names(block):
     if re.search(r"\bdata\b", text):
         for group in re.findall(r"^\s+([^:=|]+?) :", text, re.M):
             found.update(group.split())
-    for name in [n for n in found if "_" in n]:
-        found.update(part for part in name.split("_") if part)
+    for name in [n for n in found if "◌" in n]:
+        found.update(part for part in name.split("◌") if part)
     return found - {"pub", "data"}
 
 
@@ -77,7 +77,7 @@ def find(crate, stem, name):
     text, used, defs = files.get((crate, stem), ("", {}, []))
     found = {(crate, stem, k) for k, (ns, b) in enumerate(defs) if name in ns}
     for here, (c, path, there) in used.items():
-        if here == name or "_" in here and name in here.split("_"):
+        if here == name or "◌" in here and name in here.split("◌"):
             found |= find(c, path, there)
     return found
 

@@ -1,8 +1,8 @@
 #!/usr/bin/env python3
 """Brings the repository's own definitions and lemmas to today's spelling, once, after the kit's port.py.
 
-usage: tools/respell.py        at the top of the repository, or of a copy of it: rewrites files in place
-       tools/respell.py --check    writes nothing; names the places where two names of one file fall together
+respell.py: rewrites the files of the folder that it is called in, the top of the repository or of a copy of it.
+respell.py --check: writes nothing; names the places where two names of one file fall together.
 
 Words are in snake case, types in camel case, as the library's are. A dash still joins the parts of a lemma's name. The script
 reads the names from the declarations in specs/ and proofs/, so that it needs no list; the exceptions are written out below.
@@ -72,8 +72,11 @@ def respelt(names):
     return turned
 
 
-def main():
-    check = "--check" in sys.argv[1:]
+def main(words):
+    if words not in ([], ["--check"]):
+        print("usage: tools/respell.py [--check]\n" + __doc__.strip(), file=sys.stderr)
+        return 2
+    check = words == ["--check"]
     turned = respelt(declared())
     together = 0
     for path in files((".antt", ".rt", ".edit", ".md")):
@@ -96,7 +99,8 @@ def main():
             with open(path, "w", encoding="utf-8") as f:
                 f.write(new)
     print(f"{len(turned)} names, {together} places where two names fall together")
+    return 0
 
 
 if __name__ == "__main__":
-    main()
+    sys.exit(main(sys.argv[1:]))

@@ -1,4 +1,4 @@
-//! Finds the archive. It stands where `rt staticlib marshtrundle` writes it, or in the folder that MARSHTRUNDLE_LIB names.
+//! Finds the archive. It stands where tools/archive.sh writes it, or in the folder that MARSHTRUNDLE_LIB names.
 use std::env;
 use std::path::PathBuf;
 
@@ -15,7 +15,7 @@ fn main() {
     println!("cargo:rerun-if-changed={}", archive.display());
     if !archive.is_file() {
         println!(
-            "cargo:warning={} is missing: run 'rt staticlib marshtrundle' first",
+            "cargo:warning={} is missing: run tools/archive.sh first",
             archive.display()
         );
     }

@@ -461,13 +461,13 @@ pub fn page(all: &All, machine: &Machine) -> String {
     if machine.architecture == "x86_64" {
         line!(
             page,
-            "- The archive is the one that `rt staticlib marshtrundle` writes, for x86-64."
+            "- The archive is the one that `tools/archive.sh` writes, for x86-64."
         );
     } else {
         line!(
             page,
-            "- `rt staticlib marshtrundle` writes its archive for x86-64. On this machine the very \
-             LLVM module of that command is compiled for {} by the kit's own compiler with the same \
+            "- `tools/archive.sh` writes its archive for x86-64. On this machine the very \
+             LLVM module of that archive is compiled for {} by the kit's own compiler with the same \
              flags (`tools/native_archive.sh`).",
             machine.architecture
         );
