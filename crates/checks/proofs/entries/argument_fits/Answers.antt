@@ -9,16 +9,11 @@ use Rattle.checks.specs.Kinds.{ours}
 use Rattle.checks.specs.Good.{kind_of, argument_fits_by}
 use Rattle.checks.proofs.Good.{argument-word, mask_fits}
 use Rattle.checks.proofs.entries.argument_fits.Goals as goal
-use Rattle.checks.proofs.entries.argument_fits.Goals.{Else-k-eq-SCOPE}
 
 pub returns-then-k-eq-SCOPE : goal.returns-then-k-eq-SCOPE
 returns-then-k-eq-SCOPE c =
     let a = c.args in
     sym (mask_fits ours a.table.now a.e (sym c.requires.0 ∙ c.if-k-eq-SCOPE.true) (λ j. (c.shared_slice_known-1.given (8 * a.e + j)).fits))
-
--- past the first test the entry is no SCOPE
-no-scope : (c : Else-k-eq-SCOPE) → kind_of c.args.table.now c.args.e ≢ 16
-no-scope c z = c.if-k-eq-SCOPE.false (c.requires.0 ∙ z)
 
 pub lowest_argument-requires : goal.lowest_argument-requires
 lowest_argument-requires c = c.requires.1
@@ -30,8 +25,10 @@ pub returns-then-a-lowest_argument : goal.returns-then-a-lowest_argument
 unfolding argument_fits_by
 returns-then-a-lowest_argument c =
     let a = c.args in
+    -- past the first test the entry is no SCOPE
+    let no-scope : kind_of a.table.now a.e ≢ 16 = λ z. c.if-k-eq-SCOPE.false (c.requires.0 ∙ z) in
     rw (
-      argument-word ours a.table.now a.e (no-scope c.before.before.before),
+      argument-word ours a.table.now a.e no-scope,
       ← c.word-a.ensures,
       ← c.requires.0,
       ← c.lowest_argument.ensures,
@@ -42,8 +39,10 @@ pub returns : goal.returns
 unfolding argument_fits_by
 returns c =
     let a = c.args in
+    -- past the first test the entry is no SCOPE
+    let no-scope : kind_of a.table.now a.e ≢ 16 = λ z. c.if-k-eq-SCOPE.false (c.requires.0 ∙ z) in
     rw (
-      argument-word ours a.table.now a.e (no-scope c.before.before.before.before),
+      argument-word ours a.table.now a.e no-scope,
       ← c.word-a.ensures,
       ← c.requires.0,
       ← c.lowest_argument.ensures,

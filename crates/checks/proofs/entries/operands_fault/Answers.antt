@@ -95,7 +95,7 @@ loop-i-preserved c =
           c.loop-i.invariant.1
           c.loop-i-test.true
           (sym (placed-is _ _ _ _ _ pre.0 c.operand-o.ensures) ∙ sym c.operand_placed.ensures ∙ not-false _ c.if-not-operand_placed.false-raw),
-      elim c.if-not-operand_sorted.branch [ then-not-operand_sorted x ↦ kept-wrong _ _ _ _ _ _ x.1 c.loop-i.invariant.2 c.loop-i-test.true (sorted ∙ not-true _ x.0.taken) | else-not-operand_sorted x ↦ kept-right _ _ _ _ _ _ x.1 c.loop-i.invariant.2 c.loop-i-test.true (sorted ∙ not-false _ x.0.left) ],
+      elim c.if-not-operand_sorted.branch [ then-not-operand_sorted x ↦ kept-wrong _ _ _ _ _ _ x.fault-is c.loop-i.invariant.2 c.loop-i-test.true (sorted ∙ x.if-not-operand_sorted.true) | else-not-operand_sorted x ↦ kept-right _ _ _ _ _ _ x.fault-is c.loop-i.invariant.2 c.loop-i-test.true (sorted ∙ x.if-not-operand_sorted.false) ],
     )
 
 pub returns : goal.returns

@@ -17,4 +17,4 @@ below_one (suc w) = le-ltb (suc w) 1 (omega arith) ∙ sym (ne_eqb (suc w) 0 (λ
 pub returns : goal.returns
 unfolding held_fits
 returns c =
-    elim c.if-i-n.branch [ then-i-n w ↦ rw (w.1, lt-ltb _ _ w.0.taken) | else-i-n w ↦ rw (w.1, le-ltb _ _ w.0.left) (below_one c.args.w) ]
+    elim c.if-i-n.branch [ then-i-n w ↦ rw (w.limit-is, lt-ltb _ _ w.if-i-n.true) | else-i-n w ↦ rw (w.limit-is, le-ltb _ _ w.if-i-n.false) (below_one c.args.w) ]
