@@ -5,3 +5,7 @@ use Rattle.index.proofs.chains.link.Goals as goal
 
 pub bounds-index-at-3 : goal.bounds-index-at-3
 bounds-index-at-3 c = simp length-set (omega arith)
+
+pub returns : goal.returns
+unfolding linked
+returns c = search rules

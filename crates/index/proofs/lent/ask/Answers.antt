@@ -16,14 +16,13 @@ returns-then-n-mark c =
 pub link-requires : goal.link-requires
 link-requires c =
     let eight : length c.args.r ≡ 8
-    = search rules in
-    (
+    = search rules in (
       subst (λ l. 8 * c.args.n + c.args.n + c.args.n ≤ length l) (sym c.put_row.ensures)
           (made-long c.args.n c.args.mark c.args.top c.args.r c.args.lent.now
           (sym (ap place_of c.in-Nothing.is)
           ∙ c.find-found.ensures)
           c.if-n-mark.false eight
-          c.forget.new.0
+          c.forget.new.lent
           c.forget.ensures.0
           c.forget.ensures.1),
       place-below c.args.n c.args.r c.home_of-p.ensures c.forget.ensures.1.some,
@@ -43,6 +42,6 @@ returns-else-n-mark c =
     = search rules in
     asked-made c.args.n c.args.mark c.args.top c.args.r c.args.lent.now
     (sym (ap place_of c.in-Nothing.is) ∙ c.find-found.ensures) c.if-n-mark.false eight
-    c.forget.new.0 c.forget.ensures.0 c.forget.ensures.1
-    c.put_row.new.0 c.link.new.0 c.home_of-p.result
+    c.forget.new.lent c.forget.ensures.0 c.forget.ensures.1
+    c.put_row.new.words c.link.new.index c.home_of-p.result
     c.put_row.ensures c.home_of-p.ensures c.link.ensures

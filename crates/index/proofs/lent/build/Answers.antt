@@ -31,7 +31,7 @@ loop-k-smaller c = omega (arith, c.loop-k-test.true)
 
 pub loop-k-preserved : goal.loop-k-preserved
 loop-k-preserved c =
-    let e : c.link.new.0 ≡ joined c.args.n c.loop-k.k c.loop-k.lent = joined-so c.args.n
+    let e : c.link.new.index ≡ joined c.args.n c.loop-k.k c.loop-k.lent = joined-so c.args.n
     c.loop-k.lent c.loop-k.k c.eight_words.result c.home_of-p.result
     c.link.ensures c.home_of-p.ensures c.eight_words.ensures in
     let h = held-joined c.args.n

@@ -31,7 +31,7 @@ loop-k-smaller c = omega (arith, c.loop-k-test.true)
 
 pub loop-k-preserved : goal.loop-k-preserved
 loop-k-preserved c =
-    let e : c.unlink.new.0 ≡ parted
+    let e : c.unlink.new.index ≡ parted
     c.args.n
     (c.loop-k.k - 1)
     c.loop-k.lent =

@@ -52,7 +52,7 @@ loop-k-smaller c = omega (arith, c.loop-k-test.true)
 
 pub loop-k-preserved : goal.loop-k-preserved
 loop-k-preserved c =
-    let e : c.link.new.0 ≡ linked c.loop-k.index 0 c.args.n (place c.args.store.now c.args.n c.loop-k.k) c.loop-k.k =
+    let e : c.link.new.index ≡ linked c.loop-k.index 0 c.args.n (place c.args.store.now c.args.n c.loop-k.k) c.loop-k.k =
     c.link.ensures ∙ ap (λ q. linked
     c.loop-k.index 0
     c.args.n q
