@@ -1,6 +1,7 @@
 -- `begin::strategy` meets its contract. Assumes nothing.
 use mathlib.Core.Path.{◌≡◌, refl, ap, sym, ◌∙◌, subst}
 use mathlib.Core.Logic.{inl, inr, ⊎_elim}
+use mathlib.Core.List.{List}
 use Prim.Native.Nat.{ℕ, ◌/◌, ◌≤◌}
 use native.Mathlib.Omega.{arith}
 use Rattle.words.specs.Words.{word_at}
@@ -22,83 +23,81 @@ use Rattle.turns.proofs.turn.asks.Reads as asks-reads
 use Rattle.turns.proofs.turn.ends.Reads as ends-reads
 use Rattle.words.proofs.word.Reads as word-reads
 use Rattle.turns.proofs.begin.strategy.Goals as goal
-use Rattle.turns.proofs.begin.strategy.Goals.{After-word-kind}
 
 -- the kind that the code has read
-kind-is : (c : After-word-kind) (k : ℕ) → c.word-kind.result / 16 ≡ k
-    → kind_of c.args.table.now c.args.x ≡ k
-kind-is c k e = ap (λ (n : ℕ). n / 16) (sym c.word-kind.ensures) ∙ e
+kind-is : (t : List ℕ) (x k : ℕ) {n : ℕ} → n ≡ word_at t x 0 → n / 16 ≡ k → kind_of t x ≡ k
+kind-is t x k r e = ap (λ (n : ℕ). n / 16) (sym r) ∙ e
 
 pub children-requires : goal.children-requires
-children-requires c = inl (refl, kind-is c.before.before 11 c.in-11.is)
+children-requires c = inl (refl, kind-is c.args.table.now c.args.x 11 c.word-kind.ensures c.in-11.is)
 
 pub children-requires-in-12 : goal.children-requires-in-12
-children-requires-in-12 c = inr (inl (refl, kind-is c.before.before 12 c.in-12.is))
+children-requires-in-12 c = inr (inl (refl, kind-is c.args.table.now c.args.x 12 c.word-kind.ensures c.in-12.is))
 
 pub children-requires-in-13 : goal.children-requires-in-13
-children-requires-in-13 c = inr (inr (refl, kind-is c.before.before 13 c.in-13.is))
+children-requires-in-13 c = inr (inr (refl, kind-is c.args.table.now c.args.x 13 c.word-kind.ensures c.in-13.is))
 
 pub returns-in-0 : goal.returns-in-0
 unfolding acts looked strategy by_kind
-returns-in-0 c d = begins _ _ _ _ d _ 0 _ (kind-is c.before.before.before 0 c.in-0.is) c.ends.ensures (λ f b. refl)
+returns-in-0 c d = begins _ _ _ _ d _ 0 _ (kind-is c.args.table.now c.args.x 0 c.word-kind.ensures c.in-0.is) c.ends.ensures (λ f b. refl)
 
 pub returns-in-2 : goal.returns-in-2
 unfolding acts way_of ways visit_of looked strategy by_kind
-returns-in-2 c d = begins-asking _ _ _ _ d _ 2 0 4 _ (kind-is c.before.before.before 2 c.in-2.is)
+returns-in-2 c d = begins-asking _ _ _ _ d _ 2 0 4 _ (kind-is c.args.table.now c.args.x 2 c.word-kind.ensures c.in-2.is)
     c.word-one.ensures c.asks.ensures (λ f b. refl)
 
 pub returns-in-3 : goal.returns-in-3
 unfolding acts way_of ways visit_of looked strategy by_kind
-returns-in-3 c d = begins-asking _ _ _ _ d _ 3 0 5 _ (kind-is c.before.before.before 3 c.in-3.is)
+returns-in-3 c d = begins-asking _ _ _ _ d _ 3 0 5 _ (kind-is c.args.table.now c.args.x 3 c.word-kind.ensures c.in-3.is)
     c.word-one.ensures c.asks-in-3.ensures (λ f b. refl)
 
 pub returns-in-4 : goal.returns-in-4
 unfolding acts way_of ways visit_of looked strategy by_kind
-returns-in-4 c d = begins-asking _ _ _ _ d _ 4 0 1 _ (kind-is c.before.before.before 4 c.in-4.is)
+returns-in-4 c d = begins-asking _ _ _ _ d _ 4 0 1 _ (kind-is c.args.table.now c.args.x 4 c.word-kind.ensures c.in-4.is)
     c.word-one.ensures c.asks-in-4.ensures (λ f b. refl)
 
 pub returns-in-5 : goal.returns-in-5
 unfolding acts way_of ways visit_of looked strategy by_kind
-returns-in-5 c d = begins-asking _ _ _ _ d _ 5 0 6 _ (kind-is c.before.before.before 5 c.in-5.is)
+returns-in-5 c d = begins-asking _ _ _ _ d _ 5 0 6 _ (kind-is c.args.table.now c.args.x 5 c.word-kind.ensures c.in-5.is)
     c.word-one.ensures c.asks-in-5.ensures (λ f b. refl)
 
 pub returns-in-6 : goal.returns-in-6
 unfolding acts way_of ways visit_of looked strategy by_kind
-returns-in-6 c d = begins-asking _ _ _ _ d _ 6 0 6 _ (kind-is c.before.before.before 6 c.in-6.is)
+returns-in-6 c d = begins-asking _ _ _ _ d _ 6 0 6 _ (kind-is c.args.table.now c.args.x 6 c.word-kind.ensures c.in-6.is)
     c.word-one.ensures c.asks-in-6.ensures (λ f b. refl)
 
 pub returns-in-7 : goal.returns-in-7
 unfolding acts way_of ways visit_of looked strategy by_kind
-returns-in-7 c d = begins-asking _ _ _ _ d _ 7 0 0 _ (kind-is c.before.before.before 7 c.in-7.is)
+returns-in-7 c d = begins-asking _ _ _ _ d _ 7 0 0 _ (kind-is c.args.table.now c.args.x 7 c.word-kind.ensures c.in-7.is)
     c.word-one.ensures c.asks-in-7.ensures (λ f b. refl)
 
 pub returns-in-8 : goal.returns-in-8
 unfolding acts way_of ways visit_of looked strategy by_kind
-returns-in-8 c d = begins-asking _ _ _ _ d _ 8 0 0 _ (kind-is c.before.before.before 8 c.in-8.is)
+returns-in-8 c d = begins-asking _ _ _ _ d _ 8 0 0 _ (kind-is c.args.table.now c.args.x 8 c.word-kind.ensures c.in-8.is)
     c.word-one.ensures c.asks-in-8.ensures (λ f b. refl)
 
 pub returns-in-14 : goal.returns-in-14
 unfolding acts way_of ways visit_of looked strategy by_kind
-returns-in-14 c d = begins-asking _ _ _ _ d _ 14 1 0 _ (kind-is c.before.before.before 14 c.in-14.is)
+returns-in-14 c d = begins-asking _ _ _ _ d _ 14 1 0 _ (kind-is c.args.table.now c.args.x 14 c.word-kind.ensures c.in-14.is)
     c.word-one.ensures c.asks-in-14.ensures (λ f b. refl)
 
 pub returns-in-15 : goal.returns-in-15
 unfolding acts way_of ways visit_of looked strategy by_kind
-returns-in-15 c d = begins-asking _ _ _ _ d _ 15 2 0 _ (kind-is c.before.before.before 15 c.in-15.is)
+returns-in-15 c d = begins-asking _ _ _ _ d _ 15 2 0 _ (kind-is c.args.table.now c.args.x 15 c.word-kind.ensures c.in-15.is)
     c.word-one.ensures c.asks-in-15.ensures (λ f b. refl)
 
 pub returns-in-17 : goal.returns-in-17
 unfolding acts way_of ways visit_of looked strategy by_kind
-returns-in-17 c d = begins-asking _ _ _ _ d _ 17 0 2 _ (kind-is c.before.before.before 17 c.in-17.is)
+returns-in-17 c d = begins-asking _ _ _ _ d _ 17 0 2 _ (kind-is c.args.table.now c.args.x 17 c.word-kind.ensures c.in-17.is)
     c.word-one.ensures c.asks-in-17.ensures (λ f b. refl)
 
 pub returns-in_default : goal.returns-in_default
 unfolding acts looked strategy by_kind
 returns-in_default c d =
-    let none = c.in_default.rest in
+    let none = c.in_default.in_default-own.rest in
     ⊎_elim
-    (λ e. begins _ _ _ _ d _ 1 _ (kind-is c.before.before.before 1 e) c.ends-in_default.ensures (λ f b. refl))
-    (λ l. begins-none _ _ _ _ d _ (subst (λ (k : ℕ). 18 ≤ k) (sym (kind-is c.before.before.before _ refl)) l) c.ends-in_default.ensures)
+    (λ e. begins _ _ _ _ d _ 1 _ (kind-is c.args.table.now c.args.x 1 c.word-kind.ensures e) c.ends-in_default.ensures (λ f b. refl))
+    (λ l. begins-none _ _ _ _ d _ (subst (λ (k : ℕ). 18 ≤ k) (sym (kind-is c.args.table.now c.args.x _ c.word-kind.ensures refl)) l) c.ends-in_default.ensures)
     (none-of-them _ none.0.0.0.0.0.0.0.0.0.0.0.0.0.0.0.0.1 none.0.0.0.0.0.0.0.0.0.0.0.0.0.0.0.1
     none.0.0.0.0.0.0.0.0.0.0.0.0.0.0.1 none.0.0.0.0.0.0.0.0.0.0.0.0.0.1
     none.0.0.0.0.0.0.0.0.0.0.0.0.1 none.0.0.0.0.0.0.0.0.0.0.0.1 none.0.0.0.0.0.0.0.0.0.0.1

@@ -27,6 +27,6 @@ returns-in-6 c f o g b w = other-asked _ f b _ g _ o _ c.in-6.is c.word.ensures 
 pub returns-in_default : goal.returns-in_default
 unfolding acts
 returns-in_default c f o g b w =
-    let none = c.in_default.rest in
+    let none = c.in_default.in_default-own.rest in
     recovers _ f b _ g _ _ o.what c.ends-in_default.ensures (fails-too _ f b _ c.requires none.0.0.1 none.0.1
     none.1)

@@ -36,6 +36,6 @@ returns-in-7 c f o g b d w = scope-ended _ f b _ g _ o _ _ d c.in-7.is c.scope_m
 pub returns-in_default : goal.returns-in_default
 unfolding acts
 returns-in_default c f o g b d w =
-    let none = c.in_default.rest in
+    let none = c.in_default.in_default-own.rest in
     resumes _ f b _ g _ _ _ d o.what c.ends-in_default.ensures (hands_on _ f b d _ _ c.requires none.0.0.0.0.1
     none.0.0.0.1 none.0.0.1 none.0.1 none.1)

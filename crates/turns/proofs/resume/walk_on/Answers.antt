@@ -76,7 +76,7 @@ returns-in-16 c f y o n g b d =
 
 pub returns-in_default : goal.returns-in_default
 returns-in_default c f y o n g b d =
-    let none = c.in_default.rest in
+    let none = c.in_default.in_default-own.rest in
     step-made _ f _ _ o n y g b d _ _ c.requires.0 none.0.0.0.0.0.0.1 none.0.0.0.0.0.1 none.0.0.0.0.1
     none.0.0.0.1 none.0.0.1 none.0.1 none.1
     refl c.ends.ensures (omega (arith, c.requires.1))
