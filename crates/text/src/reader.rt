@@ -1,6 +1,5 @@
-// A reader keeps the text and a place in it, and hands out the line that begins there. The borrow checker covers no function
-// over such a struct, so each is proved by hand and leaves the work to `line_at`; `line_from`, whose parameters are plain,
-// serves every caller.
+// A reader keeps the text and a place in it, and hands out the line that begins there. `line_from`, whose parameters are
+// plain, serves every caller.
 ghost use Rattle.std.specs.Prelude.{◌≡◌};
 ghost use Rattle.text.specs.Lines.{bounds_at};
 

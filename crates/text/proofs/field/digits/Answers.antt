@@ -41,15 +41,14 @@ overflow_add-value c =
     omega (arith, c.if-most-digit.false, c.requires, c.ranges.most.fits, c.if-b-lt48.false, c.if-b-gt57.false)
 
 pub loop-i-preserved : goal.loop-i-preserved
-loop-i-preserved c =
-    (
-      omega arith,
-      omega (arith, c.if-most-digit.false, c.requires, c.if-b-lt48.false, c.if-b-gt57.false),
-      sym
-          (valued-on c.args.most c.args.field.now c.loop-i.i c.loop-i.value c.loop-i-test.true
-          c.if-b-lt48.false c.if-b-gt57.false (omega (arith, c.if-most-digit.false, c.requires, c.if-b-lt48.false, c.if-b-gt57.false)))
-          ∙ c.loop-i.invariant.2,
-    )
+loop-i-preserved c = (
+  omega arith,
+  omega (arith, c.if-most-digit.false, c.requires, c.if-b-lt48.false, c.if-b-gt57.false),
+  sym
+      (valued-on c.args.most c.args.field.now c.loop-i.i c.loop-i.value c.loop-i-test.true
+      c.if-b-lt48.false c.if-b-gt57.false (omega (arith, c.if-most-digit.false, c.requires, c.if-b-lt48.false, c.if-b-gt57.false)))
+      ∙ c.loop-i.invariant.2,
+)
 
 pub returns : goal.returns
 returns c = sym (valued-end c.args.most c.args.field.now c.loop-i.i c.loop-i.value c.loop-i-test.false) ∙ c.loop-i.invariant.2

@@ -5,7 +5,7 @@ use Rattle.text.proofs.Put.{put-more}
 use Rattle.text.proofs.write.put_field.Goals as goal
 
 pub put_digits-requires : goal.put_digits-requires
-put_digits-requires c = omega (arith, c.requires, c.put_byte-end.ensures.place, c.put_byte-end.auto.0)
+put_digits-requires c = omega (arith, c.requires, c.put_byte-end.ensures.place, c.put_byte-end.auto.buf)
 
 pub returns : goal.returns
 returns c =

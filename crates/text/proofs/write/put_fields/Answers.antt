@@ -28,15 +28,14 @@ put_field-at-requires c =
     )
 
 pub loop-i-preserved : goal.loop-i-preserved
-loop-i-preserved c =
-    (
-      omega arith,
-      c.loop-i.invariant.1,
-      c.put_field-at.auto.0 ∙ c.loop-i.invariant.2,
-      fields-more c.args.numbers c.loop-i.i (omega (arith, c.requires.0, c.loop-i.invariant.1))
-          (omega (arith, c.requires.1, length_fields c.args.numbers c.loop-i.i)) c.loop-i.invariant.3
-          c.put_field-at.ensures,
-    )
+loop-i-preserved c = (
+  omega arith,
+  c.loop-i.invariant.1,
+  c.put_field-at.auto.buf ∙ c.loop-i.invariant.2,
+  fields-more c.args.numbers c.loop-i.i (omega (arith, c.requires.0, c.loop-i.invariant.1))
+      (omega (arith, c.requires.1, length_fields c.args.numbers c.loop-i.i)) c.loop-i.invariant.3
+      c.put_field-at.ensures,
+)
 
 pub returns : goal.returns
 returns c =

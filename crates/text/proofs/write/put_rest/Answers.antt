@@ -6,7 +6,7 @@ use Rattle.text.proofs.write.put_rest.Goals as goal
 
 pub put_byte-requires : goal.put_byte-requires
 put_byte-requires c =
-    omega (arith, c.requires.1, c.put_fields-end.ensures.place, c.put_fields-end.auto.0, length_fields c.args.numbers c.args.n)
+    omega (arith, c.requires.1, c.put_fields-end.ensures.place, c.put_fields-end.auto.buf, length_fields c.args.numbers c.args.n)
 
 pub returns : goal.returns
 returns c =
