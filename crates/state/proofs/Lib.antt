@@ -1,5 +1,4 @@
 -- Laws that belong to no one function.
-pub mod Element
 pub mod AnswerWords
 pub mod Asking
 pub mod Holding

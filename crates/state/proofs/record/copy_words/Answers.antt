@@ -41,42 +41,42 @@ loop-rest-init c = (omega arith, omega arith, refl, refl)
 pub overflow_add-to : goal.overflow_add-to
 overflow_add-to c =
     let inside : c.loop-rest.v < variables =
-        let i = c.loop-rest.invariant in (left_below _ _ i.0 i.1 c.loop-rest-test.true).0 in
+    let i = c.loop-rest.invariant in (left_below _ _ i.0 i.1 c.loop-rest-test.true).0 in
     let l = inside in omega (arith, c.requires.1)
 
 pub offset_bounds-from-start : goal.offset_bounds-from-start
 offset_bounds-from-start c =
     let inside : c.loop-rest.v < variables =
-        let i = c.loop-rest.invariant in (left_below _ _ i.0 i.1 c.loop-rest-test.true).0 in
+    let i = c.loop-rest.invariant in (left_below _ _ i.0 i.1 c.loop-rest-test.true).0 in
     let l = inside in omega (arith, c.requires.1)
 
 pub bounds-from-start : goal.bounds-from-start
 bounds-from-start c =
     let inside : c.loop-rest.v < variables =
-        let i = c.loop-rest.invariant in (left_below _ _ i.0 i.1 c.loop-rest-test.true).0 in
+    let i = c.loop-rest.invariant in (left_below _ _ i.0 i.1 c.loop-rest-test.true).0 in
     let l = inside in omega (arith, c.requires.1)
 
 pub overflow_add-to-then-rest-eq1 : goal.overflow_add-to-then-rest-eq1
 overflow_add-to-then-rest-eq1 c =
     let inside : c.loop-rest.v < variables =
-        let i = c.loop-rest.invariant in (left_below _ _ i.0 i.1 c.loop-rest-test.true).0 in
+    let i = c.loop-rest.invariant in (left_below _ _ i.0 i.1 c.loop-rest-test.true).0 in
     let l = inside in omega (arith, c.requires.0)
 
 pub offset_bounds-to-at : goal.offset_bounds-to-at
 offset_bounds-to-at c =
     let inside : c.loop-rest.v < variables =
-        let i = c.loop-rest.invariant in (left_below _ _ i.0 i.1 c.loop-rest-test.true).0 in
+    let i = c.loop-rest.invariant in (left_below _ _ i.0 i.1 c.loop-rest-test.true).0 in
     let l = inside in omega (arith, c.requires.0)
 
 pub bounds-to-at : goal.bounds-to-at
 bounds-to-at c =
     let inside : c.loop-rest.v < variables =
-        let i = c.loop-rest.invariant in (left_below _ _ i.0 i.1 c.loop-rest-test.true).0 in
+    let i = c.loop-rest.invariant in (left_below _ _ i.0 i.1 c.loop-rest-test.true).0 in
     let l = inside in omega (
-  arith,
-  c.requires.0,
-  c.loop-rest.invariant.2,
-)
+      arith,
+      c.requires.0,
+      c.loop-rest.invariant.2,
+    )
 
 pub overflow_add-v : goal.overflow_add-v
 overflow_add-v c = let l = c.loop-rest.invariant.0 in omega arith
@@ -87,7 +87,7 @@ loop-rest-smaller c = omega arith
 -- what a turn leaves
 left : (c : Joined-rest-eq1) → let l = c.loop-rest in let a = c.args in c.if-rest-eq1.to
     ≡ (if eqb (l.rest % 2) 1 then set l.to (a.at + l.v) (get_or a.from.now (a.start + l.v) 0) else l.to)
-left c = elim c.if-rest-eq1.branch [ then-rest-eq1 w ↦ rw (eq-eqb _ _ w.0.taken) w.2 | else-rest-eq1 w ↦ rw (ne_eqb _ _ w.0.left) w.1 ]
+left c = elim c.if-rest-eq1.branch [ then-rest-eq1 w ↦ rw (eq-eqb _ _ w.if-rest-eq1.true) w.to-is | else-rest-eq1 w ↦ rw (ne_eqb _ _ w.if-rest-eq1.false) w.to-is ]
 
 pub loop-rest-preserved : goal.loop-rest-preserved
 loop-rest-preserved c =
