@@ -7,9 +7,17 @@ use collect::collect;
 use free::free_variables;
 use indexed::run::run_indexed;
 use running::{run, run_signed};
+use std::io;
+use std::io::Write;
 
 // A run.
-fn call_run(given: Given, table: &[u32], store: &mut [u32], bindings: &mut [u32]) {
+fn call_run(
+    out: &mut impl Write,
+    given: Given,
+    table: &[u32],
+    store: &mut [u32],
+    bindings: &mut [u32],
+) -> io::Result<()> {
     let r = run(
         table,
         store,
@@ -19,11 +27,17 @@ fn call_run(given: Given, table: &[u32], store: &mut [u32], bindings: &mut [u32]
         given.subject,
         given.units,
     );
-    show_run(r, store, bindings);
+    show_run(out, r, store, bindings)
 }
 
 // A run with the index that stands behind the store's first words.
-fn call_indexed(given: Given, table: &[u32], store: &mut [u32], bindings: &mut [u32]) {
+fn call_indexed(
+    out: &mut impl Write,
+    given: Given,
+    table: &[u32],
+    store: &mut [u32],
+    bindings: &mut [u32],
+) -> io::Result<()> {
     let r = run_indexed(
         table,
         store,
@@ -34,14 +48,20 @@ fn call_indexed(given: Given, table: &[u32], store: &mut [u32], bindings: &mut [
         given.subject,
         given.units,
     );
-    show_run(r, store, bindings);
+    show_run(out, r, store, bindings)
 }
 
 // A run with the signature that stands behind the first `at` words, which are the table: whether there are so many.
-fn call_signed(given: Given, words: &[u32], store: &mut [u32], bindings: &mut [u32]) -> bool {
+fn call_signed(
+    out: &mut impl Write,
+    given: Given,
+    words: &[u32],
+    store: &mut [u32],
+    bindings: &mut [u32],
+) -> io::Result<bool> {
     let at = given.argument as usize;
     if words.len() < at {
-        return false;
+        return Ok(false);
     }
     let r = run_signed(
         &words[..at],
@@ -53,69 +73,83 @@ fn call_signed(given: Given, words: &[u32], store: &mut [u32], bindings: &mut [u
         given.units,
         &words[at..],
     );
-    show_run(r, store, bindings);
-    true
+    show_run(out, r, store, bindings)?;
+    Ok(true)
 }
 
 // A collection, with the table as its work list.
-fn call_collect(given: Given, work: &mut [u32], store: &mut [u32], bindings: &mut [u32]) {
+fn call_collect(
+    out: &mut impl Write,
+    given: Given,
+    work: &mut [u32],
+    store: &mut [u32],
+    bindings: &mut [u32],
+) -> io::Result<()> {
     let r = collect(store, bindings, work, given.mark, given.subject);
-    show_collected(r, store, bindings, work);
+    show_collected(out, r, store, bindings, work)
 }
 
 // Makes the run of a tag on the words lent, and prints what it gives back: whether the tag has one.
 fn call_any_run(
+    out: &mut impl Write,
     tag: u8,
     given: Given,
     table: &[u32],
     store: &mut [u32],
     bindings: &mut [u32],
-) -> bool {
+) -> io::Result<bool> {
     if tag == b'r' {
-        call_run(given, table, store, bindings);
-        return true;
+        call_run(out, given, table, store, bindings)?;
+        return Ok(true);
     }
     if tag == b'i' {
-        call_indexed(given, table, store, bindings);
-        return true;
+        call_indexed(out, given, table, store, bindings)?;
+        return Ok(true);
     }
     if tag == b'g' {
-        return call_signed(given, table, store, bindings);
+        return call_signed(out, given, table, store, bindings);
     }
-    false
+    Ok(false)
 }
 
 // Prints what the question of a tag answers, which changes no word: whether the tag has one.
-fn call_question(tag: u8, given: Given, table: &[u32], store: &[u32]) -> bool {
+fn call_question(
+    out: &mut impl Write,
+    tag: u8,
+    given: Given,
+    table: &[u32],
+    store: &[u32],
+) -> io::Result<bool> {
     if tag == b't' {
-        show_checked(check_table(table));
-        return true;
+        show_checked(out, check_table(table))?;
+        return Ok(true);
     }
     if tag == b's' {
-        show_checked(check_store(store, given.mark));
-        return true;
+        show_checked(out, check_store(store, given.mark))?;
+        return Ok(true);
     }
     if tag == b'f' {
-        show_free(free_variables(table, given.start));
-        return true;
+        show_free(out, free_variables(table, given.start))?;
+        return Ok(true);
     }
-    false
+    Ok(false)
 }
 
 // Makes the call of a tag on the words lent, and prints what it gives back: whether the tag has a call.
 pub(crate) fn call_single(
+    out: &mut impl Write,
     tag: u8,
     given: Given,
     table: &mut [u32],
     store: &mut [u32],
     bindings: &mut [u32],
-) -> bool {
+) -> io::Result<bool> {
     if tag == b'c' {
-        call_collect(given, table, store, bindings);
-        return true;
+        call_collect(out, given, table, store, bindings)?;
+        return Ok(true);
     }
-    if call_question(tag, given, table, store) {
-        return true;
+    if call_question(out, tag, given, table, store)? {
+        return Ok(true);
     }
-    call_any_run(tag, given, table, store, bindings)
+    call_any_run(out, tag, given, table, store, bindings)
 }

@@ -5,6 +5,8 @@ use cases::show::{show_label, show_many};
 use checks::Checked;
 use indexed::subjects::run_many_indexed;
 use many::{run_many, run_many_signed};
+use std::io;
+use std::io::Write;
 
 // The call with the signature that stands behind the first `at` words, which are the table; the answer is of no call where there are less.
 fn run_signed(
@@ -76,6 +78,7 @@ fn run_subjects(
 
 // Reads the subjects from place `at` on, prints the label behind them, makes the call and prints what it gives back.
 fn call_lists(
+    out: &mut impl Write,
     tag: u8,
     text: &[u8],
     at: usize,
@@ -85,16 +88,17 @@ fn call_lists(
     bindings: &[u32],
     subjects: &mut [u32],
     results: &mut [u32],
-) {
+) -> io::Result<()> {
     let label = read_words(text, at, subjects);
-    show_label(text, label);
+    show_label(out, text, label)?;
     let answered = run_subjects(tag, given, table, store, bindings, subjects, results);
-    show_many(answered, results, store, bindings);
+    show_many(out, answered, results, store, bindings)
 }
 
 // The same in the parts of two lists that the case asks for, the length of the result list standing at `start`: whether it asks for no
 // more than there is.
 fn call_parts(
+    out: &mut impl Write,
     tag: u8,
     text: &[u8],
     start: usize,
@@ -104,17 +108,18 @@ fn call_parts(
     bindings: &[u32],
     subjects: &mut [u32],
     results: &mut [u32],
-) -> bool {
+) -> io::Result<bool> {
     let length = number(text, start);
     let k = given.subject as usize;
     let r = length.value as usize;
     if subjects.len() < k {
-        return false;
+        return Ok(false);
     }
     if results.len() < r {
-        return false;
+        return Ok(false);
     }
     call_lists(
+        out,
         tag,
         text,
         length.next,
@@ -124,12 +129,13 @@ fn call_parts(
         bindings,
         &mut subjects[..k],
         &mut results[..r],
-    );
-    true
+    )?;
+    Ok(true)
 }
 
 // The same with lists of its own: room for 1,024 subjects, and for the results of one more.
 pub(crate) fn call_many(
+    out: &mut impl Write,
     tag: u8,
     text: &[u8],
     start: usize,
@@ -137,10 +143,11 @@ pub(crate) fn call_many(
     table: &[u32],
     store: &mut [u32],
     bindings: &[u32],
-) -> bool {
+) -> io::Result<bool> {
     let mut subjects = [0u32; 1024];
     let mut results = [4294967295u32; 5128];
     call_parts(
+        out,
         tag,
         text,
         start,

@@ -8,24 +8,25 @@
 #![tactic(auto)]
 
 use input::read_text;
-use libc::{STDERR_FILENO, STDOUT_FILENO};
+use std::io;
+use std::io::Write;
 use whole_job::answer_job;
 
 // Writes the answer to a text, and says where it could not.
-fn answer_text(text: &[u8]) {
-    let mut out = [0u8; 82944];
-    let n = answer_job(text, &mut out);
-    if !io::write_all(STDOUT_FILENO, &out[..n]) {
-        io::write_all(STDERR_FILENO, b"run_job: the answer is not written whole\n");
+fn answer_text(rt: &(impl Print + Eprint), text: &[u8]) -> io::Result<()> {
+    let mut answer = [0u8; 82944];
+    let n = answer_job(text, &mut answer);
+    if io::writer(rt).write_all(&answer[..n]).is_err() {
+        return rt.eprintln("run_job: the answer is not written whole");
     }
+    Ok(())
 }
 
-fn main() {
+fn main(rt: HostRuntime) -> io::Result<()> {
     let mut text = [0u8; 65536];
-    let n = read_text(&mut text);
+    let n = read_text(&mut rt.reader(), &mut text);
     if 65536 < n {
-        io::write_all(STDERR_FILENO, b"run_job: standard input cannot be read\n");
-        return;
+        return rt.eprintln("run_job: standard input cannot be read");
     }
-    answer_text(&text[..n]);
+    answer_text(&rt, &text[..n])
 }

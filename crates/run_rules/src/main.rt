@@ -9,41 +9,34 @@
 #![tactic(auto)]
 
 use input::read_text;
-use libc::STDERR_FILENO;
 use read::read_entries;
 use show::show_answer;
+use std::io;
 use translate::translate::translate;
 
 mod read;
 mod show;
 
 // Adds the rules of a text to the entries that it begins with, and writes the answer.
-fn answer_text(text: &[u8]) {
+fn answer_text(rt: &(impl Print + Eprint), text: &[u8]) -> io::Result<()> {
     let mut table = [0u32; 32768];
     let base = read_entries(text, &mut table);
     let rules = base.rules;
     let told = translate(&mut table, base.used, &text[rules..]);
-    if !show_answer(&table, told) {
-        io::write_all(
-            STDERR_FILENO,
-            b"run_rules: the answer is not written whole\n",
-        );
+    if show_answer(&mut io::writer(rt), &table, told).is_err() {
+        return rt.eprintln("run_rules: the answer is not written whole");
     }
+    Ok(())
 }
 
-fn main() {
+fn main(rt: HostRuntime) -> io::Result<()> {
     let mut text = [0u8; 60001];
-    let n = read_text(&mut text);
+    let n = read_text(&mut rt.reader(), &mut text);
     if 60001 < n {
-        io::write_all(STDERR_FILENO, b"run_rules: standard input cannot be read\n");
-        return;
+        return rt.eprintln("run_rules: standard input cannot be read");
     }
     if 60000 < n {
-        io::write_all(
-            STDERR_FILENO,
-            b"run_rules: the text has more than 60,000 bytes\n",
-        );
-        return;
+        return rt.eprintln("run_rules: the text has more than 60,000 bytes");
     }
-    answer_text(&text[..n]);
+    answer_text(&rt, &text[..n])
 }

@@ -4,15 +4,18 @@ use cases::memory::Given;
 use cases::numbers::number;
 use cases::show::{show_counted, show_label};
 use counting::{run_counted, run_counted_signed, run_indexed_counted, run_indexed_counted_signed};
+use std::io;
+use std::io::Write;
 
 // A run with counts.
 fn run_plain(
+    out: &mut impl Write,
     given: Given,
     table: &[u32],
     store: &mut [u32],
     bindings: &mut [u32],
     counts: &mut [u64],
-) {
+) -> io::Result<()> {
     let r = run_counted(
         table,
         store,
@@ -24,24 +27,26 @@ fn run_plain(
         counts,
     );
     show_counted(
+        out,
         r.ended,
         r.seen.patterns,
         r.seen.pairs,
         store,
         bindings,
         counts,
-    );
+    )
 }
 
 // The same with the index that stands behind the store's first words.
 fn run_shared(
+    out: &mut impl Write,
     given: Given,
     own: usize,
     table: &[u32],
     store: &mut [u32],
     bindings: &mut [u32],
     counts: &mut [u64],
-) {
+) -> io::Result<()> {
     let r = run_indexed_counted(
         table,
         store,
@@ -54,24 +59,26 @@ fn run_shared(
         counts,
     );
     show_counted(
+        out,
         r.ended,
         r.seen.patterns,
         r.seen.pairs,
         store,
         bindings,
         counts,
-    );
+    )
 }
 
 // A run with counts and a signature.
 fn run_signed(
+    out: &mut impl Write,
     given: Given,
     table: &[u32],
     store: &mut [u32],
     bindings: &mut [u32],
     counts: &mut [u64],
     signature: &[u32],
-) {
+) -> io::Result<()> {
     let r = run_counted_signed(
         table,
         store,
@@ -84,17 +91,19 @@ fn run_signed(
         signature,
     );
     show_counted(
+        out,
         r.ended,
         r.seen.patterns,
         r.seen.pairs,
         store,
         bindings,
         counts,
-    );
+    )
 }
 
 // The same with the index that stands behind the store's first words.
 fn run_shared_signed(
+    out: &mut impl Write,
     given: Given,
     own: usize,
     table: &[u32],
@@ -102,7 +111,7 @@ fn run_shared_signed(
     bindings: &mut [u32],
     counts: &mut [u64],
     signature: &[u32],
-) {
+) -> io::Result<()> {
     let r = run_indexed_counted_signed(
         table,
         store,
@@ -116,17 +125,19 @@ fn run_shared_signed(
         signature,
     );
     show_counted(
+        out,
         r.ended,
         r.seen.patterns,
         r.seen.pairs,
         store,
         bindings,
         counts,
-    );
+    )
 }
 
 // The run of a tag with a signature.
 fn run_obeying(
+    out: &mut impl Write,
     tag: u8,
     given: Given,
     own: usize,
@@ -135,16 +146,17 @@ fn run_obeying(
     bindings: &mut [u32],
     counts: &mut [u64],
     signature: &[u32],
-) {
+) -> io::Result<()> {
     if tag == b'x' {
-        run_signed(given, table, store, bindings, counts, signature);
+        run_signed(out, given, table, store, bindings, counts, signature)
     } else {
-        run_shared_signed(given, own, table, store, bindings, counts, signature);
+        run_shared_signed(out, given, own, table, store, bindings, counts, signature)
     }
 }
 
 // The same with the signature that stands behind the first `at` words, which are the table: whether there are so many.
 fn run_behind(
+    out: &mut impl Write,
     tag: u8,
     given: Given,
     own: usize,
@@ -152,12 +164,13 @@ fn run_behind(
     store: &mut [u32],
     bindings: &mut [u32],
     counts: &mut [u64],
-) -> bool {
+) -> io::Result<bool> {
     let at = given.argument as usize;
     if words.len() < at {
-        return false;
+        return Ok(false);
     }
     run_obeying(
+        out,
         tag,
         given,
         own,
@@ -166,12 +179,13 @@ fn run_behind(
         bindings,
         counts,
         &words[at..],
-    );
-    true
+    )?;
+    Ok(true)
 }
 
 // The run of a tag.
 fn run_tag(
+    out: &mut impl Write,
     tag: u8,
     given: Given,
     own: usize,
@@ -179,20 +193,21 @@ fn run_tag(
     store: &mut [u32],
     bindings: &mut [u32],
     counts: &mut [u64],
-) -> bool {
+) -> io::Result<bool> {
     if tag == b'v' {
-        run_plain(given, words, store, bindings, counts);
-        return true;
+        run_plain(out, given, words, store, bindings, counts)?;
+        return Ok(true);
     }
     if tag == b'y' {
-        run_shared(given, own, words, store, bindings, counts);
-        return true;
+        run_shared(out, given, own, words, store, bindings, counts)?;
+        return Ok(true);
     }
-    run_behind(tag, given, own, words, store, bindings, counts)
+    run_behind(out, tag, given, own, words, store, bindings, counts)
 }
 
 // The same with the counts that the text from `start` on asks for, the label behind them printed first.
 fn call_lent(
+    out: &mut impl Write,
     tag: u8,
     text: &[u8],
     start: usize,
@@ -202,15 +217,16 @@ fn call_lent(
     store: &mut [u32],
     bindings: &mut [u32],
     counts: &mut [u64],
-) -> bool {
+) -> io::Result<bool> {
     let label = make_counts(text, start, counts);
-    show_label(text, label);
-    run_tag(tag, given, own, table, store, bindings, counts)
+    show_label(out, text, label)?;
+    run_tag(out, tag, given, own, table, store, bindings, counts)
 }
 
 // The same in the part of a list that the case asks for, the words of the store standing at `start` and the length of the counts behind them:
 // whether it asks for no more than there is.
 fn call_parts(
+    out: &mut impl Write,
     tag: u8,
     text: &[u8],
     start: usize,
@@ -219,14 +235,15 @@ fn call_parts(
     store: &mut [u32],
     bindings: &mut [u32],
     counts: &mut [u64],
-) -> bool {
+) -> io::Result<bool> {
     let own = number(text, start);
     let length = number(text, own.next);
     let k = length.value as usize;
     if counts.len() < k {
-        return false;
+        return Ok(false);
     }
     call_lent(
+        out,
         tag,
         text,
         length.next,
@@ -241,6 +258,7 @@ fn call_parts(
 
 // The same with a list of its own: more than the counts of 4,096 entries.
 pub(crate) fn call_counted(
+    out: &mut impl Write,
     tag: u8,
     text: &[u8],
     start: usize,
@@ -248,9 +266,19 @@ pub(crate) fn call_counted(
     table: &[u32],
     store: &mut [u32],
     bindings: &mut [u32],
-) -> bool {
+) -> io::Result<bool> {
     let mut counts = [0u64; 16400];
-    call_parts(tag, text, start, given, table, store, bindings, &mut counts)
+    call_parts(
+        out,
+        tag,
+        text,
+        start,
+        given,
+        table,
+        store,
+        bindings,
+        &mut counts,
+    )
 }
 
 // Whether the tag is that of a run with counts.

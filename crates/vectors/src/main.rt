@@ -12,71 +12,94 @@
 
 use cases::input::{next_byte, read_line};
 use cases::numbers::number;
-use libc::{STDIN_FILENO, STDOUT_FILENO};
 use requests::answer_case;
+use std::io;
+use std::io::{BufReader, BufWriter, Read, Write};
 
 mod counted;
 mod requests;
 
 // Says that the input is broken.
-fn broken() -> bool {
-    io::write_all(STDOUT_FILENO, b"# broken\n");
-    false
+fn broken(out: &mut impl Write) -> io::Result<bool> {
+    out.write_all(b"# broken\n")?;
+    Ok(false)
 }
 
 // Reads a case as long as the buffer, and executes it.
 fn read_case(
+    reader: &mut impl Read,
+    out: &mut impl Write,
     tag: u8,
     text: &mut [u8],
     table: &mut [u32],
     store: &mut [u32],
     bindings: &mut [u32],
-) -> bool {
-    if io::read_full(STDIN_FILENO, text) != text.len() {
-        return broken();
+) -> io::Result<bool> {
+    if reader.read_exact(text).is_err() {
+        return broken(out);
     }
-    if next_byte() != 10 {
-        return broken();
+    if next_byte(reader) != 10 {
+        return broken(out);
     }
-    if answer_case(tag, text, table, store, bindings) {
-        return true;
+    if answer_case(out, tag, text, table, store, bindings)? {
+        return Ok(true);
     }
-    broken()
+    broken(out)
 }
 
 // Executes the next case, and says whether to go on.
-fn next_case(text: &mut [u8], table: &mut [u32], store: &mut [u32], bindings: &mut [u32]) -> bool {
+fn next_case(
+    reader: &mut impl Read,
+    out: &mut impl Write,
+    text: &mut [u8],
+    table: &mut [u32],
+    store: &mut [u32],
+    bindings: &mut [u32],
+) -> io::Result<bool> {
     let mut line = [0u8; 16];
-    if read_line(&mut line) == 0 {
-        return false;
+    if read_line(reader, &mut line) == 0 {
+        return Ok(false);
     }
     let length = number(&line, 2);
     let n = length.value as usize;
     if text.len() < n {
-        return broken();
+        return broken(out);
     }
-    read_case(line[0], &mut text[..n], table, store, bindings)
+    read_case(reader, out, line[0], &mut text[..n], table, store, bindings)
 }
 
 // The cases of standard input, in arrays that are one row longer than the longest that is not refused; behind a table there is
 // room for a signature. Nothing says that the
 // input ends, so the turns are counted down from a number that no run uses up.
 fn answer_all(
-    text: &mut [u8; 131072],
-    table: &mut [u32; 98320],
-    store: &mut [u32; 1048584],
-    bindings: &mut [u32; 80],
-) {
+    reader: &mut impl Read,
+    out: &mut impl Write,
+    text: &mut [u8],
+    table: &mut [u32],
+    store: &mut [u32],
+    bindings: &mut [u32],
+) -> io::Result<()> {
     let mut turns = u64::MAX;
-    while turns > 0 && next_case(text, table, store, bindings) {
+    while turns > 0 && next_case(reader, out, text, table, store, bindings)? {
         turns -= 1;
     }
+    Ok(())
 }
 
-fn main() {
-    let mut text = [0u8; 131072];
-    let mut table = [0u32; 98320];
-    let mut store = [0u32; 1048584];
+fn main(rt: HostRuntime) -> io::Result<()> {
+    let mut reader = BufReader::new(rt.alloc(), rt.reader())?;
+    let mut out = BufWriter::new(rt.alloc(), io::writer(&rt))?;
+    let mut text = vec![in rt.alloc(); 0u8; 131072]?;
+    let mut table = vec![in rt.alloc(); 0u32; 98320]?;
+    let mut store = vec![in rt.alloc(); 0u32; 1048584]?;
     let mut bindings = [0u32; 80];
-    answer_all(&mut text, &mut table, &mut store, &mut bindings);
+    answer_all(
+        &mut reader,
+        &mut out,
+        &mut text,
+        &mut table,
+        &mut store,
+        &mut bindings,
+    )?;
+    out.flush()
 }

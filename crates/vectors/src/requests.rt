@@ -1,13 +1,15 @@
 // The call of each tag.
 use crate::counted::{call_counted, is_counted};
 use cases::memory::{Given, clear_words, heads, make};
-use libc::STDOUT_FILENO;
 use plain_cases::{answer_plain, answer_text};
+use std::io;
+use std::io::Write;
 use stepped_cases::call_steps;
 
 // Prints the label, makes the call of a case and prints what it gives back. Of a run in steps the label comes after those, of a run with
 // counts after the counts.
 fn answer_made(
+    out: &mut impl Write,
     tag: u8,
     text: &[u8],
     next: usize,
@@ -15,57 +17,60 @@ fn answer_made(
     table: &mut [u32],
     store: &mut [u32],
     bindings: &mut [u32],
-) -> bool {
+) -> io::Result<bool> {
     if tag == b'p' {
-        return call_steps(text, next, given, table, store, bindings, false);
+        return call_steps(out, text, next, given, table, store, bindings, false);
     }
     if tag == b'q' {
-        return call_steps(text, next, given, table, store, bindings, true);
+        return call_steps(out, text, next, given, table, store, bindings, true);
     }
     if is_counted(tag) {
-        return call_counted(tag, text, next, given, table, store, bindings);
+        return call_counted(out, tag, text, next, given, table, store, bindings);
     }
-    answer_plain(tag, text, next, given, table, store, bindings)
+    answer_plain(out, tag, text, next, given, table, store, bindings)
 }
 
 // Makes the words of a case, prints its label and what its call gives back, and clears the words.
 fn answer_words(
+    out: &mut impl Write,
     tag: u8,
     text: &[u8],
     given: Given,
     table: &mut [u32],
     store: &mut [u32],
     bindings: &mut [u32],
-) -> bool {
+) -> io::Result<bool> {
     let next = make(text, given, table, store, bindings);
-    let known = answer_made(tag, text, next, given, table, store, bindings);
-    io::write_all(STDOUT_FILENO, b"\n");
+    let known = answer_made(out, tag, text, next, given, table, store, bindings)?;
+    out.write_all(b"\n")?;
     clear_words(table, store, bindings);
-    known
+    Ok(known)
 }
 
 // The same in the parts that the case asks for: whether it asks for no more than there is.
 fn answer_lent(
+    out: &mut impl Write,
     tag: u8,
     text: &[u8],
     table: &mut [u32],
     store: &mut [u32],
     bindings: &mut [u32],
-) -> bool {
+) -> io::Result<bool> {
     let given = heads(text);
     let t = given.table as usize;
     let s = given.store as usize;
     let b = given.bindings as usize;
     if table.len() < t {
-        return false;
+        return Ok(false);
     }
     if store.len() < s {
-        return false;
+        return Ok(false);
     }
     if bindings.len() < b {
-        return false;
+        return Ok(false);
     }
     answer_words(
+        out,
         tag,
         text,
         given,
@@ -77,14 +82,15 @@ fn answer_lent(
 
 // Executes a case: whether it is one.
 pub(crate) fn answer_case(
+    out: &mut impl Write,
     tag: u8,
     text: &[u8],
     table: &mut [u32],
     store: &mut [u32],
     bindings: &mut [u32],
-) -> bool {
+) -> io::Result<bool> {
     if tag == b'j' {
-        return answer_text(text);
+        return answer_text(out, text);
     }
-    answer_lent(tag, text, table, store, bindings)
+    answer_lent(out, tag, text, table, store, bindings)
 }
