@@ -34,6 +34,7 @@ module _ (f : ℕ → Bool) where
   unfolding all_calls
   calls-all (d ∷ cs) e c here = (and-true (f d.callee) _ e).0
   calls-all (d ∷ cs) e c (there i) = calls-all cs (and-true (f d.callee) _ e).1 c i
+  calls-all [] e c x'' = elim x'' [ ]
 
   all-calls : (cs : List Condition) → ((c : Condition) → Among c cs → f c.callee ≡ true) → all_calls f cs ≡ true
   unfolding all_calls

@@ -127,6 +127,8 @@ module _ (T : Table) {e : ℕ} {t : Term} {b : Env} where
 
   asked-lack : {v : ℕ} → Begun T (ask keep (apply e t b) ret fail) (at-unbound v) → Begun T (does T (apply e t b)) (at-unbound v)
   asked-lack (b-in c) = c
+  asked-lack {v = v} (b-yes {h = h} _ x12) = elim x12 [ ]
+  asked-lack {v = v} (b-no _ x13) = elim x13 [ ]
 
 given : {T : Table} {p : Do Term} {o : Out Term Env} → Gives T p (out o) → Der terms (does T) p o
 given (gives d) = d
@@ -223,6 +225,8 @@ only-ends : (T : Table) {b b' : Env} {t : Term} {p : Do Term} → Only b p → D
 only-ends T only-ret d-ret = refl
 only-ends T (only-ask i j) (d-yes {h = h} {b = c} d d') = only-ends T (i h c) d'
 only-ends T (only-ask i j) (d-no d d') = only-ends T j d'
+only-ends T {b = b} {t = t} only-fail x3 = elim x3 [ ]
+only-ends T {b = b} {t = t} (only-stuck {v = v}) x4 = elim x4 [ ]
 
 -- All bindings come back as at the start.
 pub rule-keeps : RuleKeeps
