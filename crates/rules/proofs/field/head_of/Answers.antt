@@ -5,9 +5,6 @@ use lib.ListN.{length, take, drop}
 use Rattle.text.specs.Held.{value_of}
 use Rattle.rules.proofs.Scanning.{head-empty, head-v, head-c, con-small, con-large, all_after}
 use borrow.Author.Rules.{rules}
-use Rattle.rules.proofs.field.head_of.Reads as reads
-use Rattle.rules.proofs.field.head_of.Lts as lts
-use Rattle.text.proofs.field.number.Reads as number-reads
 use Rattle.rules.proofs.field.head_of.Goals as goal
 
 -- src/field.rt:20:9

@@ -7,27 +7,7 @@ use lib.ListN.{length}
 use native.Mathlib.Omega.{arith}
 use Prim.Native.Nat.{◌+◌, ◌-◌}
 use mathlib.Core.Path.{sym, ◌∙◌, ap}
-use Rattle.rules.proofs.term.term_at.Reads as term-at-reads
-use Rattle.rules.proofs.shape.broken.Reads as broken-reads
-use Rattle.rules.proofs.condition.condition_at.Reads as condition-at-reads
-use Rattle.rules.proofs.shape.shape_of.Reads as reads
-use Rattle.rules.proofs.shape.shape_of.Lts as lts
 use Rattle.rules.proofs.shape.shape_of.Goals as goal
-
--- ---- the places that the proof speaks of
-abbrev calls : lts.Claims
-calls = (term-at-reads.Asked, term-at-reads.Learnt, broken-reads.Asked, broken-reads.Learnt, condition-at-reads.Asked, condition-at-reads.Learnt)
-
-abbrev Read : Type 0
-Read = lts.Else1 calls reads.Pre reads.Post invariant-loop decreases-loop
-
--- the left side is read
-module _ (c : Read) where
-  abbrev left_at : lts.After-term-at calls reads.Pre reads.Post invariant-loop decreases-loop
-  left_at = c.before.before
-
-  abbrev start : lts.Start calls reads.Pre reads.Post invariant-loop decreases-loop
-  start = left_at.before.before
 
 pub broken-requires : goal.broken-requires
 broken-requires c =
@@ -43,50 +23,50 @@ returns-then-not-left c =
 
 pub overflow_add-fields : goal.overflow_add-fields
 overflow_add-fields c =
-    let g = term-goodly (omega arith) (term_found (start c.before.before.before).args.line.now 0 (left_at c.before.before.before).term-at.result (left_at c.before.before.before).term-at.ensures)
+    let g = term-goodly (omega arith) (term_found c.args.line.now 0 c.term_at-left.result c.term_at-left.ensures)
     (not-false _ c.if-not-left.false) in
-    let b = term-inside g.inside (term_found (start c.before.before.before).args.line.now (left_at c.before.before.before).term-at.result.at c.term_at-right.result
+    let b = term-inside g.inside (term_found c.args.line.now c.term_at-left.result.at c.term_at-right.result
     c.term_at-right.ensures) in
     omega (arith, g.on, b)
 
 pub broken-requires-then-not-right : goal.broken-requires-then-not-right
 broken-requires-then-not-right c =
-    let g = term-goodly (omega arith) (term_found (start c.before.before.before.before.before).args.line.now 0 (left_at c.before.before.before.before.before).term-at.result (left_at c.before.before.before.before.before).term-at.ensures)
+    let g = term-goodly (omega arith) (term_found c.args.line.now 0 c.term_at-left.result c.term_at-left.ensures)
     (not-false _ c.if-not-left.false) in
-    let b = term-inside g.inside (term_found (start c.before.before.before.before.before).args.line.now (left_at c.before.before.before.before.before).term-at.result.at c.term_at-right.result
+    let b = term-inside g.inside (term_found c.args.line.now c.term_at-left.result.at c.term_at-right.result
     c.term_at-right.ensures) in
     omega (arith, g.on, b)
 
 pub returns-then-not-right : goal.returns-then-not-right
 returns-then-not-right c =
     c.broken-then-not-right.ensures ∙ ap shape_of
-    (sym (right-bad (start c.before.before.before.before.before.before).args.line.now (left_at c.before.before.before.before.before.before).term-at.result
-    (term_found (start c.before.before.before.before.before.before).args.line.now 0 (left_at c.before.before.before.before.before.before).term-at.result (left_at c.before.before.before.before.before.before).term-at.ensures)
+    (sym (right-bad c.args.line.now c.term_at-left.result
+    (term_found c.args.line.now 0 c.term_at-left.result c.term_at-left.ensures)
     (not-false _ c.if-not-left.false) c.term_at-right.result
-    (term_found (start c.before.before.before.before.before.before).args.line.now (left_at c.before.before.before.before.before.before).term-at.result.at c.term_at-right.result
+    (term_found c.args.line.now c.term_at-left.result.at c.term_at-right.result
     c.term_at-right.ensures) (not-true _ c.if-not-right.true)))
 
 pub overflow_add-size : goal.overflow_add-size
 overflow_add-size c =
-    let g = term-goodly (omega arith) (term_found (start c.before.before.before.before.before.before).args.line.now 0 (left_at c.before.before.before.before.before.before).term-at.result (left_at c.before.before.before.before.before.before).term-at.ensures)
+    let g = term-goodly (omega arith) (term_found c.args.line.now 0 c.term_at-left.result c.term_at-left.ensures)
     (not-false _ c.if-not-left.false) in
     omega (arith, g.on, g.entries, g.inside)
 
 pub overflow_add-size-2 : goal.overflow_add-size-2
 overflow_add-size-2 c =
-    let g = term-goodly (omega arith) (term_found (start c.before.before.before.before.before.before.before).args.line.now 0 (left_at c.before.before.before.before.before.before.before).term-at.result (left_at c.before.before.before.before.before.before.before).term-at.ensures)
+    let g = term-goodly (omega arith) (term_found c.args.line.now 0 c.term_at-left.result c.term_at-left.ensures)
     (not-false _ c.if-not-left.false) in
-    let k = term-goodly g.inside (term_found (start c.before.before.before.before.before.before.before).args.line.now (left_at c.before.before.before.before.before.before.before).term-at.result.at c.term_at-right.result
+    let k = term-goodly g.inside (term_found c.args.line.now c.term_at-left.result.at c.term_at-right.result
     c.term_at-right.ensures)
     (not-false _ c.if-not-right.false) in
     omega (arith, g.on, g.entries, k.on, k.entries, k.inside)
 
 pub loop-at-init : goal.loop-at-init
 loop-at-init c =
-    shaping-begins (start c.before.before.before.before.before.before.before).args.line.now (left_at c.before.before.before.before.before.before.before).term-at.result
-    (term_found (start c.before.before.before.before.before.before.before).args.line.now 0 (left_at c.before.before.before.before.before.before.before).term-at.result (left_at c.before.before.before.before.before.before.before).term-at.ensures)
+    shaping-begins c.args.line.now c.term_at-left.result
+    (term_found c.args.line.now 0 c.term_at-left.result c.term_at-left.ensures)
     (not-false _ c.if-not-left.false) c.term_at-right.result
-    (term_found (start c.before.before.before.before.before.before.before).args.line.now (left_at c.before.before.before.before.before.before.before).term-at.result.at c.term_at-right.result
+    (term_found c.args.line.now c.term_at-left.result.at c.term_at-right.result
     c.term_at-right.ensures) (not-false _ c.if-not-right.false)
 
 pub condition_at-c-requires : goal.condition_at-c-requires
@@ -95,13 +75,13 @@ condition_at-c-requires c =
 
 pub overflow_add-fields-in-loop-at : goal.overflow_add-fields-in-loop-at
 overflow_add-fields-in-loop-at c =
-    let b = condition-inside (start c.before.before.before.before.before.before.before.before.before.before.before).args.line.now c.loop-at.at c.loop-at-test.true
+    let b = condition-inside c.args.line.now c.loop-at.at c.loop-at-test.true
     c.condition_at-c.result c.condition_at-c.ensures in
     omega (arith, c.loop-at.invariant.few, b)
 
 pub broken-requires-then-not-c : goal.broken-requires-then-not-c
 broken-requires-then-not-c c =
-    let b = condition-inside (start c.before.before.before.before.before.before.before.before.before.before.before.before.before).args.line.now c.loop-at.at c.loop-at-test.true
+    let b = condition-inside c.args.line.now c.loop-at.at c.loop-at-test.true
     c.condition_at-c.result c.condition_at-c.ensures in
     omega (arith, c.loop-at.invariant.few, b)
 
@@ -112,13 +92,13 @@ returns-then-not-c c =
 
 pub overflow_add-size-in-loop-at : goal.overflow_add-size-in-loop-at
 overflow_add-size-in-loop-at c =
-    omega (arith, (start c.before.before.before.before.before.before.before.before.before.before.before.before.before).well-formed, c.loop-at.invariant.small, c.loop-at.invariant.inside)
+    omega (arith, c.loop-at.invariant.small, c.loop-at.invariant.inside)
 
 pub overflow_add-size-in-loop-at-2 : goal.overflow_add-size-in-loop-at-2
 overflow_add-size-in-loop-at-2 c =
     let n = shaping-on c.loop-at.invariant c.condition_at-c.result c.condition_at-c.ensures
     (not-false _ c.if-not-c.false) in
-    omega (arith, (start c.before.before.before.before.before.before.before.before.before.before.before.before.before.before).well-formed, n.0.small, n.0.inside)
+    omega (arith, n.0.small, n.0.inside)
 
 pub loop-at-smaller : goal.loop-at-smaller
 loop-at-smaller c =
@@ -134,7 +114,7 @@ loop-at-preserved c =
 
 pub overflow_add-result : goal.overflow_add-result
 overflow_add-result c =
-    omega (arith, (start c.before.before.before.before.before.before.before.before.before).well-formed, c.loop-at.invariant.few, c.loop-at.invariant.inside)
+    omega (arith, c.loop-at.invariant.few, c.loop-at.invariant.inside)
 
 pub returns : goal.returns
 returns c =

@@ -8,11 +8,6 @@ use lib.ListN.{length}
 use native.Mathlib.Omega.{arith}
 use Prim.Native.Nat.{◌+◌, ◌-◌}
 use mathlib.Core.Path.{sym, ◌∙◌, ap}
-use Rattle.rules.proofs.term.term_at.Reads as term-at-reads
-use Rattle.rules.proofs.shape.broken.Reads as broken-reads
-use Rattle.rules.proofs.condition.condition_at.Reads as condition-at-reads
-use Rattle.rules.proofs.shape.shape_of.Reads as reads
-use Rattle.rules.proofs.shape.shape_of.Lts as lts
 use Rattle.rules.proofs.shape.shape_of.Given as goal
 
 abbrev pub invariant-loop-at : goal.invariant-loop-at

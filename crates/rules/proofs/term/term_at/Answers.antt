@@ -7,33 +7,8 @@ use Rattle.rules.specs.Held.{head_held}
 use Rattle.rules.specs.Scan.{fields_from, scanned}
 use Rattle.rules.proofs.Scanning.{end-within, scan-end, scan-past, count_past, scan-neither, scan-variable, scan-constructor}
 use Rattle.rules.proofs.Scanning.{scan-bad-count, scan-count, constructor-long}
-use Rattle.text.proofs.field.next_at.Reads as next-at-reads
-use Rattle.rules.proofs.field.head_of.Reads as head-of-reads
-use Rattle.rules.proofs.field.children.Reads as children-reads
-use Rattle.rules.proofs.term.term_at.Reads as reads
-use Rattle.rules.proofs.term.term_at.Lts as lts
 use Rattle.rules.proofs.term.term_at.Goals as goal
 
--- ---- the place that the proof speaks of most: a field is found
-abbrev calls : lts.Claims
-calls = (next-at-reads.Asked, next-at-reads.Learnt, head-of-reads.Asked, head-of-reads.Learnt, children-reads.Asked, children-reads.Learnt)
-
-abbrev Found : Type 0
-Found = lts.After-next-at calls reads.Pre reads.Post invariant-loop decreases-loop
-
--- the field at `at` is found
-module _ (c : Found) where
-  abbrev turn : lts.At-loop calls reads.Pre reads.Post invariant-loop decreases-loop
-  turn = c.before.before.before
-
-  abbrev start : lts.Start calls reads.Pre reads.Post invariant-loop decreases-loop
-  start = turn.before.before
-
-  -- the field at `at` ends within the line
-  in-line : (turn.loop.at ≤ c.next-at.result) × (c.next-at.result ≤ length start.args.line.now)
-  in-line = end-within start.args.line.now turn.loop.at c.next-at.result c.before.if1.false c.next-at.ensures
-
--- ---- the needs
 pub loop-wanted-init : goal.loop-wanted-init
 loop-wanted-init c = (refl, omega arith, omega arith, omega arith)
 
@@ -45,28 +20,28 @@ returns-then-line-at c =
 
 pub slice_bounds-head_of-count : goal.slice_bounds-head_of-count
 slice_bounds-head_of-count c =
-    let h = in-line c in
+    let h = end-within c.args.line.now c.loop-wanted.at c.next_at-end.result c.if-line-at.false c.next_at-end.ensures in
     omega arith
 
 pub slice_bounds-head_of-start : goal.slice_bounds-head_of-start
 slice_bounds-head_of-start c =
-    let h = in-line c in
+    let h = end-within c.args.line.now c.loop-wanted.at c.next_at-end.result c.if-line-at.false c.next_at-end.ensures in
     omega arith
 
 pub slice_bounds-head_of-end : goal.slice_bounds-head_of-end
 slice_bounds-head_of-end c =
-    let h = in-line c in
+    let h = end-within c.args.line.now c.loop-wanted.at c.next_at-end.result c.if-line-at.false c.next_at-end.ensures in
     omega arith
 
 pub returns-in-Neither : goal.returns-in-Neither
 returns-in-Neither c =
-    sym (scan-neither (start c.before.before.before.before).args.line.now (turn c.before.before.before.before).loop.at c.next_at-end.result c.if-line-at.false c.next_at-end.ensures (turn c.before.before.before.before).loop.wanted
-    (turn c.before.before.before.before).loop.fields (turn c.before.before.before.before).loop.size c.loop-wanted-test.true
-    (sym (ap head_held c.in-Neither.is) ∙ c.head_of-first.ensures)) ∙ (turn c.before.before.before.before).loop.invariant.0
+    sym (scan-neither c.args.line.now c.loop-wanted.at c.next_at-end.result c.if-line-at.false c.next_at-end.ensures c.loop-wanted.wanted
+    c.loop-wanted.fields c.loop-wanted.size c.loop-wanted-test.true
+    (sym (ap head_held c.in-Neither.is) ∙ c.head_of-first.ensures)) ∙ c.loop-wanted.invariant.0
 
 pub overflow_add-at : goal.overflow_add-at
 overflow_add-at c =
-    let h = in-line c.before.before.before.before.before in
+    let h = end-within c.args.line.now c.loop-wanted.at c.next_at-end.result c.if-line-at.false c.next_at-end.ensures in
     omega arith
 
 pub overflow_add-fields : goal.overflow_add-fields
@@ -80,16 +55,16 @@ overflow_sub-wanted c = omega arith
 
 pub loop-wanted-smaller-in-Variable : goal.loop-wanted-smaller-in-Variable
 loop-wanted-smaller-in-Variable c =
-    let h = in-line c.before.before.before.before.before in
+    let h = end-within c.args.line.now c.loop-wanted.at c.next_at-end.result c.if-line-at.false c.next_at-end.ensures in
     omega arith
 
 pub loop-wanted-preserved-in-Variable : goal.loop-wanted-preserved-in-Variable
 loop-wanted-preserved-in-Variable c =
-    let h = in-line c.before.before.before.before.before in (
-      sym (scan-variable (start c.before.before.before.before.before).args.line.now (turn c.before.before.before.before.before).loop.at c.next_at-end.result c.if-line-at.false c.next_at-end.ensures (turn c.before.before.before.before.before).loop.wanted
-          (turn c.before.before.before.before.before).loop.fields (turn c.before.before.before.before.before).loop.size c.loop-wanted-test.true c.in-Variable._v
+    let h = end-within c.args.line.now c.loop-wanted.at c.next_at-end.result c.if-line-at.false c.next_at-end.ensures in (
+      sym (scan-variable c.args.line.now c.loop-wanted.at c.next_at-end.result c.if-line-at.false c.next_at-end.ensures c.loop-wanted.wanted
+          c.loop-wanted.fields c.loop-wanted.size c.loop-wanted-test.true c.in-Variable._v
           (sym (ap head_held c.in-Variable.is)
-          ∙ c.head_of-first.ensures)) ∙ (turn c.before.before.before.before.before).loop.invariant.0,
+          ∙ c.head_of-first.ensures)) ∙ c.loop-wanted.invariant.0,
       omega arith,
       omega arith,
       omega arith,
@@ -97,7 +72,7 @@ loop-wanted-preserved-in-Variable c =
 
 pub overflow_add-at-in-Constructor : goal.overflow_add-at-in-Constructor
 overflow_add-at-in-Constructor c =
-    let h = in-line c.before.before.before.before.before in
+    let h = end-within c.args.line.now c.loop-wanted.at c.next_at-end.result c.if-line-at.false c.next_at-end.ensures in
     omega arith
 
 pub overflow_add-fields-in-Constructor : goal.overflow_add-fields-in-Constructor
@@ -105,47 +80,47 @@ overflow_add-fields-in-Constructor c = omega arith
 
 pub returns-then-line-at-2 : goal.returns-then-line-at-2
 returns-then-line-at-2 c =
-    sym (scan-constructor (start c.before.before.before.before.before.before).args.line.now (turn c.before.before.before.before.before.before).loop.at c.next_at-end.result c.if-line-at.false c.next_at-end.ensures (turn c.before.before.before.before.before.before).loop.wanted
-    (turn c.before.before.before.before.before.before).loop.fields (turn c.before.before.before.before.before.before).loop.size c.loop-wanted-test.true c.in-Constructor._c
+    sym (scan-constructor c.args.line.now c.loop-wanted.at c.next_at-end.result c.if-line-at.false c.next_at-end.ensures c.loop-wanted.wanted
+    c.loop-wanted.fields c.loop-wanted.size c.loop-wanted-test.true c.in-Constructor._c
     (sym (ap head_held c.in-Constructor.is)
     ∙ c.head_of-first.ensures)
-    ∙ count_past (start c.before.before.before.before.before.before).args.line.now (c.next_at-end.result + 1) ((turn c.before.before.before.before.before.before).loop.wanted - 1) ((turn c.before.before.before.before.before.before).loop.fields + 1)
-    (turn c.before.before.before.before.before.before).loop.size c.if-line-at-2.true) ∙ (turn c.before.before.before.before.before.before).loop.invariant.0
+    ∙ count_past c.args.line.now (c.next_at-end.result + 1) (c.loop-wanted.wanted - 1) (c.loop-wanted.fields + 1)
+    c.loop-wanted.size c.if-line-at-2.true) ∙ c.loop-wanted.invariant.0
 
 pub slice_bounds-children-count : goal.slice_bounds-children-count
 slice_bounds-children-count c =
-    let h = end-within (start c.before.before.before.before.before.before.before).args.line.now (c.next_at-end.result + 1) c.next_at-stop.result c.if-line-at-2.false c.next_at-stop.ensures in
+    let h = end-within c.args.line.now (c.next_at-end.result + 1) c.next_at-stop.result c.if-line-at-2.false c.next_at-stop.ensures in
     omega arith
 
 pub slice_bounds-children-start : goal.slice_bounds-children-start
 slice_bounds-children-start c =
-    let h = end-within (start c.before.before.before.before.before.before.before).args.line.now (c.next_at-end.result + 1) c.next_at-stop.result c.if-line-at-2.false c.next_at-stop.ensures in
+    let h = end-within c.args.line.now (c.next_at-end.result + 1) c.next_at-stop.result c.if-line-at-2.false c.next_at-stop.ensures in
     omega arith
 
 pub slice_bounds-children-end : goal.slice_bounds-children-end
 slice_bounds-children-end c =
-    let h = end-within (start c.before.before.before.before.before.before.before).args.line.now (c.next_at-end.result + 1) c.next_at-stop.result c.if-line-at-2.false c.next_at-stop.ensures in
+    let h = end-within c.args.line.now (c.next_at-end.result + 1) c.next_at-stop.result c.if-line-at-2.false c.next_at-stop.ensures in
     omega arith
 
 pub returns-then-n-eq7 : goal.returns-then-n-eq7
 returns-then-n-eq7 c =
-    sym (scan-constructor (start c.before.before.before.before.before.before.before.before.before.before).args.line.now (turn c.before.before.before.before.before.before.before.before.before.before).loop.at c.next_at-end.result c.if-line-at.false c.next_at-end.ensures (turn c.before.before.before.before.before.before.before.before.before.before).loop.wanted
-    (turn c.before.before.before.before.before.before.before.before.before.before).loop.fields (turn c.before.before.before.before.before.before.before.before.before.before).loop.size c.loop-wanted-test.true c.in-Constructor._c
+    sym (scan-constructor c.args.line.now c.loop-wanted.at c.next_at-end.result c.if-line-at.false c.next_at-end.ensures c.loop-wanted.wanted
+    c.loop-wanted.fields c.loop-wanted.size c.loop-wanted-test.true c.in-Constructor._c
     (sym (ap head_held c.in-Constructor.is)
     ∙ c.head_of-first.ensures)
-    ∙ scan-bad-count (start c.before.before.before.before.before.before.before.before.before.before).args.line.now (c.next_at-end.result + 1) c.next_at-stop.result c.if-line-at-2.false
+    ∙ scan-bad-count c.args.line.now (c.next_at-end.result + 1) c.next_at-stop.result c.if-line-at-2.false
     c.next_at-stop.ensures
-    ((turn c.before.before.before.before.before.before.before.before.before.before).loop.wanted - 1) ((turn c.before.before.before.before.before.before.before.before.before.before).loop.fields + 1) (turn c.before.before.before.before.before.before.before.before.before.before).loop.size (sym c.if-n-eq7.true ∙ c.children-n.ensures)) ∙ (turn c.before.before.before.before.before.before.before.before.before.before).loop.invariant.0
+    (c.loop-wanted.wanted - 1) (c.loop-wanted.fields + 1) c.loop-wanted.size (sym c.if-n-eq7.true ∙ c.children-n.ensures)) ∙ c.loop-wanted.invariant.0
 
 pub overflow_add-at-in-Constructor-2 : goal.overflow_add-at-in-Constructor-2
 overflow_add-at-in-Constructor-2 c =
-    let h = end-within (start c.before.before.before.before.before.before.before.before.before.before).args.line.now (c.next_at-end.result + 1) c.next_at-stop.result c.if-line-at-2.false
+    let h = end-within c.args.line.now (c.next_at-end.result + 1) c.next_at-stop.result c.if-line-at-2.false
     c.next_at-stop.ensures in
     omega arith
 
 pub overflow_add-fields-in-Constructor-2 : goal.overflow_add-fields-in-Constructor-2
 overflow_add-fields-in-Constructor-2 c =
-    let h = in-line c.before.before.before.before.before.before.before.before.before.before in
+    let h = end-within c.args.line.now c.loop-wanted.at c.next_at-end.result c.if-line-at.false c.next_at-end.ensures in
     omega arith
 
 pub overflow_add-size-in-Constructor : goal.overflow_add-size-in-Constructor
@@ -156,42 +131,42 @@ overflow_sub-wanted-in-Constructor c = omega arith
 
 pub overflow_add-wanted : goal.overflow_add-wanted
 overflow_add-wanted c =
-    let h = in-line c.before.before.before.before.before.before.before.before.before.before in
-    let i = end-within (start c.before.before.before.before.before.before.before.before.before.before).args.line.now (c.next_at-end.result + 1) c.next_at-stop.result c.if-line-at-2.false
+    let h = end-within c.args.line.now c.loop-wanted.at c.next_at-end.result c.if-line-at.false c.next_at-end.ensures in
+    let i = end-within c.args.line.now (c.next_at-end.result + 1) c.next_at-stop.result c.if-line-at-2.false
     c.next_at-stop.ensures in
     let e = sym (ap head_held c.in-Constructor.is) ∙ c.head_of-first.ensures in
-    let j = constructor-long (start c.before.before.before.before.before.before.before.before.before.before).args.line.now (turn c.before.before.before.before.before.before.before.before.before.before).loop.at c.next_at-end.result c.if-line-at.false c.next_at-end.ensures
-    (turn c.before.before.before.before.before.before.before.before.before.before).loop.wanted
-    (turn c.before.before.before.before.before.before.before.before.before.before).loop.fields (turn c.before.before.before.before.before.before.before.before.before.before).loop.size c.in-Constructor._c e in
-    let k = scan-count (start c.before.before.before.before.before.before.before.before.before.before).args.line.now (c.next_at-end.result + 1) c.next_at-stop.result c.if-line-at-2.false
+    let j = constructor-long c.args.line.now c.loop-wanted.at c.next_at-end.result c.if-line-at.false c.next_at-end.ensures
+    c.loop-wanted.wanted
+    c.loop-wanted.fields c.loop-wanted.size c.in-Constructor._c e in
+    let k = scan-count c.args.line.now (c.next_at-end.result + 1) c.next_at-stop.result c.if-line-at-2.false
     c.next_at-stop.ensures
-    ((turn c.before.before.before.before.before.before.before.before.before.before).loop.wanted - 1) ((turn c.before.before.before.before.before.before.before.before.before.before).loop.fields + 1) (turn c.before.before.before.before.before.before.before.before.before.before).loop.size c.children-n.result
+    (c.loop-wanted.wanted - 1) (c.loop-wanted.fields + 1) c.loop-wanted.size c.children-n.result
     c.children-n.ensures c.if-n-eq7.false in
-    omega (arith, k.1, (turn c.before.before.before.before.before.before.before.before.before.before).loop.invariant, (start c.before.before.before.before.before.before.before.before.before.before).well-formed, (start c.before.before.before.before.before.before.before.before.before.before).ranges)
+    omega (arith, k.1, c.loop-wanted.invariant)
 
 pub loop-wanted-smaller : goal.loop-wanted-smaller
 loop-wanted-smaller c =
-    let h = in-line c.before.before.before.before.before.before.before.before.before.before in
-    let i = end-within (start c.before.before.before.before.before.before.before.before.before.before).args.line.now (c.next_at-end.result + 1) c.next_at-stop.result c.if-line-at-2.false
+    let h = end-within c.args.line.now c.loop-wanted.at c.next_at-end.result c.if-line-at.false c.next_at-end.ensures in
+    let i = end-within c.args.line.now (c.next_at-end.result + 1) c.next_at-stop.result c.if-line-at-2.false
     c.next_at-stop.ensures in
     omega arith
 
 pub loop-wanted-preserved : goal.loop-wanted-preserved
 loop-wanted-preserved c =
-    let h = in-line c.before.before.before.before.before.before.before.before.before.before in
-    let i = end-within (start c.before.before.before.before.before.before.before.before.before.before).args.line.now (c.next_at-end.result + 1) c.next_at-stop.result c.if-line-at-2.false
+    let h = end-within c.args.line.now c.loop-wanted.at c.next_at-end.result c.if-line-at.false c.next_at-end.ensures in
+    let i = end-within c.args.line.now (c.next_at-end.result + 1) c.next_at-stop.result c.if-line-at-2.false
     c.next_at-stop.ensures in
     let e = sym (ap head_held c.in-Constructor.is) ∙ c.head_of-first.ensures in
-    let j = constructor-long (start c.before.before.before.before.before.before.before.before.before.before).args.line.now (turn c.before.before.before.before.before.before.before.before.before.before).loop.at c.next_at-end.result c.if-line-at.false c.next_at-end.ensures
-    (turn c.before.before.before.before.before.before.before.before.before.before).loop.wanted
-    (turn c.before.before.before.before.before.before.before.before.before.before).loop.fields (turn c.before.before.before.before.before.before.before.before.before.before).loop.size c.in-Constructor._c e in
-    let k = scan-count (start c.before.before.before.before.before.before.before.before.before.before).args.line.now (c.next_at-end.result + 1) c.next_at-stop.result c.if-line-at-2.false
+    let j = constructor-long c.args.line.now c.loop-wanted.at c.next_at-end.result c.if-line-at.false c.next_at-end.ensures
+    c.loop-wanted.wanted
+    c.loop-wanted.fields c.loop-wanted.size c.in-Constructor._c e in
+    let k = scan-count c.args.line.now (c.next_at-end.result + 1) c.next_at-stop.result c.if-line-at-2.false
     c.next_at-stop.ensures
-    ((turn c.before.before.before.before.before.before.before.before.before.before).loop.wanted - 1) ((turn c.before.before.before.before.before.before.before.before.before.before).loop.fields + 1) (turn c.before.before.before.before.before.before.before.before.before.before).loop.size c.children-n.result
+    (c.loop-wanted.wanted - 1) (c.loop-wanted.fields + 1) c.loop-wanted.size c.children-n.result
     c.children-n.ensures c.if-n-eq7.false in (
-      sym (scan-constructor (start c.before.before.before.before.before.before.before.before.before.before).args.line.now (turn c.before.before.before.before.before.before.before.before.before.before).loop.at c.next_at-end.result c.if-line-at.false c.next_at-end.ensures
-          (turn c.before.before.before.before.before.before.before.before.before.before).loop.wanted
-          (turn c.before.before.before.before.before.before.before.before.before.before).loop.fields (turn c.before.before.before.before.before.before.before.before.before.before).loop.size c.loop-wanted-test.true c.in-Constructor._c e ∙ k.0) ∙ (turn c.before.before.before.before.before.before.before.before.before.before).loop.invariant.0,
+      sym (scan-constructor c.args.line.now c.loop-wanted.at c.next_at-end.result c.if-line-at.false c.next_at-end.ensures
+          c.loop-wanted.wanted
+          c.loop-wanted.fields c.loop-wanted.size c.loop-wanted-test.true c.in-Constructor._c e ∙ k.0) ∙ c.loop-wanted.invariant.0,
       omega arith,
       omega arith,
       omega (arith, k.1),

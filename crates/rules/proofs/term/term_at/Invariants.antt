@@ -9,11 +9,6 @@ use Rattle.rules.specs.Held.{head_held}
 use Rattle.rules.specs.Scan.{fields_from, scanned}
 use Rattle.rules.proofs.Scanning.{end-within, scan-end, scan-past, count_past, scan-neither, scan-variable, scan-constructor}
 use Rattle.rules.proofs.Scanning.{scan-bad-count, scan-count, constructor-long}
-use Rattle.text.proofs.field.next_at.Reads as next-at-reads
-use Rattle.rules.proofs.field.head_of.Reads as head-of-reads
-use Rattle.rules.proofs.field.children.Reads as children-reads
-use Rattle.rules.proofs.term.term_at.Reads as reads
-use Rattle.rules.proofs.term.term_at.Lts as lts
 use Rattle.rules.proofs.term.term_at.Given as goal
 
 abbrev pub invariant-loop-wanted : goal.invariant-loop-wanted
