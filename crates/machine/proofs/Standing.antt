@@ -15,6 +15,11 @@ use Rattle.turns.specs.Ways.{kids}
 use Rattle.machine.specs.declared.Machine.{Machine}
 use Rattle.machine.specs.Machine.{standing_for, Node}
 
+-- what is not found at a node is not found
+pub nothing : (f : Found) → ((y : ℕ) → f ≡ At y → ⊥) → f ≡ Nothing
+nothing (At y) no_node = absurd (no_node y refl)
+nothing Nothing no_node = refl
+
 module _ (sh : Bool) (w : List ℕ) (i : ℕ) (m : Machine) (r : List ℕ) where
   -- nodes are not shared: none stands
   pub none-shared : sh ≡ false → standing_for sh w m r ≡ none

@@ -11,8 +11,7 @@ use Rattle.machine.proofs.go.Reads as reads
 use Rattle.machine.proofs.go.Lts as lts
 use Rattle.machine.proofs.turned.Reads as turned-reads
 use Rattle.machine.proofs.go.Goals as goal
-use Rattle.machine.proofs.go.Goals.{Joined-m-lt4}
-use Rattle.machine.proofs.go.Goals.{else-m-lt4, then-m-lt4}
+use Rattle.machine.proofs.go.Goals.{else-m-lt4+else-m-gt5+else-m-eq0, then-m-lt4+else-m-stop+else-m-gt4095}
 
 pub loop-m-init : goal.loop-m-init
 loop-m-init c = (none_yet c.requires.0 c.requires.1 c.requires.2 c.requires.3, λ _. (refl, refl, refl))
@@ -70,15 +69,19 @@ returns-then-m-eq0 c =
 pub overflow_sub-i : goal.overflow_sub-i
 overflow_sub-i c = ⊎_elim (λ z. omega arith) (λ z. absurd (c.if-m-eq0.false (omega arith))) (below-or-from 0 c.loop-m.m.level)
 
--- how a turn comes
-comes : (c : Joined-m-lt4) → Comes c.loop-m.m c.args.stop c.if-m-lt4.m c.if-m-lt4.i
-comes c =
-    elim c.if-m-lt4.branch [ then-m-lt4 w ↦ subst (λ m. Comes c.loop-m.m c.args.stop m c.if-m-lt4.i) (sym w.6) (subst (λ (i : ℕ). Comes c.loop-m.m c.args.stop (spent c.loop-m.m) i) (sym w.7) (counted w.0.taken w.2.left (omega (arith, w.4.left)))) | else-m-lt4 w ↦ subst (λ m. Comes c.loop-m.m c.args.stop m c.if-m-lt4.i) (sym w.6) (subst (λ (i : ℕ). Comes c.loop-m.m c.args.stop c.loop-m.m i) (sym w.7) (told (omega (arith, w.0.left)) (omega
-    (arith, w.2.left)) w.4.left)) ]
-
 pub turned-m-requires : goal.turned-m-requires
 turned-m-requires c =
-    let d = deep-enough c.loop-m.invariant.0 _ _ (comes c.before.before) in
+    -- how the turn comes
+    let comes : Comes c.loop-m.m c.args.stop c.if-m-lt4.m c.if-m-lt4.i =
+    elim c.if-m-lt4.branch [
+      | then-m-lt4+else-m-stop+else-m-gt4095 w ↦
+          subst (λ m. Comes c.loop-m.m c.args.stop m c.if-m-lt4.i) (sym w.m-is) (subst (λ (i : ℕ). Comes c.loop-m.m c.args.stop (spent c.loop-m.m) i) (sym w.i-is)
+          (counted w.if-m-lt4.true w.if-m-stop.false (omega (arith, w.if-m-gt4095.false))))
+      | else-m-lt4+else-m-gt5+else-m-eq0 w ↦
+          subst (λ m. Comes c.loop-m.m c.args.stop m c.if-m-lt4.i) (sym w.m-is) (subst (λ (i : ℕ). Comes c.loop-m.m c.args.stop c.loop-m.m i) (sym w.i-is)
+          (told (omega (arith, w.if-m-lt4.false)) (omega (arith, w.if-m-gt5.false)) w.if-m-eq0.false))
+    ] in
+    let d = deep-enough c.loop-m.invariant.0 _ _ comes in
     (d.0, d.1, c.loop-m.invariant.0.lent)
 
 pub shape_of-store-then-once : goal.shape_of-store-then-once
@@ -89,19 +92,49 @@ shape_of-work-then-once c = c.turned-m.ensures.work ∙ c.loop-m.invariant.0.wor
 
 pub returns-then-once : goal.returns-then-once
 returns-then-once c =
+    -- how the turn comes
+    let comes : Comes c.loop-m.m c.args.stop c.if-m-lt4.m c.if-m-lt4.i =
+    elim c.if-m-lt4.branch [
+      | then-m-lt4+else-m-stop+else-m-gt4095 w ↦
+          subst (λ m. Comes c.loop-m.m c.args.stop m c.if-m-lt4.i) (sym w.m-is) (subst (λ (i : ℕ). Comes c.loop-m.m c.args.stop (spent c.loop-m.m) i) (sym w.i-is)
+          (counted w.if-m-lt4.true w.if-m-stop.false (omega (arith, w.if-m-gt4095.false))))
+      | else-m-lt4+else-m-gt5+else-m-eq0 w ↦
+          subst (λ m. Comes c.loop-m.m c.args.stop m c.if-m-lt4.i) (sym w.m-is) (subst (λ (i : ℕ). Comes c.loop-m.m c.args.stop c.loop-m.m i) (sym w.i-is)
+          (told (omega (arith, w.if-m-lt4.false)) (omega (arith, w.if-m-gt5.false)) w.if-m-eq0.false))
+    ] in
     gone-once c.loop-m.invariant.1 c.if-once.true
-    (comes c.before.before.before.before.before.before.before.before) c.turned-m.ensures
+    comes c.turned-m.ensures
 
 pub loop-m-smaller : goal.loop-m-smaller
 loop-m-smaller c =
+    -- how the turn comes
+    let comes : Comes c.loop-m.m c.args.stop c.if-m-lt4.m c.if-m-lt4.i =
+    elim c.if-m-lt4.branch [
+      | then-m-lt4+else-m-stop+else-m-gt4095 w ↦
+          subst (λ m. Comes c.loop-m.m c.args.stop m c.if-m-lt4.i) (sym w.m-is) (subst (λ (i : ℕ). Comes c.loop-m.m c.args.stop (spent c.loop-m.m) i) (sym w.i-is)
+          (counted w.if-m-lt4.true w.if-m-stop.false (omega (arith, w.if-m-gt4095.false))))
+      | else-m-lt4+else-m-gt5+else-m-eq0 w ↦
+          subst (λ m. Comes c.loop-m.m c.args.stop m c.if-m-lt4.i) (sym w.m-is) (subst (λ (i : ℕ). Comes c.loop-m.m c.args.stop c.loop-m.m i) (sym w.i-is)
+          (told (omega (arith, w.if-m-lt4.false)) (omega (arith, w.if-m-gt5.false)) w.if-m-eq0.false))
+    ] in
     nearer c.loop-m.invariant.0 _ _
-    (comes c.before.before.before.before.before.before.before.before) _
+    comes _
     c.turned-m.ensures
 
 pub loop-m-preserved : goal.loop-m-preserved
-loop-m-preserved c = (
-  further c.loop-m.invariant.0 _ _
-      (comes c.before.before.before.before.before.before.before.before) _
-      c.turned-m.ensures,
-  λ e. absurd (true≢false (sym e ∙ c.if-once.false)),
-)
+loop-m-preserved c =
+    -- how the turn comes
+    let comes : Comes c.loop-m.m c.args.stop c.if-m-lt4.m c.if-m-lt4.i =
+    elim c.if-m-lt4.branch [
+      | then-m-lt4+else-m-stop+else-m-gt4095 w ↦
+          subst (λ m. Comes c.loop-m.m c.args.stop m c.if-m-lt4.i) (sym w.m-is) (subst (λ (i : ℕ). Comes c.loop-m.m c.args.stop (spent c.loop-m.m) i) (sym w.i-is)
+          (counted w.if-m-lt4.true w.if-m-stop.false (omega (arith, w.if-m-gt4095.false))))
+      | else-m-lt4+else-m-gt5+else-m-eq0 w ↦
+          subst (λ m. Comes c.loop-m.m c.args.stop m c.if-m-lt4.i) (sym w.m-is) (subst (λ (i : ℕ). Comes c.loop-m.m c.args.stop c.loop-m.m i) (sym w.i-is)
+          (told (omega (arith, w.if-m-lt4.false)) (omega (arith, w.if-m-gt5.false)) w.if-m-eq0.false))
+    ] in (
+      further c.loop-m.invariant.0 _ _
+          comes _
+          c.turned-m.ensures,
+      λ e. absurd (true≢false (sym e ∙ c.if-once.false)),
+    )
