@@ -8,8 +8,7 @@ pub returns-then-w : goal.returns-then-w
 returns-then-w c = (omega arith, keeps-all _ _)
 
 pub returns : goal.returns
-returns c =
-    (
-      c.middle-half.ensures,
-      keeps-over c.put.ensures c.keep_below.ensures c.put_below.ensures,
-    )
+returns c = (
+  c.middle-half.ensures,
+  keeps-over c.put.ensures c.keep_below.ensures c.put_below.ensures,
+)

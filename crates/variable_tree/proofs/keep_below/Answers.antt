@@ -24,16 +24,15 @@ loop-i-smaller c =
     omega (arith, c.put_below.auto, c.loop-i.invariant.0)
 
 pub loop-i-preserved : goal.loop-i-preserved
-loop-i-preserved c =
-    (
-      omega (arith, c.put_below.auto, c.loop-i.invariant.0),
-      omega (
-        arith,
-        c.put_below.auto,
-        c.loop-i.invariant.1,
-      ),
-      keeps-again c.loop-i.invariant.2 (record { place = c.loop-i.i; is = refl }) c.put_below.ensures,
-    )
+loop-i-preserved c = (
+  omega (arith, c.put_below.auto, c.loop-i.invariant.0),
+  omega (
+    arith,
+    c.put_below.auto,
+    c.loop-i.invariant.1,
+  ),
+  keeps-again c.loop-i.invariant.2 (record { place = c.loop-i.i; is = refl }) c.put_below.ensures,
+)
 
 pub shape_of-keys : goal.shape_of-keys
 shape_of-keys c = c.loop-i.invariant.0

@@ -19,7 +19,7 @@ pub loop-k-init : goal.loop-k-init
 loop-k-init c =
     let a = c.args in (
       omega arith,
-      pass-begun a.store.now a.bindings.now a.mark a.subject (length a.work.now) c.mark_roots.new.1.0 c.mark_roots.ensures,
+      pass-begun a.store.now a.bindings.now a.mark a.subject (length a.work.now) c.mark_roots.new.work c.mark_roots.ensures,
     )
 
 pub bounds-work-k : goal.bounds-work-k
@@ -42,9 +42,9 @@ loop-k-preserved-then-work-k-ne0 c =
     let a = c.args in
     let i : Lent = lent a.store.now a.bindings.now a.work.now a.mark a.subject in (
       omega arith,
-      pass-marked a.store.now a.bindings.now a.mark a.subject (length c.mark_roots.new.1.0) c.loop-k.k c.loop-k.work
+      pass-marked a.store.now a.bindings.now a.mark a.subject (length c.mark_roots.new.work) c.loop-k.k c.loop-k.work
           (omega arith) c.loop-k.invariant.0 (omega (arith, c.mark_roots.ensures.long, mark-inside i c.requires)) c.loop-k.invariant.1
-          c.mark_children.new.1.0 c.if-work-k-ne0.true c.mark_children.ensures,
+          c.mark_children.new.work c.if-work-k-ne0.true c.mark_children.ensures,
     )
 
 pub loop-k-preserved : goal.loop-k-preserved
@@ -52,7 +52,7 @@ loop-k-preserved c =
     let a = c.args in
     let i : Lent = lent a.store.now a.bindings.now a.work.now a.mark a.subject in (
       omega arith,
-      pass-passed a.store.now a.bindings.now a.mark a.subject (length c.mark_roots.new.1.0) c.loop-k.k c.loop-k.work
+      pass-passed a.store.now a.bindings.now a.mark a.subject (length c.mark_roots.new.work) c.loop-k.k c.loop-k.work
           (omega arith) c.loop-k.invariant.0 (omega (arith, c.mark_roots.ensures.long, mark-inside i c.requires)) c.loop-k.invariant.1
           c.if-work-k-ne0.false,
     )
@@ -64,5 +64,5 @@ shape_of-work c =
 pub returns : goal.returns
 returns c =
     let a = c.args in
-    pass-ended a.store.now a.bindings.now a.mark a.subject (length c.mark_roots.new.1.0) (length a.work.now) c.loop-k.k c.loop-k.work
+    pass-ended a.store.now a.bindings.now a.mark a.subject (length c.mark_roots.new.work) (length a.work.now) c.loop-k.k c.loop-k.work
     c.mark_roots.ensures.long c.loop-k-test.false c.loop-k.invariant.1

@@ -29,7 +29,7 @@ loop-v-init c =
     let w : List ℕ = a.work.now in
     let x : ℕ = a.subject in
     let b : List ℕ = a.bindings.now in
-    let e : c.clear_from.new.0 ≡ cleared_from w 0 = c.clear_from.ensures in
+    let e : c.clear_from.new.words ≡ cleared_from w 0 = c.clear_from.ensures in
     let long : length (set (cleared_from w 0) x 1) ≡ length w = root-long b x 0 w (cleared_from w 0) refl in (
       omega arith,
       subst (λ (l : List ℕ). Flags (length (set l x 1)) (λ j. eqb j x || among (λ u. eqb (get_or b u 0) (suc j)) 0) (set l x 1)) (sym e)
@@ -68,12 +68,12 @@ loop-v-preserved c =
     let a = c.args in
     let b : List ℕ = a.bindings.now in
     let v : ℕ = c.loop-v.v in
-    let l : List ℕ = c.clear_from.new.0 in
+    let l : List ℕ = c.clear_from.new.words in
     let n : ℕ = length (set l a.subject 1) in
     let long : n ≡ length a.work.now = root-long b a.subject 0 a.work.now l c.clear_from.ensures in (
       omega arith,
       rw add-one
-          (elim c.if-bound-ne0.branch [ then-bound-ne0 w ↦ rw w.1 (root-more b a.subject n c.loop-v.work v (get_or b v 0 - 1) c.loop-v.invariant.1 (omega (arith, w.0.taken)) (omega (arith, c.requires.1 v, w.0.taken))) | else-bound-ne0 w ↦ rw w.1 (root-same b a.subject n c.loop-v.work v c.loop-v.invariant.1 w.0.left) ]),
+          (elim c.if-bound-ne0.branch [ then-bound-ne0 w ↦ rw w.work-is (root-more b a.subject n c.loop-v.work v (get_or b v 0 - 1) c.loop-v.invariant.1 (omega (arith, w.if-bound-ne0.true)) (omega (arith, c.requires.1 v, w.if-bound-ne0.true))) | else-bound-ne0 w ↦ rw w.work-is (root-same b a.subject n c.loop-v.work v c.loop-v.invariant.1 w.if-bound-ne0.false) ]),
     )
 
 pub shape_of-work : goal.shape_of-work
@@ -88,7 +88,7 @@ returns c =
     let b : List ℕ = a.bindings.now in
     let all : c.loop-v.v ≡ length b = omega arith in
     let w : List ℕ = c.loop-v.work in
-    let l : List ℕ = set c.clear_from.new.0 a.subject 1 in
+    let l : List ℕ = set c.clear_from.new.words a.subject 1 in
     let long : length l ≡ length a.work.now = root-long b a.subject 0 a.work.now _ c.clear_from.ensures in
     subst (λ (n : ℕ). Flags n (λ j. eqb j a.subject || among (λ u. eqb (get_or b u 0) (suc j)) (length b)) w) long
     (subst (λ (n : ℕ). Flags (length l) (λ j. eqb j a.subject || among (λ u. eqb (get_or b u 0) (suc j)) n) w) all c.loop-v.invariant.1)

@@ -56,8 +56,11 @@ loop-v-preserved c =
     let r = c.loop-v.invariant.1 in
     let f : ℕ → ℕ = λ k. get_or a.work.now k 0 in (
       omega (arith, r.long),
-      elim c.if-bound-ne0.branch [ then-bound-ne0 w ↦ let k : ℕ = get_or b v 0 - 1 in
-          rw w.2 (rebinds-set f a.bindings.now v b r k (f k + 1) (omega (arith, r.left v (omega arith), w.0.taken)) (omega arith) (omega (arith, r.long))) | else-bound-ne0 w ↦ rw w.1 (rebinds-zero f a.bindings.now v b r (omega (arith, r.left v (omega arith), w.0.left))) ],
+      elim c.if-bound-ne0.branch [
+        | then-bound-ne0 w ↦ let k : ℕ = get_or b v 0 - 1 in
+            rw w.bindings-is (rebinds-set f a.bindings.now v b r k (f k + 1) (omega (arith, r.left v (omega arith), w.if-bound-ne0.true)) (omega arith) (omega (arith, r.long)))
+        | else-bound-ne0 w ↦ rw w.bindings-is (rebinds-zero f a.bindings.now v b r (omega (arith, r.left v (omega arith), w.if-bound-ne0.false)))
+      ],
     )
 
 pub shape_of-bindings : goal.shape_of-bindings

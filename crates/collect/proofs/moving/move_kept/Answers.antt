@@ -39,8 +39,11 @@ pub loop-k-preserved : goal.loop-k-preserved
 loop-k-preserved c =
     let a = c.args in
     let q = c.loop-k.invariant in
-    elim c.if-work-k-ne0.branch [ then-work-k-ne0 w ↦ rw (w.9, w.10)
-    (packs-moved a.store.now a.work.now a.mark c.requires _ _ _ _ q (omega arith) c.if-work-k-ne0.store w.3.result w.0.taken w.3.ensures (w.8 ∙ w.5.ensures)) | else-work-k-ne0 w ↦ rw (w.1, w.2, w.3) (packs-passed a.store.now a.work.now a.mark c.requires _ _ _ _ q (omega arith) w.0.left) ]
+    elim c.if-work-k-ne0.branch [
+      | then-work-k-ne0 w ↦ rw (w.work-is, w.n-is)
+          (packs-moved a.store.now a.work.now a.mark c.requires _ _ _ _ q (omega arith) c.if-work-k-ne0.store w.renumbered_row-row.result w.if-work-k-ne0.true w.renumbered_row-row.ensures (w.store-is ∙ w.put_row.ensures))
+      | else-work-k-ne0 w ↦ rw (w.store-is, w.work-is, w.n-is) (packs-passed a.store.now a.work.now a.mark c.requires _ _ _ _ q (omega arith) w.if-work-k-ne0.false)
+    ]
 
 pub shape_of-store : goal.shape_of-store
 shape_of-store c =

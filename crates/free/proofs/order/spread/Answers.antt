@@ -36,30 +36,28 @@ pub slice_bounds-come_to-end : goal.slice_bounds-come_to-end
 slice_bounds-come_to-end c = sym c.loop-steps.invariant.1
 
 pub come_to-here-requires : goal.come_to-here-requires
-come_to-here-requires c =
-    (
-      omega arith,
-      omega (
-        arith,
-        c.from_either_end-x.ensures,
-        c.loop-steps.invariant.2,
-        c.loop-steps.invariant.3,
-        c.if-root-eq0.false,
-      ),
-    )
+come_to-here-requires c = (
+  omega arith,
+  omega (
+    arith,
+    c.from_either_end-x.ensures,
+    c.loop-steps.invariant.2,
+    c.loop-steps.invariant.3,
+    c.if-root-eq0.false,
+  ),
+)
 
 pub loop-steps-smaller-then-here-eq0 : goal.loop-steps-smaller-then-here-eq0
 loop-steps-smaller-then-here-eq0 c = omega arith
 
 pub loop-steps-preserved-then-here-eq0 : goal.loop-steps-preserved-then-here-eq0
-loop-steps-preserved-then-here-eq0 c =
-    (
-      c.loop-steps.invariant.0,
-      omega (arith, c.come_to-here.auto, c.loop-steps.invariant.1),
-      omega (arith, c.loop-steps.invariant.2),
-      c.loop-steps.invariant.3,
-      c.loop-steps.invariant.4,
-    )
+loop-steps-preserved-then-here-eq0 c = (
+  c.loop-steps.invariant.0,
+  omega (arith, c.come_to-here.auto, c.loop-steps.invariant.1),
+  omega (arith, c.loop-steps.invariant.2),
+  c.loop-steps.invariant.3,
+  c.loop-steps.invariant.4,
+)
 
 pub slice_bounds-step-end : goal.slice_bounds-step-end
 slice_bounds-step-end c = sym c.loop-steps.invariant.1
@@ -72,14 +70,13 @@ pub loop-steps-smaller : goal.loop-steps-smaller
 loop-steps-smaller c = omega arith
 
 pub loop-steps-preserved : goal.loop-steps-preserved
-loop-steps-preserved c =
-    (
-      omega (arith, c.step-here.auto, c.loop-steps.invariant.0),
-      omega (arith, c.step-here.auto, c.loop-steps.invariant.1),
-      c.loop-steps.invariant.2,
-      c.loop-steps.invariant.3,
-      spread-on c.loop-steps.invariant.4 c.step-here.ensures,
-    )
+loop-steps-preserved c = (
+  omega (arith, c.step-here.auto, c.loop-steps.invariant.0),
+  omega (arith, c.step-here.auto, c.loop-steps.invariant.1),
+  c.loop-steps.invariant.2,
+  c.loop-steps.invariant.3,
+  spread-on c.loop-steps.invariant.4 c.step-here.ensures,
+)
 
 pub shape_of-masks : goal.shape_of-masks
 shape_of-masks c = c.loop-steps.invariant.0

@@ -15,4 +15,4 @@ pub returns : goal.returns
 returns c =
     let p = c.requires in
     let s = c.settle in
-    mask_is ours (omega arith) _ s.new.1.0 _ p.0 p.1 s.ensures.0 s.ensures.1 c.mask_at.result c.mask_at.ensures (omega arith)
+    mask_is ours (omega arith) _ s.new.masks _ p.0 p.1 s.ensures.0 s.ensures.1 c.mask_at.result c.mask_at.ensures (omega arith)

@@ -35,8 +35,8 @@ loop-e-preserved-then-grow c =
       (
         omega (arith, g.auto),
         (
-          changed-grew ours t l.masks l.e some g.result g.new.1.0 g.ensures.0 g.ensures.1 l.any c.if-grow.true ∙ l.invariant.1.1.0,
-          pass-turn ours t l.masks l.e some g.result g.new.1.0 g.ensures.0 g.ensures.1 ∙ l.invariant.1.1.1,
+          changed-grew ours t l.masks l.e some g.result g.new.masks g.ensures.0 g.ensures.1 l.any c.if-grow.true ∙ l.invariant.1.1.0,
+          pass-turn ours t l.masks l.e some g.result g.new.masks g.ensures.0 g.ensures.1 ∙ l.invariant.1.1.1,
         ),
       ),
     )
@@ -54,8 +54,8 @@ loop-e-preserved c =
       (
         omega (arith, g.auto),
         (
-          changed-same ours t l.masks l.e some g.result g.new.1.0 g.ensures.0 g.ensures.1 l.any c.if-grow.false ∙ l.invariant.1.1.0,
-          pass-turn ours t l.masks l.e some g.result g.new.1.0 g.ensures.0 g.ensures.1 ∙ l.invariant.1.1.1,
+          changed-same ours t l.masks l.e some g.result g.new.masks g.ensures.0 g.ensures.1 l.any c.if-grow.false ∙ l.invariant.1.1.0,
+          pass-turn ours t l.masks l.e some g.result g.new.masks g.ensures.0 g.ensures.1 ∙ l.invariant.1.1.1,
         ),
       ),
     )

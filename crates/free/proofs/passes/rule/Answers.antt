@@ -17,13 +17,13 @@ use Rattle.free.proofs.passes.rule.Goals.{After-operands_from, After-word}
 pub operand-requires : goal.operand-requires
 operand-requires c =
     let is-16 : kind_of c.args.table.now c.args.e ≡ 16 =
-        sym c.kind_of.ensures ∙ c.in-16.is in
+    sym c.kind_of.ensures ∙ c.in-16.is in
     (c.operands_from.ensures ∙ ap (operands_from_by ours) (sym is-16), omega (arith, c.operands_from.ensures))
 
 pub overflow_shl-result : goal.overflow_shl-result
 overflow_shl-result c =
     let is-18 : (kind_of c.args.table.now c.args.e ≡ 18) × (c.word.result < variables) =
-        let k = sym c.kind_of.ensures ∙ c.in-18.is in
+    let k = sym c.kind_of.ensures ∙ c.in-18.is in
     (k, omega (arith, variable-below ours _ _ (omega arith) c.requires k, c.word.ensures)) in
     omega (arith, is-18.1)
 
@@ -34,7 +34,7 @@ pub returns-in-16 : goal.returns-in-16
 unfolding ruled
 returns-in-16 c =
     let is-16 : kind_of c.args.table.now c.args.e ≡ 16 =
-        sym c.kind_of.ensures ∙ c.in-16.is in
+    sym c.kind_of.ensures ∙ c.in-16.is in
     let a = c.args in
     let k = is-16 in
     let o = c.operand.ensures ∙ operand-scope ours a.table.now a.e k in
@@ -44,7 +44,7 @@ pub returns-in-18 : goal.returns-in-18
 unfolding ruled
 returns-in-18 c =
     let is-18 : (kind_of c.args.table.now c.args.e ≡ 18) × (c.word.result < variables) =
-        let k = sym c.kind_of.ensures ∙ c.in-18.is in
+    let k = sym c.kind_of.ensures ∙ c.in-18.is in
     (k, omega (arith, variable-below ours _ _ (omega arith) c.requires k, c.word.ensures)) in
     let k = is-18.0 in
     let n : kind_of c.args.table.now c.args.e ≢ 16 = λ z. absurd (omega arith) in
@@ -55,6 +55,6 @@ unfolding ruled
 returns-in_default c =
     rw (
       c.joined.ensures,
-      ne_eqb _ _ (λ z. c.in_default.rest.0.1 (c.kind_of.ensures ∙ z)),
-      ne_eqb _ _ (λ z. c.in_default.rest.1 (c.kind_of.ensures ∙ z)),
+      ne_eqb _ _ (λ z. c.in_default.in_default-own.rest.0.1 (c.kind_of.ensures ∙ z)),
+      ne_eqb _ _ (λ z. c.in_default.in_default-own.rest.1 (c.kind_of.ensures ∙ z)),
     )

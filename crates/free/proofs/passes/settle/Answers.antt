@@ -11,23 +11,22 @@ pub pass-more-requires : goal.pass-more-requires
 pass-more-requires c = (c.requires.0, c.requires.1.0)
 
 pub loop-more-init : goal.loop-more-init
-loop-more-init c =
-    (
-      refl,
-      (
-        turn-state ours (omega arith) c.args.table.now c.args.masks.now c.requires.0 (record {
+loop-more-init c = (
+  refl,
+  (
+    turn-state ours (omega arith) c.args.table.now c.args.masks.now c.requires.0 (record {
+      long = c.requires.1.0;
+      fits = λ i. (c.slice_known-1.given i).fits;
+      sound = c.requires.1.1;
+    }) c.pass-more.result c.pass-more.new.masks c.pass-more.ensures.0 c.pass-more.ensures.1,
+    turn-settled ours (omega arith) c.args.table.now
+        c.args.masks.now c.requires.0 (record {
           long = c.requires.1.0;
           fits = λ i. (c.slice_known-1.given i).fits;
           sound = c.requires.1.1;
-        }) c.pass-more.result c.pass-more.new.1.0 c.pass-more.ensures.0 c.pass-more.ensures.1,
-        turn-settled ours (omega arith) c.args.table.now
-            c.args.masks.now c.requires.0 (record {
-              long = c.requires.1.0;
-              fits = λ i. (c.slice_known-1.given i).fits;
-              sound = c.requires.1.1;
-            }) c.pass-more.result c.pass-more.new.1.0 c.pass-more.ensures.0 c.pass-more.ensures.1,
-      ),
-    )
+        }) c.pass-more.result c.pass-more.new.masks c.pass-more.ensures.0 c.pass-more.ensures.1,
+  ),
+)
 
 pub pass-more-requires-in-loop-more : goal.pass-more-requires-in-loop-more
 pass-more-requires-in-loop-more c =
@@ -36,7 +35,7 @@ pass-more-requires-in-loop-more c =
 pub spread_again-times-requires : goal.spread_again-times-requires
 spread_again-times-requires c =
     let s = turn-state ours (omega arith) c.args.table.now c.loop-more.masks c.requires.0 c.loop-more.invariant.1.0
-    c.pass-more-in-loop-more.result c.pass-more-in-loop-more.new.1.0 c.pass-more-in-loop-more.ensures.0 c.pass-more-in-loop-more.ensures.1 in (
+    c.pass-more-in-loop-more.result c.pass-more-in-loop-more.new.masks c.pass-more-in-loop-more.ensures.0 c.pass-more-in-loop-more.ensures.1 in (
       c.requires.0,
       s.long,
       s.sound,
@@ -45,12 +44,12 @@ spread_again-times-requires c =
 pub loop-more-smaller-then-more : goal.loop-more-smaller-then-more
 loop-more-smaller-then-more c =
     rw c.loop-more-test.true (spread-less ours c.args.table.now c.loop-more.masks _ _ c.pass-more-in-loop-more.result
-    (turn-less ours (omega arith) c.args.table.now c.loop-more.masks c.requires.0 c.loop-more.invariant.1.0 c.pass-more-in-loop-more.result c.pass-more-in-loop-more.new.1.0 c.pass-more-in-loop-more.ensures.0 c.pass-more-in-loop-more.ensures.1) c.spread_again-times.ensures)
+    (turn-less ours (omega arith) c.args.table.now c.loop-more.masks c.requires.0 c.loop-more.invariant.1.0 c.pass-more-in-loop-more.result c.pass-more-in-loop-more.new.masks c.pass-more-in-loop-more.ensures.0 c.pass-more-in-loop-more.ensures.1) c.spread_again-times.ensures)
 
 pub loop-more-preserved-then-more : goal.loop-more-preserved-then-more
 loop-more-preserved-then-more c =
     let s = turn-state ours (omega arith) c.args.table.now c.loop-more.masks c.requires.0 c.loop-more.invariant.1.0
-    c.pass-more-in-loop-more.result c.pass-more-in-loop-more.new.1.0 c.pass-more-in-loop-more.ensures.0 c.pass-more-in-loop-more.ensures.1 in (
+    c.pass-more-in-loop-more.result c.pass-more-in-loop-more.new.masks c.pass-more-in-loop-more.ensures.0 c.pass-more-in-loop-more.ensures.1 in (
       omega (
         arith,
         c.spread_again-times.auto,
@@ -74,18 +73,17 @@ loop-more-preserved-then-more c =
 pub loop-more-smaller : goal.loop-more-smaller
 loop-more-smaller c =
     rw c.loop-more-test.true (turn-less ours (omega arith) c.args.table.now c.loop-more.masks c.requires.0
-    c.loop-more.invariant.1.0 c.pass-more-in-loop-more.result c.pass-more-in-loop-more.new.1.0 c.pass-more-in-loop-more.ensures.0 c.pass-more-in-loop-more.ensures.1)
+    c.loop-more.invariant.1.0 c.pass-more-in-loop-more.result c.pass-more-in-loop-more.new.masks c.pass-more-in-loop-more.ensures.0 c.pass-more-in-loop-more.ensures.1)
 
 pub loop-more-preserved : goal.loop-more-preserved
-loop-more-preserved c =
-    (
-      omega (arith, c.pass-more-in-loop-more.auto, c.loop-more.invariant.0),
-      (
-        turn-state ours (omega arith) c.args.table.now c.loop-more.masks c.requires.0 c.loop-more.invariant.1.0 c.pass-more-in-loop-more.result c.pass-more-in-loop-more.new.1.0 c.pass-more-in-loop-more.ensures.0 c.pass-more-in-loop-more.ensures.1,
-        turn-settled ours (omega arith) c.args.table.now c.loop-more.masks c.requires.0
-            c.loop-more.invariant.1.0 c.pass-more-in-loop-more.result c.pass-more-in-loop-more.new.1.0 c.pass-more-in-loop-more.ensures.0 c.pass-more-in-loop-more.ensures.1,
-      ),
-    )
+loop-more-preserved c = (
+  omega (arith, c.pass-more-in-loop-more.auto, c.loop-more.invariant.0),
+  (
+    turn-state ours (omega arith) c.args.table.now c.loop-more.masks c.requires.0 c.loop-more.invariant.1.0 c.pass-more-in-loop-more.result c.pass-more-in-loop-more.new.masks c.pass-more-in-loop-more.ensures.0 c.pass-more-in-loop-more.ensures.1,
+    turn-settled ours (omega arith) c.args.table.now c.loop-more.masks c.requires.0
+        c.loop-more.invariant.1.0 c.pass-more-in-loop-more.result c.pass-more-in-loop-more.new.masks c.pass-more-in-loop-more.ensures.0 c.pass-more-in-loop-more.ensures.1,
+  ),
+)
 
 pub shape_of-masks : goal.shape_of-masks
 shape_of-masks c = omega (arith, c.pass-more.auto, c.loop-more.invariant.0)
