@@ -2,7 +2,7 @@
 use mathlib.Core.Path.{◌≡◌, refl, ap, sym, ◌∙◌, subst}
 use mathlib.Core.Bool.{Bool, true, false}
 use mathlib.Core.List.{List, [], ◌∷◌}
-use mathlib.Core.Logic.{◌⊎◌, ⊎_elim}
+use mathlib.Core.Logic.{◌⊎◌, inl, inr, ⊎_elim}
 use Prim.Native.Nat.{ℕ, zero, suc, ◌+◌, ◌-◌, ◌<◌, ◌≤◌}
 use native.Mathlib.Omega.{arith}
 use denote.Enum.Declared.{tag_of}
@@ -25,6 +25,18 @@ use Rattle.state.proofs.AnswerWords.{out-answer}
 -- the answer is one of two
 abbrev pub Tagged : Answer → ℕ → ℕ → Type 0
 Tagged a i j = (tag_of the_type a ≡ i) ⊎ (tag_of the_type a ≡ j)
+
+-- an answer that is not done is failed or cut off
+pub Tagged-not_done : (a : Answer) → ((x u : ℕ) → a ≡ Done x u → ⊥) → Tagged a 1 2
+Tagged-not_done (Done x u) h = absurd (h x u refl)
+Tagged-not_done (Failed u) h = inl refl
+Tagged-not_done (Cut c) h = inr refl
+
+-- an answer that is not failed is done or cut off
+pub Tagged-not_failed : (a : Answer) → ((u : ℕ) → a ≡ Failed u → ⊥) → Tagged a 0 2
+Tagged-not_failed (Done x u) h = inl refl
+Tagged-not_failed (Failed u) h = absurd (h u refl)
+Tagged-not_failed (Cut c) h = inr refl
 
 -- the answer of a match whose comparison answers r: where that failed, it gives up at the pattern p
 unfoldable pub gives_up : ℕ → Ran → Ran
