@@ -18,5 +18,5 @@ settle-requires c =
 
 pub returns-then-used-ne0 : goal.returns-then-used-ne0
 returns-then-used-ne0 c =
-    masks-of c.args.table.now c.args.used c.requires.0 c.settle.new.1.0 (λ i. (c.slice_known-then-used-ne0-1.given i).fits) c.settle.ensures.0
+    masks-of c.args.table.now c.args.used c.requires.0 c.settle.new.masks (λ i. (c.type_inv.masks i).fits) c.settle.ensures.0
     c.settle.ensures.1 c.if-used-ne0.true

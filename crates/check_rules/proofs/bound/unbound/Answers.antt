@@ -13,7 +13,7 @@ loop-at-init c =
 pub returns-then-needed-bound : goal.returns-then-needed-bound
 returns-then-needed-bound c =
     binds-early c.loop-at.invariant c.loop-at-test.true c.condition_at-c.result c.condition_at-c.ensures c.marks-needed.result
-    c.marks-needed.ensures (omega (arith, c.marks-needed.type-inv)) c.if-needed-bound.true
+    c.marks-needed.ensures (omega arith) c.if-needed-bound.true
 
 pub loop-at-smaller : goal.loop-at-smaller
 loop-at-smaller c =
@@ -32,4 +32,4 @@ loop-at-preserved c =
 
 pub returns : goal.returns
 returns c =
-    binds-end c.loop-at.invariant c.loop-at-test.false c.marks-last.result c.marks-last.ensures (omega (arith, c.marks-last.type-inv)) _ refl
+    binds-end c.loop-at.invariant c.loop-at-test.false c.marks-last.result c.marks-last.ensures (omega arith) _ refl

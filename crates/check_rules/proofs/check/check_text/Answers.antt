@@ -7,109 +7,74 @@ use lib.ListN.{length}
 use native.Mathlib.Omega.{arith}
 use Prim.Native.Nat.{◌-◌}
 use mathlib.Core.Path.{◌≡◌, refl, ◌∙◌}
-use Rattle.text.proofs.reader.line_from.Reads as line-from-reads
-use Rattle.check_rules.proofs.line.check_line.Reads as check-line-reads
-use Rattle.check_rules.proofs.check.told.Reads as told-reads
-use Rattle.check_rules.proofs.check.refusal.Reads as refusal-reads
-use Rattle.check_rules.proofs.check.check_text.Reads as reads
-use Rattle.check_rules.proofs.check.check_text.Lts as lts
 use Rattle.check_rules.proofs.check.check_text.Goals as goal
 
--- ---- the places that the proof speaks of
-abbrev calls : lts.Claims
-calls = (
-  line-from-reads.Asked,
-  line-from-reads.Learnt,
-  check-line-reads.Asked,
-  check-line-reads.Learnt,
-  told-reads.Asked,
-  told-reads.Learnt,
-  refusal-reads.Asked,
-  refusal-reads.Learnt,
-)
-
-abbrev Taken : Type 0
-Taken = lts.After-line-from calls reads.Pre reads.Post invariant-loop decreases-loop
-
--- the next line is taken
-module _ (c : Taken) where
-  abbrev entered : lts.In-loop calls reads.Pre reads.Post invariant-loop decreases-loop
-  entered = c.before
-
-  abbrev turn : lts.At-loop calls reads.Pre reads.Post invariant-loop decreases-loop
-  turn = entered.before
-
-  abbrev start : lts.Start calls reads.Pre reads.Post invariant-loop decreases-loop
-  start = turn.before.before.before.before
-
--- ---- the needs
 pub loop-at-init : goal.loop-at-init
 loop-at-init c =
     (checks-begin _ _ _ _ c.requires.1, refl)
 
 pub slice_bounds-check_line-count : goal.slice_bounds-check_line-count
 slice_bounds-check_line-count c =
-    let w = bounds-within (start c).args.text.now (turn c).loop.at (entered c).loop-test.true c.line_from-b.result c.line_from-b.ensures in
+    let w = bounds-within c.args.text.now c.loop-at.at c.loop-at-test.true c.line_from-b.result c.line_from-b.ensures in
     omega (arith, w.0)
 
 pub slice_bounds-check_line-start : goal.slice_bounds-check_line-start
 slice_bounds-check_line-start c =
-    let w = bounds-within (start c).args.text.now (turn c).loop.at (entered c).loop-test.true c.line_from-b.result c.line_from-b.ensures in
+    let w = bounds-within c.args.text.now c.loop-at.at c.loop-at-test.true c.line_from-b.result c.line_from-b.ensures in
     omega (arith, w.0, w.1)
 
 pub slice_bounds-check_line-end : goal.slice_bounds-check_line-end
 slice_bounds-check_line-end c =
-    let w = bounds-within (start c).args.text.now (turn c).loop.at (entered c).loop-test.true c.line_from-b.result c.line_from-b.ensures in
+    let w = bounds-within c.args.text.now c.loop-at.at c.loop-at-test.true c.line_from-b.result c.line_from-b.ensures in
     omega (arith, w.0, w.1)
 
 pub returns-then-b-end : goal.returns-then-b-end
 returns-then-b-end c =
-    c.told.ensures ∙ checks-unfed (turn c.before.before.before.before.before).loop.invariant.0 (entered c.before.before.before.before.before).loop-test.true c.line_from-b.result c.line_from-b.ensures
+    c.told.ensures ∙ checks-unfed c.loop-at.invariant.0 c.loop-at-test.true c.line_from-b.result c.line_from-b.ensures
     c.check_line-got.result c.check_line-got.ensures c.if-b-end.true
 
 pub returns-then-got-ne0 : goal.returns-then-got-ne0
 returns-then-got-ne0 c =
-    c.refusal.ensures ∙ checks-refused (turn c.before.before.before.before.before.before.before).loop.invariant.0 (entered c.before.before.before.before.before.before.before).loop-test.true c.line_from-b.result c.line_from-b.ensures
+    c.refusal.ensures ∙ checks-refused c.loop-at.invariant.0 c.loop-at-test.true c.line_from-b.result c.line_from-b.ensures
     c.check_line-got.result c.check_line-got.ensures c.if-b-end.false c.if-got-ne0.true
 
 pub overflow_sub-room : goal.overflow_sub-room
 overflow_sub-room c =
-    omega (arith, (turn c.before.before.before.before.before.before).loop.invariant.0.most, (turn c.before.before.before.before.before.before).loop.invariant.1)
+    omega (arith, c.loop-at.invariant.0.most, c.loop-at.invariant.1)
 
 pub returns-then-room-e : goal.returns-then-room-e
 returns-then-room-e c =
-    c.told-then-room-e.ensures ∙ checks-full (turn c.before.before.before.before.before.before.before.before.before).loop.invariant.0 (entered c.before.before.before.before.before.before.before.before.before).loop-test.true c.line_from-b.result c.line_from-b.ensures
+    c.told-then-room-e.ensures ∙ checks-full c.loop-at.invariant.0 c.loop-at-test.true c.line_from-b.result c.line_from-b.ensures
     c.check_line-got.result c.check_line-got.ensures c.if-b-end.false c.if-got-ne0.false
-    (omega (arith, c.if-room-e.true, (turn c.before.before.before.before.before.before.before.before.before).loop.invariant.1))
+    (omega (arith, c.if-room-e.true, c.loop-at.invariant.1))
 
 pub overflow_add-e : goal.overflow_add-e
 overflow_add-e c =
-    omega (arith, c.if-room-e.false, (turn c.before.before.before.before.before.before.before.before.before).loop.invariant.0.most, (turn c.before.before.before.before.before.before.before.before.before).loop.invariant.1, (start c.before.before.before.before.before.before.before.before.before).requires.0)
+    omega (arith, c.if-room-e.false, c.loop-at.invariant.0.most, c.loop-at.invariant.1, c.requires.0)
 
 pub overflow_add-n : goal.overflow_add-n
 overflow_add-n c =
-    omega (arith, (turn c.before.before.before.before.before.before.before.before.before).loop.invariant.0.counted, (turn c.before.before.before.before.before.before.before.before.before).loop.invariant.0.most, (start c.before.before.before.before.before.before.before.before.before).requires.0)
+    omega (arith, c.loop-at.invariant.0.counted, c.loop-at.invariant.0.most, c.requires.0)
 
 pub loop-at-smaller : goal.loop-at-smaller
 loop-at-smaller c =
     omega (
       arith,
-      checks-further (turn c.before.before.before.before.before.before.before.before.before).loop.invariant.0 (entered c.before.before.before.before.before.before.before.before.before).loop-test.true c.line_from-b.result c.line_from-b.ensures
+      checks-further c.loop-at.invariant.0 c.loop-at-test.true c.line_from-b.result c.line_from-b.ensures
           c.check_line-got.result c.check_line-got.ensures c.if-b-end.false,
-      (checks-on (turn c.before.before.before.before.before.before.before.before.before).loop.invariant.0 (entered c.before.before.before.before.before.before.before.before.before).loop-test.true
+      (checks-on c.loop-at.invariant.0 c.loop-at-test.true
           c.line_from-b.result c.line_from-b.ensures c.check_line-got.result c.check_line-got.ensures
           c.if-b-end.false c.if-got-ne0.false
-          (omega (arith, c.if-room-e.false, (turn c.before.before.before.before.before.before.before.before.before).loop.invariant.0.most, (turn c.before.before.before.before.before.before.before.before.before).loop.invariant.1))).inside,
+          (omega (arith, c.if-room-e.false, c.loop-at.invariant.0.most, c.loop-at.invariant.1))).inside,
     )
 
 pub loop-at-preserved : goal.loop-at-preserved
-loop-at-preserved c =
-    let at-loop = (entered c.before.before.before.before.before.before.before.before.before).before in (
-      checks-on at-loop.loop.inv.0 (entered c.before.before.before.before.before.before.before.before.before).loop-test.true c.line_from-b.result c.line_from-b.ensures c.check_line-got.result
-          c.check_line-got.ensures c.if-b-end.false c.if-got-ne0.false
-          (omega (arith, c.if-room-e.false, at-loop.loop.inv.0.most, at-loop.loop.inv.1)),
-      at-loop.loop.inv.1,
-    )
+loop-at-preserved c = (
+  checks-on c.loop-at.invariant.0 c.loop-at-test.true c.line_from-b.result c.line_from-b.ensures c.check_line-got.result
+      c.check_line-got.ensures c.if-b-end.false c.if-got-ne0.false
+      (omega (arith, c.if-room-e.false, c.loop-at.invariant.0.most, c.loop-at.invariant.1)),
+  c.loop-at.invariant.1,
+)
 
 pub overflow_cast-e-2 : goal.overflow_cast-e-2
 overflow_cast-e-2 c =

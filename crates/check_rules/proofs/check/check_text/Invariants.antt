@@ -8,12 +8,6 @@ use lib.ListN.{length}
 use native.Mathlib.Omega.{arith}
 use Prim.Native.Nat.{◌-◌}
 use mathlib.Core.Path.{◌≡◌, refl, ◌∙◌}
-use Rattle.text.proofs.reader.line_from.Reads as line-from-reads
-use Rattle.check_rules.proofs.line.check_line.Reads as check-line-reads
-use Rattle.check_rules.proofs.check.told.Reads as told-reads
-use Rattle.check_rules.proofs.check.refusal.Reads as refusal-reads
-use Rattle.check_rules.proofs.check.check_text.Reads as reads
-use Rattle.check_rules.proofs.check.check_text.Lts as lts
 use Rattle.check_rules.proofs.check.check_text.Given as goal
 
 abbrev pub invariant-loop-at : goal.invariant-loop-at

@@ -16,11 +16,10 @@ returns-then-below-v c =
     (omega arith, bind-nothing c.args.keys.now (head_of c.args.field.now))
 
 pub returns-else-below-v : goal.returns-else-below-v
-returns-else-below-v c =
-    (
-      c.add.ensures.0,
-      bind-one c.in-Variable.v (sym (ap head_held c.in-Variable.is) ∙ c.head_of-first.ensures) c.add.ensures.1,
-    )
+returns-else-below-v c = (
+  c.add.ensures.0,
+  bind-one c.in-Variable.v (sym (ap head_held c.in-Variable.is) ∙ c.head_of-first.ensures) c.add.ensures.1,
+)
 
 pub returns-in-Constructor : goal.returns-in-Constructor
 returns-in-Constructor c =

@@ -40,13 +40,12 @@ loop-at-smaller c =
     let w = end-within c.args.line.now c.loop-at.at c.next_at-end.result c.if-line-at.false c.next_at-end.ensures in omega (arith, w.0, w.1)
 
 pub loop-at-preserved : goal.loop-at-preserved
-loop-at-preserved c =
-    (
-      omega (arith, c.bind-left.auto, c.loop-at.invariant.0),
-      omega (arith, c.bind-left.auto, c.loop-at.invariant.1),
-      binding-on
-          c.loop-at.invariant.2 c.next_at-end.result c.if-line-at.false c.next_at-end.ensures c.loop-at-test.true c.bind-left.result _ c.bind-left.ensures.0 c.bind-left.ensures.1,
-    )
+loop-at-preserved c = (
+  omega (arith, c.bind-left.auto, c.loop-at.invariant.0),
+  omega (arith, c.bind-left.auto, c.loop-at.invariant.1),
+  binding-on
+      c.loop-at.invariant.2 c.next_at-end.result c.if-line-at.false c.next_at-end.ensures c.loop-at-test.true c.bind-left.result _ c.bind-left.ensures.0 c.bind-left.ensures.1,
+)
 
 pub shape_of-keys : goal.shape_of-keys
 shape_of-keys c = c.loop-at.invariant.0

@@ -7,12 +7,11 @@ use borrow.Author.Rules.{rules}
 use Rattle.check_rules.proofs.far.pass.Goals as goal
 
 pub loop-at-init : goal.loop-at-init
-loop-at-init c =
-    (
-      omega (arith, c.bind_all-below.auto),
-      omega (arith, c.bind_all-below.auto),
-      passing-begin c.requires.0 _ c.requires.1 16384 _ _ c.bind_all-below.ensures.1,
-    )
+loop-at-init c = (
+  omega (arith, c.bind_all-below.auto),
+  omega (arith, c.bind_all-below.auto),
+  passing-begin c.requires.0 _ c.requires.1 16384 _ _ c.bind_all-below.ensures.1,
+)
 
 pub slice_bounds-any_early-end : goal.slice_bounds-any_early-end
 slice_bounds-any_early-end c = sym c.loop-at.invariant.0
@@ -44,16 +43,15 @@ loop-at-smaller c =
     )
 
 pub loop-at-preserved : goal.loop-at-preserved
-loop-at-preserved c =
-    (
-      omega (arith, c.bind_all-below-in-loop-at.auto, c.loop-at.invariant.0),
-      omega (
-        arith,
-        c.bind_all-below-in-loop-at.auto,
-        c.loop-at.invariant.1,
-      ),
-      passing-on c.loop-at.invariant.2 c.loop-at-test.true c.condition_at-c.result c.condition_at-c.ensures c.any_early.result c.any_early.ensures c.if-any_early.false c.bind_all-below-in-loop-at.result c.bind_all-below-in-loop-at.ensures.0 _ c.bind_all-below-in-loop-at.ensures.1,
-    )
+loop-at-preserved c = (
+  omega (arith, c.bind_all-below-in-loop-at.auto, c.loop-at.invariant.0),
+  omega (
+    arith,
+    c.bind_all-below-in-loop-at.auto,
+    c.loop-at.invariant.1,
+  ),
+  passing-on c.loop-at.invariant.2 c.loop-at-test.true c.condition_at-c.result c.condition_at-c.ensures c.any_early.result c.any_early.ensures c.if-any_early.false c.bind_all-below-in-loop-at.result c.bind_all-below-in-loop-at.ensures.0 _ c.bind_all-below-in-loop-at.ensures.1,
+)
 
 pub slice_bounds-any_early-end-2 : goal.slice_bounds-any_early-end-2
 slice_bounds-any_early-end-2 c = sym c.loop-at.invariant.0
