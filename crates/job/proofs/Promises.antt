@@ -225,10 +225,10 @@ one-reading : {f g h k : Reading} (xs ys : List Line) → Follow f xs g → Foll
 one-reading [] [] end end e = refl
 one-reading [] (y ∷ ys) end (next f w a r) e = absurd (no_text y ys (sym e))
 one-reading (x ∷ xs) [] (next f w a r) end e = absurd (no_text x xs e)
-one-reading (x ∷ xs) (y ∷ ys) (next f w a r) (next f' w' a' r') e =
+one-reading {f = f''} {h = h''} (x ∷ xs) (y ∷ ys) (next f w a r) (next f' w' a' r') e =
     let p : _ = both x xs y ys e in
     let q : x ≡ y = same (sym (line_read x f w) ∙ ap line_of p.0 ∙ line_read y f' w') in
-    ap (λ (z : Line). z ∷ xs) q ∙ ap (λ (zs : List Line). y ∷ zs) (one-reading xs ys r r' p.1)
+    ap (λ (z : Line). z ∷ xs) q ∙ ap (λ (zs : List Line). y ∷ zs) (one-reading {f = taken f'' x} {h = taken h'' y} xs ys r r' p.1)
 
 pub one_reading : OneReading
 one_reading xs ys g h p q e = one-reading xs ys p q e

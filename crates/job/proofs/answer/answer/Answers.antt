@@ -23,28 +23,27 @@ put_nodes-nodes-requires c =
       c.requires.0,
       c.requires.1,
       c.put_line-end.ensures.place,
-      c.put_line-end.auto.0,
+      c.put_line-end.auto.buf,
       length-answer_line
           c.args.a c.args.p c.args.s c.args.m c.args.u,
     )
 
 pub put_bindings-requires : goal.put_bindings-requires
-put_bindings-requires c =
-    (
-      omega (
-        arith,
-        c.requires.0,
-        c.requires.1,
-        c.put_line-end.ensures.place,
-        c.put_line-end.auto.0,
-        length-answer_line
-            c.args.a c.args.p c.args.s c.args.m c.args.u,
-        c.put_nodes-nodes.ensures.place,
-        c.put_nodes-nodes.auto.0,
-        length-nodes c.args.store.now c.args.m,
-      ),
-      c.requires.2,
-    )
+put_bindings-requires c = (
+  omega (
+    arith,
+    c.requires.0,
+    c.requires.1,
+    c.put_line-end.ensures.place,
+    c.put_line-end.auto.buf,
+    length-answer_line
+        c.args.a c.args.p c.args.s c.args.m c.args.u,
+    c.put_nodes-nodes.ensures.place,
+    c.put_nodes-nodes.auto.buf,
+    length-nodes c.args.store.now c.args.m,
+  ),
+  c.requires.2,
+)
 
 pub returns : goal.returns
 returns c =

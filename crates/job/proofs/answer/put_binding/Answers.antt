@@ -17,7 +17,7 @@ put_rest-requires c = (
     arith,
     c.requires.0,
     c.put_byte-end.ensures.place,
-    c.put_byte-end.auto.0,
+    c.put_byte-end.auto.buf,
   ),
 )
 

@@ -16,29 +16,27 @@ pub loop-v-init : goal.loop-v-init
 loop-v-init c = (omega arith, refl, bindings-none c.args.buf.now c.args.bindings.now c.args.start)
 
 pub put_binding-at-requires : goal.put_binding-at-requires
-put_binding-at-requires c =
-    (
-      omega (
-        arith,
-        c.requires.0,
-        c.loop-v.invariant.1,
-        c.loop-v.invariant.2.place,
-        length-bindings c.args.bindings.now
-            c.loop-v.v,
-        c.loop-v-test.true,
-      ),
-      omega (arith, c.requires.1, c.loop-v-test.true),
-    )
+put_binding-at-requires c = (
+  omega (
+    arith,
+    c.requires.0,
+    c.loop-v.invariant.1,
+    c.loop-v.invariant.2.place,
+    length-bindings c.args.bindings.now
+        c.loop-v.v,
+    c.loop-v-test.true,
+  ),
+  omega (arith, c.requires.1, c.loop-v-test.true),
+)
 
 pub loop-v-preserved : goal.loop-v-preserved
-loop-v-preserved c =
-    (
-      omega arith,
-      c.put_binding-at.auto.0
-          ∙ c.loop-v.invariant.1,
-      bindings-more c.args.bindings.now c.loop-v.v
-          (omega (arith, c.requires.0, c.loop-v-test.true)) c.loop-v.invariant.2 c.put_binding-at.ensures,
-    )
+loop-v-preserved c = (
+  omega arith,
+  c.put_binding-at.auto.buf
+      ∙ c.loop-v.invariant.1,
+  bindings-more c.args.bindings.now c.loop-v.v
+      (omega (arith, c.requires.0, c.loop-v-test.true)) c.loop-v.invariant.2 c.put_binding-at.ensures,
+)
 
 pub returns : goal.returns
 returns c =

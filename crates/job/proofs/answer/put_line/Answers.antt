@@ -12,7 +12,7 @@ put_rest-requires c = (
     arith,
     c.requires,
     c.put_name-end.ensures.place,
-    c.put_name-end.auto.0,
+    c.put_name-end.auto.buf,
   ),
 )
 

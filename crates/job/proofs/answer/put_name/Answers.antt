@@ -5,11 +5,11 @@ use Rattle.text.proofs.Put.{put-more}
 use Rattle.job.proofs.answer.put_name.Goals as goal
 
 pub put_byte-n-requires : goal.put_byte-n-requires
-put_byte-n-requires c = omega (arith, c.requires, c.put_byte-a.ensures.place, c.put_byte-a.auto.0)
+put_byte-n-requires c = omega (arith, c.requires, c.put_byte-a.ensures.place, c.put_byte-a.auto.buf)
 
 pub put_byte-s-requires : goal.put_byte-s-requires
 put_byte-s-requires c =
-    omega (arith, c.requires, c.put_byte-a.ensures.place, c.put_byte-a.auto.0, c.put_byte-n.ensures.place, c.put_byte-n.auto.0)
+    omega (arith, c.requires, c.put_byte-a.ensures.place, c.put_byte-a.auto.buf, c.put_byte-n.ensures.place, c.put_byte-n.auto.buf)
 
 pub put_byte-w-requires : goal.put_byte-w-requires
 put_byte-w-requires c =
@@ -17,11 +17,11 @@ put_byte-w-requires c =
       arith,
       c.requires,
       c.put_byte-a.ensures.place,
-      c.put_byte-a.auto.0,
+      c.put_byte-a.auto.buf,
       c.put_byte-n.ensures.place,
-      c.put_byte-n.auto.0,
+      c.put_byte-n.auto.buf,
       c.put_byte-s.ensures.place,
-      c.put_byte-s.auto.0,
+      c.put_byte-s.auto.buf,
     )
 
 pub put_byte-e-requires : goal.put_byte-e-requires
@@ -30,13 +30,13 @@ put_byte-e-requires c =
       arith,
       c.requires,
       c.put_byte-a.ensures.place,
-      c.put_byte-a.auto.0,
+      c.put_byte-a.auto.buf,
       c.put_byte-n.ensures.place,
-      c.put_byte-n.auto.0,
+      c.put_byte-n.auto.buf,
       c.put_byte-s.ensures.place,
-      c.put_byte-s.auto.0,
+      c.put_byte-s.auto.buf,
       c.put_byte-w.ensures.place,
-      c.put_byte-w.auto.0,
+      c.put_byte-w.auto.buf,
     )
 
 pub put_byte-requires : goal.put_byte-requires
@@ -45,15 +45,15 @@ put_byte-requires c =
       arith,
       c.requires,
       c.put_byte-a.ensures.place,
-      c.put_byte-a.auto.0,
+      c.put_byte-a.auto.buf,
       c.put_byte-n.ensures.place,
-      c.put_byte-n.auto.0,
+      c.put_byte-n.auto.buf,
       c.put_byte-s.ensures.place,
-      c.put_byte-s.auto.0,
+      c.put_byte-s.auto.buf,
       c.put_byte-w.ensures.place,
-      c.put_byte-w.auto.0,
+      c.put_byte-w.auto.buf,
       c.put_byte-e.ensures.place,
-      c.put_byte-e.auto.0,
+      c.put_byte-e.auto.buf,
     )
 
 pub returns : goal.returns

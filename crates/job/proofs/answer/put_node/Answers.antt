@@ -12,7 +12,7 @@ put_rest-requires c = (
     arith,
     c.requires,
     c.put_byte-end.ensures.place,
-    c.put_byte-end.auto.0,
+    c.put_byte-end.auto.buf,
   ),
 )
 
@@ -30,7 +30,7 @@ put_rest-requires-2 c = (
     c.requires,
     c.if-n-gt6.false,
     c.put_byte-end.ensures.place,
-    c.put_byte-end.auto.0,
+    c.put_byte-end.auto.buf,
   ),
 )
 

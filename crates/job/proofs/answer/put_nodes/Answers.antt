@@ -26,13 +26,12 @@ put_node-at-requires c =
     )
 
 pub loop-k-preserved : goal.loop-k-preserved
-loop-k-preserved c =
-    (
-      omega arith,
-      c.put_node-at.auto.0 ∙ c.loop-k.invariant.1,
-      nodes-more c.args.store.now c.loop-k.k
-          (omega (arith, c.requires, c.loop-k-test.true)) c.loop-k.invariant.2 c.put_node-at.ensures,
-    )
+loop-k-preserved c = (
+  omega arith,
+  c.put_node-at.auto.buf ∙ c.loop-k.invariant.1,
+  nodes-more c.args.store.now c.loop-k.k
+      (omega (arith, c.requires, c.loop-k-test.true)) c.loop-k.invariant.2 c.put_node-at.ensures,
+)
 
 pub returns : goal.returns
 returns c =

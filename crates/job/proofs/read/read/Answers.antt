@@ -11,18 +11,18 @@ returns-then-text-gt60000 c =
 pub returns-in-Bad : goal.returns-in-Bad
 returns-in-Bad c =
     right-bad _ c.in-Bad.n _ _ _
-    (sym (meant-read c.args.text.now c.clear_all.new.0 c.clear_all.new.1.0
-    c.clear_all.new.1.1.0 c.if-text-gt60000.false c.clear_all.ensures.0
+    (sym (meant-read c.args.text.now c.clear_all.new.table c.clear_all.new.store
+    c.clear_all.new.bindings c.if-text-gt60000.false c.clear_all.ensures.0
     c.clear_all.ensures.1 c.clear_all.ensures.2)
-    ∙ holds-bad _ c.read_lines-o.result c.in-Bad.n c.read_lines-o.new.1.0
-    c.read_lines-o.new.1.1.0 c.read_lines-o.new.1.1.1.0 c.read_lines-o.ensures
+    ∙ holds-bad _ c.read_lines-o.result c.in-Bad.n c.read_lines-o.new.table
+    c.read_lines-o.new.store c.read_lines-o.new.bindings c.read_lines-o.ensures
     c.in-Bad.is)
     c.clear_all-in-Bad.ensures.0 c.clear_all-in-Bad.ensures.1 c.clear_all-in-Bad.ensures.2
 
 pub returns-in-Read : goal.returns-in-Read
 returns-in-Read c =
-    holds_read (meant-read c.args.text.now c.clear_all.new.0 c.clear_all.new.1.0
-    c.clear_all.new.1.1.0 c.if-text-gt60000.false c.clear_all.ensures.0
+    holds_read (meant-read c.args.text.now c.clear_all.new.table c.clear_all.new.store
+    c.clear_all.new.bindings c.if-text-gt60000.false c.clear_all.ensures.0
     c.clear_all.ensures.1 c.clear_all.ensures.2) c.read_lines-o.result
-    c.in-Read.h c.read_lines-o.new.1.0 c.read_lines-o.new.1.1.0
-    c.read_lines-o.new.1.1.1.0 c.read_lines-o.ensures c.in-Read.is
+    c.in-Read.h c.read_lines-o.new.table c.read_lines-o.new.store
+    c.read_lines-o.new.bindings c.read_lines-o.ensures c.in-Read.is

@@ -51,7 +51,7 @@ pub loop-at-preserved : goal.loop-at-preserved
 loop-at-preserved c =
     goes_on c.loop-at.invariant c.line_at-t.ensures c.if-k-gt3.false (sym c.admits.ensures ∙ not-false _ c.if-not-admits.false-raw) c.loop-at-test.true
     c.advanced-h.ensures c.put_entry.ensures c.put_node.ensures c.put_binding.ensures
-    c.put_entry.auto.0 c.put_node.auto.0 c.put_binding.auto.0
+    c.put_entry.auto.table c.put_node.auto.store c.put_binding.auto.bindings
 
 pub returns-then-h-eq0 : goal.returns-then-h-eq0
 returns-then-h-eq0 c =

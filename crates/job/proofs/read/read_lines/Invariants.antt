@@ -12,7 +12,7 @@ use Rattle.job.proofs.read.read_lines.Given as goal
 
 abbrev pub invariant-loop-at : goal.invariant-loop-at
 invariant-loop-at l =
-    Goes l.text (record { heading = blank; l.table = l.initial.table; l.store = l.initial.store; l.bindings = l.initial.bindings }) (record { heading = l.h; l.table = l.table; l.store = l.store; l.bindings = l.bindings }) l.at l.n
+    Goes l.text (record { heading = blank; table = l.initial.table; store = l.initial.store; bindings = l.initial.bindings }) (record { heading = l.h; table = l.table; store = l.store; bindings = l.bindings }) l.at l.n
 
 abbrev pub decreases-loop-at : goal.decreases-loop-at
 decreases-loop-at l =
