@@ -23,7 +23,7 @@ returns-then-had-visits c = used-up c.if-m-lt-SUCCEEDED.true c.if-m-stop.false c
 pub returns-then-m-lt-SUCCEEDED : goal.returns-then-m-lt-SUCCEEDED
 returns-then-m-lt-SUCCEEDED c = paused c.if-m-lt-SUCCEEDED.true c.if-m-stop.false (omega
     (arith, c.if-had-visits.false)) (paused-with _ _ _ _ _ _
-    _ _ _ c.given-units.ensures c.given-subject.ensures c.given-mark.ensures (search rules) c.wrapping_sub_u32.ensures c.save.ensures)
+    _ _ _ c.given-units.ensures c.given-subject.ensures c.given-mark.ensures (search rules) c.wrapping_sub_u32.ensures.value c.save.ensures)
 
 pub returns-then-m-eq-SUCCEEDED : goal.returns-then-m-eq-SUCCEEDED
 returns-then-m-eq-SUCCEEDED c = done c.if-m-eq-SUCCEEDED.true c.finish.ensures

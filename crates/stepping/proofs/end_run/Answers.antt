@@ -11,7 +11,7 @@ use Rattle.stepping.proofs.end_run.Goals as goal
 pub returns : goal.returns
 returns c = record {
   used = c.wrapping_sub_u32.result;
-  units = c.wrapping_sub_u32.ensures ∙ c.given-units.ensures;
+  units = c.wrapping_sub_u32.ensures.value ∙ c.given-units.ensures;
   few = search rules;
   numbers = λ z. record {
     answer = c.args.answer;

@@ -21,13 +21,12 @@ returns-then-refused-ne0 c =
     c.args.bindings.now c.args.mark c.args.start c.args.subject c.args.units) c.args.work.now _ (omega (arith, c.if-work-lt-WORK.false)) c.refusal-refused.ensures c.if-refused-ne0.true
 
 pub load_bindings-mask-requires : goal.load_bindings-mask-requires
-load_bindings-mask-requires c =
-    (
-      omega (arith, c.if-work-lt-WORK.false),
-      (passes (lent_if c.args.signed c.args.signature.now)
-          (input c.args.table.now c.args.store.now c.args.bindings.now c.args.mark c.args.start
-          c.args.subject c.args.units) c.args.work.now _ c.refusal-refused.ensures c.if-refused-ne0.false).bindings,
-    )
+load_bindings-mask-requires c = (
+  omega (arith, c.if-work-lt-WORK.false),
+  (passes (lent_if c.args.signed c.args.signature.now)
+      (input c.args.table.now c.args.store.now c.args.bindings.now c.args.mark c.args.start
+      c.args.subject c.args.units) c.args.work.now _ c.refusal-refused.ensures c.if-refused-ne0.false).bindings,
+)
 
 pub returns : goal.returns
 returns c =

@@ -11,7 +11,6 @@ use Rattle.stepping.proofs.lengths_fit.Reads as lengths-fit-reads
 use Rattle.stepping.proofs.own.saved.Reads as saved-reads
 use Rattle.words.proofs.word.Reads as word-reads
 use Rattle.stepping.proofs.step_run.Goals as goal
-use Rattle.stepping.proofs.step_run.Goals.{Joined-visits-a}
 use Rattle.stepping.proofs.step_run.Goals.{else-visits-a, then-visits-a}
 
 pub returns-then-not-lengths_fit : goal.returns-then-not-lengths_fit
@@ -34,18 +33,19 @@ returns-then-word-eq0 c =
       listed = nothing-begun;
     }
 
--- where it is to stop
-stopped : (c : Joined-visits-a) → c.if-visits-a.stop ≡ stop_at c.saved-a.result.fuel c.args.visits
-stopped c =
-    elim c.if-visits-a.branch [ then-visits-a w ↦ w.2 ∙ stop-then _ _ w.0.taken | else-visits-a w ↦ w.1 ∙ stop-else c.saved-a.result.fuel c.args.visits
-    (omega (arith, w.0.left)) ]
-
 pub go-m-requires : goal.go-m-requires
 go-m-requires c =
+    -- where it is to stop
+    let stopped : c.if-visits-a.stop ≡ stop_at c.saved-a.result.fuel c.args.visits =
+    elim c.if-visits-a.branch [
+      | then-visits-a w ↦ w.stop-is ∙ stop-then _ _ w.if-visits-a.true
+      | else-visits-a w ↦ w.stop-is ∙ stop-else c.saved-a.result.fuel c.args.visits
+          (omega (arith, w.if-visits-a.false))
+    ] in
     let z = lengths-lent c.args.table.now (lists c.args.store.now c.args.bindings.now c.args.work.now)
     (sym c.lengths_fit.ensures ∙ not-false _ c.if-not-lengths_fit.false-raw) in
     let l = level-low c.args.work.now _ c.saved-a.ensures in
-    (l.0, l.1, stop-few _ _ _ (stopped c.before.before), z.0)
+    (l.0, l.1, stop-few _ _ _ stopped, z.0)
 
 pub conclude-requires : goal.conclude-requires
 conclude-requires c =
@@ -55,10 +55,17 @@ conclude-requires c =
 
 pub returns : goal.returns
 returns c =
+    -- where it is to stop
+    let stopped : c.if-visits-a.stop ≡ stop_at c.saved-a.result.fuel c.args.visits =
+    elim c.if-visits-a.branch [
+      | then-visits-a w ↦ w.stop-is ∙ stop-then _ _ w.if-visits-a.true
+      | else-visits-a w ↦ w.stop-is ∙ stop-else c.saved-a.result.fuel c.args.visits
+          (omega (arith, w.if-visits-a.false))
+    ] in
     let yes = sym c.lengths_fit.ensures ∙ not-false _ c.if-not-lengths_fit.false-raw in
     record {
       lengths = λ h. absurd (true≢false (sym yes ∙ h));
       zero = λ _ z. absurd (c.if-word-eq0.false (c.word.ensures ∙ z));
-      goes = λ i n a e h. step-goes i n c.args.visits (lists c.args.store.now c.args.bindings.now c.args.work.now) a h _ e _ c.saved-a.ensures _ (stopped c.before.before.before.before.before.before.before.before.before.before.before.before.before.before.before.before.before) _ _ _ (c.go-m.ensures.on refl) _ _ _ _ c.conclude.ensures;
+      goes = λ i n a e h. step-goes i n c.args.visits (lists c.args.store.now c.args.bindings.now c.args.work.now) a h _ e _ c.saved-a.ensures _ stopped _ _ _ (c.go-m.ensures.on refl) _ _ _ _ c.conclude.ensures;
       listed = went-listed c.conclude.ensures;
     }

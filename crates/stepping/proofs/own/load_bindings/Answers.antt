@@ -57,8 +57,11 @@ loop-v-smaller c = omega (arith, c.loop-v.invariant.few, c.loop-v-test.true)
 
 pub loop-v-preserved : goal.loop-v-preserved
 loop-v-preserved c =
-    elim c.if-w-ne0.branch [ then-w-ne0 w ↦ rw (w.1, w.2) (loaded-bound c.loop-v.invariant c.loop-v-test.true c.requires.0
-    _ refl w.0.taken) | else-w-ne0 w ↦ rw (w.1, w.2) (loaded-unbound c.loop-v.invariant c.loop-v-test.true c.requires.0 _ refl w.0.left) ]
+    elim c.if-w-ne0.branch [
+      | then-w-ne0 w ↦ rw (w.work-is, w.mask-is) (loaded-bound c.loop-v.invariant c.loop-v-test.true c.requires.0
+          _ refl w.if-w-ne0.true)
+      | else-w-ne0 w ↦ rw (w.work-is, w.mask-is) (loaded-unbound c.loop-v.invariant c.loop-v-test.true c.requires.0 _ refl w.if-w-ne0.false)
+    ]
 
 pub shape_of-work : goal.shape_of-work
 shape_of-work c = c.loop-v.invariant.long

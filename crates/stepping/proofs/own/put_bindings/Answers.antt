@@ -61,9 +61,12 @@ pub loop-v-smaller : goal.loop-v-smaller
 loop-v-smaller c = omega (arith, c.loop-v.invariant.few, c.loop-v-test.true)
 
 pub loop-v-preserved : goal.loop-v-preserved
-loop-v-preserved c = elim c.if-mask-v-eq1.branch [ then-mask-v-eq1 w ↦ rw w.3 (one_written c.loop-v.invariant c.loop-v-test.true (w.2.ensures ∙ rw
-    (bit-has _ _ w.0.taken) refl)) | else-mask-v-eq1 w ↦ rw w.1 (one_written c.loop-v.invariant c.loop-v-test.true (rw
-    (no-bit-has _ _ w.0.left) refl)) ]
+loop-v-preserved c = elim c.if-mask-v-eq1.branch [
+  | then-mask-v-eq1 w ↦ rw w.bindings-is (one_written c.loop-v.invariant c.loop-v-test.true (w.wrapping_add_u32.ensures.value ∙ rw
+      (bit-has _ _ w.if-mask-v-eq1.true) refl))
+  | else-mask-v-eq1 w ↦ rw w.bindings-is (one_written c.loop-v.invariant c.loop-v-test.true (rw
+      (no-bit-has _ _ w.if-mask-v-eq1.false) refl))
+]
 
 pub shape_of-bindings : goal.shape_of-bindings
 shape_of-bindings c = c.loop-v.invariant.long ∙ sym c.requires.0
