@@ -29,7 +29,7 @@ bit-requires c =
       c.requires.2,
   c.entry-v.ensures,
 ) in
-    small (c)
+    small
 
 pub word_of-requires : goal.word_of-requires
 word_of-requires c =

@@ -9,17 +9,13 @@ use Rattle.checks.specs.Kinds.{variables}
 use Rattle.checks.specs.Good.{kind_of, operand_count}
 use Rattle.state.specs.Record.{record_long, held}
 use Rattle.state.specs.Visits.{agreeing}
+use Rattle.state.proofs.Asking.{Tagged-not_done}
 use Rattle.state.proofs.AnswerWords.{done-node}
 use Rattle.leaves.proofs.Matching.{Turn, child-there, bound-there, handed-there, going-there, going-bound, Going, going-none}
 use Rattle.leaves.proofs.Matching.{going-turn, going_on, going-long, going-down, matched-all, operand-is, variable-small}
 use Rattle.leaves.proofs.Matching.{constructor-is, child-units, inner-stopped, free-matched, bound-matched, bound-stops, other}
 use Rattle.leaves.proofs.Matching.{leaf-matched, handed, inner-matched, inner-refused}
 use Rattle.leaves.proofs.matcher.match_in_place.Goals as goal
-use Rattle.leaves.proofs.matcher.match_in_place.Goals.{After-entry-v, After-node_word-c, At-loop-i, Else-kind-eq-PVAR, Else-not-agree, Then-kind-eq-PVAR}
-
--- some nesting is left
-levels : (c : After-node_word-c) → c.loop-i.d ≡ 0 → ⊥
-levels c e = omega (arith, c.loop-i.invariant.3)
 
 pub loop-i-init : goal.loop-i-init
 loop-i-init c = let h = c.requires in (
@@ -58,7 +54,7 @@ node_word-c-requires c =
 
 pub returns-then-left-eq0 : goal.returns-then-left-eq0
 returns-then-left-eq0 c =
-    let turn : let a = c.args in let l = c.loop-i in Turn a.table.now a.store.now l.d l.x l.inv.5.given l.inv.5.held_then l.st l.left l.i c.entry-q.result c.node_word-c.result =
+    let turn : let a = c.args in let l = c.loop-i in Turn a.table.now a.store.now l.d l.x l.invariant.5.given l.invariant.5.held_then l.st l.left l.i c.entry-q.result c.node_word-c.result =
         let l = c.loop-i.invariant in
     going-turn l.5 c.requires.1.0 (omega arith) c.entry-q.ensures
     c.node_word-c.ensures l.2 in
@@ -73,7 +69,7 @@ overflow_add-i-in-loop-i-2 c =
 
 pub kind-requires : goal.kind-requires
 kind-requires c =
-    let turn : let a = c.args in let l = c.loop-i in Turn a.table.now a.store.now l.d l.x l.inv.5.given l.inv.5.held_then l.st l.left l.i c.entry-q.result c.node_word-c.result =
+    let turn : let a = c.args in let l = c.loop-i in Turn a.table.now a.store.now l.d l.x l.invariant.5.given l.invariant.5.held_then l.st l.left l.i c.entry-q.result c.node_word-c.result =
         let l = c.loop-i.invariant in
     going-turn l.5 c.requires.1.0 (omega arith) c.entry-q.ensures
     c.node_word-c.ensures l.2 in
@@ -81,7 +77,7 @@ kind-requires c =
 
 pub entry-v-requires : goal.entry-v-requires
 entry-v-requires c =
-    let turn : let a = c.args in let l = c.loop-i in Turn a.table.now a.store.now l.d l.x l.inv.5.given l.inv.5.held_then l.st l.left l.i c.entry-q.result c.node_word-c.result =
+    let turn : let a = c.args in let l = c.loop-i in Turn a.table.now a.store.now l.d l.x l.invariant.5.given l.invariant.5.held_then l.st l.left l.i c.entry-q.result c.node_word-c.result =
         let l = c.loop-i.invariant in
     going-turn l.5 c.requires.1.0 (omega arith) c.entry-q.ensures
     c.node_word-c.ensures l.2 in
@@ -89,7 +85,7 @@ entry-v-requires c =
 
 pub bit-requires : goal.bit-requires
 bit-requires c =
-    let turn : let a = c.args in let l = c.loop-i in Turn a.table.now a.store.now l.d l.x l.inv.5.given l.inv.5.held_then l.st l.left l.i c.entry-q.result c.node_word-c.result =
+    let turn : let a = c.args in let l = c.loop-i in Turn a.table.now a.store.now l.d l.x l.invariant.5.given l.invariant.5.held_then l.st l.left l.i c.entry-q.result c.node_word-c.result =
         let l = c.loop-i.invariant in
     going-turn l.5 c.requires.1.0 (omega arith) c.entry-q.ensures
     c.node_word-c.ensures l.2 in
@@ -101,7 +97,7 @@ bit-requires c =
 
 pub word_of-requires : goal.word_of-requires
 word_of-requires c =
-    let turn : let a = c.args in let l = c.loop-i in Turn a.table.now a.store.now l.d l.x l.inv.5.given l.inv.5.held_then l.st l.left l.i c.entry-q.result c.node_word-c.result =
+    let turn : let a = c.args in let l = c.loop-i in Turn a.table.now a.store.now l.d l.x l.invariant.5.given l.invariant.5.held_then l.st l.left l.i c.entry-q.result c.node_word-c.result =
         let l = c.loop-i.invariant in
     going-turn l.5 c.requires.1.0 (omega arith) c.entry-q.ensures
     c.node_word-c.ensures l.2 in
@@ -113,7 +109,7 @@ word_of-requires c =
 
 pub same-got-requires : goal.same-got-requires
 same-got-requires c =
-    let turn : let a = c.args in let l = c.loop-i in Turn a.table.now a.store.now l.d l.x l.inv.5.given l.inv.5.held_then l.st l.left l.i c.entry-q.result c.node_word-c.result =
+    let turn : let a = c.args in let l = c.loop-i in Turn a.table.now a.store.now l.d l.x l.invariant.5.given l.invariant.5.held_then l.st l.left l.i c.entry-q.result c.node_word-c.result =
         let l = c.loop-i.invariant in
     going-turn l.5 c.requires.1.0 (omega arith) c.entry-q.ensures
     c.node_word-c.ensures l.2 in
@@ -127,31 +123,31 @@ same-got-requires c =
 
 pub returns-in_default : goal.returns-in_default
 returns-in_default c =
-    let turn : let a = c.args in let l = c.loop-i in Turn a.table.now a.store.now l.d l.x l.inv.5.given l.inv.5.held_then l.st l.left l.i c.entry-q.result c.node_word-c.result =
+    let turn : let a = c.args in let l = c.loop-i in Turn a.table.now a.store.now l.d l.x l.invariant.5.given l.invariant.5.held_then l.st l.left l.i c.entry-q.result c.node_word-c.result =
         let l = c.loop-i.invariant in
     going-turn l.5 c.requires.1.0 (omega arith) c.entry-q.ensures
     c.node_word-c.ensures l.2 in
     let is-variable : kind_of c.args.table.now c.entry-q.result ≡ 18 =
         sym c.kind.ensures ∙ c.if-kind-eq-PVAR.true in
-    c.loop-i.invariant.5.whole _ _ (bound-stops turn c.if-left-eq0.false (levels c.before.before.before.before.before.before.before.before.before.before.before.before.before.before)
+    c.loop-i.invariant.5.whole _ _ (bound-stops turn c.if-left-eq0.false (λ e. omega (arith, c.loop-i.invariant.3))
     is-variable c.entry-v.ensures c.loop-i.invariant.4
     (sym c.bit.ensures ∙ c.if-bit-eq1.true) c.word_of.ensures _
     (λ m. c.same-got.ensures _ (held c.loop-i.st) m) _ c.answer_of.ensures
-    c.give_up.ensures c.in_default.keys2)
+    c.give_up.ensures (Tagged-not_done _ c.in_default.not-Done))
 
 pub loop-i-smaller-then-bit-eq1 : goal.loop-i-smaller-then-bit-eq1
 loop-i-smaller-then-bit-eq1 c = omega arith
 
 pub loop-i-preserved-then-bit-eq1 : goal.loop-i-preserved-then-bit-eq1
 loop-i-preserved-then-bit-eq1 c =
-    let turn : let a = c.args in let l = c.loop-i in Turn a.table.now a.store.now l.d l.x l.inv.5.given l.inv.5.held_then l.st l.left l.i c.entry-q.result c.node_word-c.result =
+    let turn : let a = c.args in let l = c.loop-i in Turn a.table.now a.store.now l.d l.x l.invariant.5.given l.invariant.5.held_then l.st l.left l.i c.entry-q.result c.node_word-c.result =
         let l = c.loop-i.invariant in
     going-turn l.5 c.requires.1.0 (omega arith) c.entry-q.ensures
     c.node_word-c.ensures l.2 in
     let is-variable : kind_of c.args.table.now c.entry-q.result ≡ 18 =
         sym c.kind.ensures ∙ c.if-kind-eq-PVAR.true in
     let l = c.loop-i.invariant in
-    let f = bound-matched turn c.if-left-eq0.false (levels c.before.before.before.before.before.before.before.before.before.before.before.before.before.before)
+    let f = bound-matched turn c.if-left-eq0.false (λ e. omega (arith, c.loop-i.invariant.3))
     is-variable c.entry-v.ensures l.4 (sym c.bit.ensures ∙ c.if-bit-eq1.true)
     c.word_of.ensures _ (λ m. c.same-got.ensures _ (held c.loop-i.st) m) _
     c.answer_of.ensures _ _ c.in-Done.is in (
@@ -167,7 +163,7 @@ loop-i-preserved-then-bit-eq1 c =
 
 pub put_variable-requires : goal.put_variable-requires
 put_variable-requires c =
-    let turn : let a = c.args in let l = c.loop-i in Turn a.table.now a.store.now l.d l.x l.inv.5.given l.inv.5.held_then l.st l.left l.i c.entry-q.result c.node_word-c.result =
+    let turn : let a = c.args in let l = c.loop-i in Turn a.table.now a.store.now l.d l.x l.invariant.5.given l.invariant.5.held_then l.st l.left l.i c.entry-q.result c.node_word-c.result =
         let l = c.loop-i.invariant in
     going-turn l.5 c.requires.1.0 (omega arith) c.entry-q.ensures
     c.node_word-c.ensures l.2 in
@@ -182,21 +178,21 @@ loop-i-smaller-else-bit-eq1 c = omega arith
 
 pub loop-i-preserved-else-bit-eq1 : goal.loop-i-preserved-else-bit-eq1
 loop-i-preserved-else-bit-eq1 c =
-    let turn : let a = c.args in let l = c.loop-i in Turn a.table.now a.store.now l.d l.x l.inv.5.given l.inv.5.held_then l.st l.left l.i c.entry-q.result c.node_word-c.result =
+    let turn : let a = c.args in let l = c.loop-i in Turn a.table.now a.store.now l.d l.x l.invariant.5.given l.invariant.5.held_then l.st l.left l.i c.entry-q.result c.node_word-c.result =
         let l = c.loop-i.invariant in
     going-turn l.5 c.requires.1.0 (omega arith) c.entry-q.ensures
     c.node_word-c.ensures l.2 in
     let is-variable : kind_of c.args.table.now c.entry-q.result ≡ 18 =
         sym c.kind.ensures ∙ c.if-kind-eq-PVAR.true in
     let l = c.loop-i.invariant in
-    let f = free-matched turn c.if-left-eq0.false (levels c.before.before.before.before.before.before.before.before.before)
+    let f = free-matched turn c.if-left-eq0.false (λ e. omega (arith, c.loop-i.invariant.3))
     is-variable c.entry-v.ensures l.4 (λ e. c.if-bit-eq1.false (c.bit.ensures ∙ e))
     c.put_variable.ensures in
     (omega arith, l.1, omega (arith, l.2), l.3, going-long l.5 l.4 f, going_on l.5 f)
 
 pub agree-requires : goal.agree-requires
 agree-requires c =
-    let turn : let a = c.args in let l = c.loop-i in Turn a.table.now a.store.now l.d l.x l.inv.5.given l.inv.5.held_then l.st l.left l.i c.entry-q.result c.node_word-c.result =
+    let turn : let a = c.args in let l = c.loop-i in Turn a.table.now a.store.now l.d l.x l.invariant.5.given l.invariant.5.held_then l.st l.left l.i c.entry-q.result c.node_word-c.result =
         let l = c.loop-i.invariant in
     going-turn l.5 c.requires.1.0 (omega arith) c.entry-q.ensures
     c.node_word-c.ensures l.2 in
@@ -204,19 +200,19 @@ agree-requires c =
 
 pub returns-then-not-agree : goal.returns-then-not-agree
 returns-then-not-agree c =
-    let turn : let a = c.args in let l = c.loop-i in Turn a.table.now a.store.now l.d l.x l.inv.5.given l.inv.5.held_then l.st l.left l.i c.entry-q.result c.node_word-c.result =
+    let turn : let a = c.args in let l = c.loop-i in Turn a.table.now a.store.now l.d l.x l.invariant.5.given l.invariant.5.held_then l.st l.left l.i c.entry-q.result c.node_word-c.result =
         let l = c.loop-i.invariant in
     going-turn l.5 c.requires.1.0 (omega arith) c.entry-q.ensures
     c.node_word-c.ensures l.2 in
     let is-constructor : kind_of c.args.table.now c.entry-q.result ≡ 19 =
         constructor-is turn c.kind.ensures c.if-kind-eq-PVAR.false in
-    c.loop-i.invariant.5.whole _ _ (other turn c.if-left-eq0.false (levels c.before.before.before.before.before.before)
+    c.loop-i.invariant.5.whole _ _ (other turn c.if-left-eq0.false (λ e. omega (arith, c.loop-i.invariant.3))
     is-constructor c.loop-i.invariant.4 c.failure.ensures
     (sym c.agree.ensures ∙ not-true _ c.if-not-agree.true-raw))
 
 pub operands-m-requires : goal.operands-m-requires
 operands-m-requires c =
-    let turn : let a = c.args in let l = c.loop-i in Turn a.table.now a.store.now l.d l.x l.inv.5.given l.inv.5.held_then l.st l.left l.i c.entry-q.result c.node_word-c.result =
+    let turn : let a = c.args in let l = c.loop-i in Turn a.table.now a.store.now l.d l.x l.invariant.5.given l.invariant.5.held_then l.st l.left l.i c.entry-q.result c.node_word-c.result =
         let l = c.loop-i.invariant in
     going-turn l.5 c.requires.1.0 (omega arith) c.entry-q.ensures
     c.node_word-c.ensures l.2 in
@@ -224,7 +220,7 @@ operands-m-requires c =
 
 pub returns-then-d-eq1 : goal.returns-then-d-eq1
 returns-then-d-eq1 c =
-    let turn : let a = c.args in let l = c.loop-i in Turn a.table.now a.store.now l.d l.x l.inv.5.given l.inv.5.held_then l.st l.left l.i c.entry-q.result c.node_word-c.result =
+    let turn : let a = c.args in let l = c.loop-i in Turn a.table.now a.store.now l.d l.x l.invariant.5.given l.invariant.5.held_then l.st l.left l.i c.entry-q.result c.node_word-c.result =
         let l = c.loop-i.invariant in
     going-turn l.5 c.requires.1.0 (omega arith) c.entry-q.ensures
     c.node_word-c.ensures l.2 in
@@ -238,7 +234,7 @@ returns-then-d-eq1 c =
 
 pub loop-i-smaller-then-i-n : goal.loop-i-smaller-then-i-n
 loop-i-smaller-then-i-n c =
-    let turn : let a = c.args in let l = c.loop-i in Turn a.table.now a.store.now l.d l.x l.inv.5.given l.inv.5.held_then l.st l.left l.i c.entry-q.result c.node_word-c.result =
+    let turn : let a = c.args in let l = c.loop-i in Turn a.table.now a.store.now l.d l.x l.invariant.5.given l.invariant.5.held_then l.st l.left l.i c.entry-q.result c.node_word-c.result =
         let l = c.loop-i.invariant in
     going-turn l.5 c.requires.1.0 (omega arith) c.entry-q.ensures
     c.node_word-c.ensures l.2 in
@@ -247,7 +243,7 @@ loop-i-smaller-then-i-n c =
 
 pub loop-i-preserved-then-i-n : goal.loop-i-preserved-then-i-n
 loop-i-preserved-then-i-n c =
-    let turn : let a = c.args in let l = c.loop-i in Turn a.table.now a.store.now l.d l.x l.inv.5.given l.inv.5.held_then l.st l.left l.i c.entry-q.result c.node_word-c.result =
+    let turn : let a = c.args in let l = c.loop-i in Turn a.table.now a.store.now l.d l.x l.invariant.5.given l.invariant.5.held_then l.st l.left l.i c.entry-q.result c.node_word-c.result =
         let l = c.loop-i.invariant in
     going-turn l.5 c.requires.1.0 (omega arith) c.entry-q.ensures
     c.node_word-c.ensures l.2 in
@@ -262,13 +258,13 @@ loop-i-preserved-then-i-n c =
       omega (arith, c.if-d-eq1.false),
       l.4,
       going-down l.5
-          turn c.if-left-eq0.false (levels c.before.before.before.before.before.before.before.before.before) is-constructor
+          turn c.if-left-eq0.false (λ e. omega (arith, c.loop-i.invariant.3)) is-constructor
           agrees (omega (arith, c.if-i-n.true, l.1)),
     )
 
 pub match_children-f-requires : goal.match_children-f-requires
 match_children-f-requires c =
-    let turn : let a = c.args in let l = c.loop-i in Turn a.table.now a.store.now l.d l.x l.inv.5.given l.inv.5.held_then l.st l.left l.i c.entry-q.result c.node_word-c.result =
+    let turn : let a = c.args in let l = c.loop-i in Turn a.table.now a.store.now l.d l.x l.invariant.5.given l.invariant.5.held_then l.st l.left l.i c.entry-q.result c.node_word-c.result =
         let l = c.loop-i.invariant in
     going-turn l.5 c.requires.1.0 (omega arith) c.entry-q.ensures
     c.node_word-c.ensures l.2 in
@@ -277,7 +273,7 @@ match_children-f-requires c =
     let agrees : agreeing c.args.table.now c.args.store.now c.entry-q.result c.node_word-c.result ≡ true =
         sym c.agree.ensures ∙ not-false _ c.if-not-agree.false-raw in
     let k = turn in
-    let d = levels c.before.before.before.before.before.before.before.before.before.before.before in
+    let d : c.loop-i.d ≡ 0 → ⊥ = λ e. omega (arith, c.loop-i.invariant.3) in
     let n = is-constructor in
     let e = agrees in (
       (
@@ -294,7 +290,7 @@ match_children-f-requires c =
 
 pub returns-in_default-answer_of : goal.returns-in_default-answer_of
 returns-in_default-answer_of c =
-    let turn : let a = c.args in let l = c.loop-i in Turn a.table.now a.store.now l.d l.x l.inv.5.given l.inv.5.held_then l.st l.left l.i c.entry-q.result c.node_word-c.result =
+    let turn : let a = c.args in let l = c.loop-i in Turn a.table.now a.store.now l.d l.x l.invariant.5.given l.invariant.5.held_then l.st l.left l.i c.entry-q.result c.node_word-c.result =
         let l = c.loop-i.invariant in
     going-turn l.5 c.requires.1.0 (omega arith) c.entry-q.ensures
     c.node_word-c.ensures l.2 in
@@ -303,16 +299,16 @@ returns-in_default-answer_of c =
     let agrees : agreeing c.args.table.now c.args.store.now c.entry-q.result c.node_word-c.result ≡ true =
         sym c.agree.ensures ∙ not-false _ c.if-not-agree.false-raw in
     c.loop-i.invariant.5.whole _ _ (inner-refused turn c.if-left-eq0.false
-    (levels c.before.before.before.before.before.before.before.before.before.before.before.before.before.before.before.before) is-constructor agrees c.done.ensures _
+    (λ e. omega (arith, c.loop-i.invariant.3)) is-constructor agrees c.done.ensures _
     _ c.match_children-f.ensures _ c.answer_of-else-i-n.ensures c.loop-i.invariant.4
-    c.in_default-answer_of.keys2)
+    (Tagged-not_done _ c.in_default-answer_of.not-Done))
 
 pub loop-i-smaller-else-i-n : goal.loop-i-smaller-else-i-n
 loop-i-smaller-else-i-n c = omega arith
 
 pub loop-i-preserved-else-i-n : goal.loop-i-preserved-else-i-n
 loop-i-preserved-else-i-n c =
-    let turn : let a = c.args in let l = c.loop-i in Turn a.table.now a.store.now l.d l.x l.inv.5.given l.inv.5.held_then l.st l.left l.i c.entry-q.result c.node_word-c.result =
+    let turn : let a = c.args in let l = c.loop-i in Turn a.table.now a.store.now l.d l.x l.invariant.5.given l.invariant.5.held_then l.st l.left l.i c.entry-q.result c.node_word-c.result =
         let l = c.loop-i.invariant in
     going-turn l.5 c.requires.1.0 (omega arith) c.entry-q.ensures
     c.node_word-c.ensures l.2 in
@@ -321,7 +317,7 @@ loop-i-preserved-else-i-n c =
     let agrees : agreeing c.args.table.now c.args.store.now c.entry-q.result c.node_word-c.result ≡ true =
         sym c.agree.ensures ∙ not-false _ c.if-not-agree.false-raw in
     let l = c.loop-i.invariant in
-    let f = inner-matched turn c.if-left-eq0.false (levels c.before.before.before.before.before.before.before.before.before.before.before.before.before.before.before.before.before.before)
+    let f = inner-matched turn c.if-left-eq0.false (λ e. omega (arith, c.loop-i.invariant.3))
     is-constructor agrees c.done.ensures _ _
     c.match_children-f.ensures _ c.answer_of-else-i-n.ensures _ _ c.in-Done-answer_of.is in (
       omega arith,
@@ -337,7 +333,7 @@ loop-i-smaller c = omega arith
 
 pub loop-i-preserved : goal.loop-i-preserved
 loop-i-preserved c =
-    let turn : let a = c.args in let l = c.loop-i in Turn a.table.now a.store.now l.d l.x l.inv.5.given l.inv.5.held_then l.st l.left l.i c.entry-q.result c.node_word-c.result =
+    let turn : let a = c.args in let l = c.loop-i in Turn a.table.now a.store.now l.d l.x l.invariant.5.given l.invariant.5.held_then l.st l.left l.i c.entry-q.result c.node_word-c.result =
         let l = c.loop-i.invariant in
     going-turn l.5 c.requires.1.0 (omega arith) c.entry-q.ensures
     c.node_word-c.ensures l.2 in
@@ -346,7 +342,7 @@ loop-i-preserved c =
     let agrees : agreeing c.args.table.now c.args.store.now c.entry-q.result c.node_word-c.result ≡ true =
         sym c.agree.ensures ∙ not-false _ c.if-not-agree.false-raw in
     let l = c.loop-i.invariant in
-    let f = leaf-matched turn c.if-left-eq0.false (levels c.before.before.before.before.before.before.before)
+    let f = leaf-matched turn c.if-left-eq0.false (λ e. omega (arith, c.loop-i.invariant.3))
     is-constructor agrees (sym c.operands-m.ensures ∙ c.if-m-ne0.false) in
     (omega arith, l.1, omega (arith, l.2), l.3, going-long l.5 l.4 f, going_on l.5 f)
 

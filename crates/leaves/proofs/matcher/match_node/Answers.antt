@@ -10,6 +10,7 @@ use Rattle.state.specs.Answers.{node_in}
 use Rattle.state.specs.Record.{standing, held}
 use Rattle.state.specs.Visits.{agreeing}
 use Rattle.leaves.proofs.Patterns.{no-variable}
+use Rattle.state.proofs.Asking.{Tagged-not_done}
 use Rattle.state.proofs.Storing.{steady-bound}
 use Rattle.leaves.proofs.Matching.{root-stored, root-bound-there, root-there, root-units, root-nesting, root-small, root-free}
 use Rattle.leaves.proofs.Matching.{root-bound, root-bound-stops, root-other, root-leaf, root-handed, root-stops, root-stopped}
@@ -63,7 +64,7 @@ returns-in_default c =
     root-bound-stops c.requires.0 _ c.if-left-eq0.false c.if-deep-eq0.false is-variable
     c.entry-v.ensures (sym c.bit.ensures ∙ c.if-bit-eq1.true) c.word_of.ensures _
     (c.same-got.ensures _ (held c.args.st.now) (standing c.args.st.now)) _
-    c.answer_of.ensures c.give_up.ensures c.in_default.keys2
+    c.answer_of.ensures c.give_up.ensures (Tagged-not_done _ c.in_default.not-Done)
 
 pub returns-then-bit-eq1 : goal.returns-then-bit-eq1
 returns-then-bit-eq1 c =
@@ -160,7 +161,7 @@ returns-in_default-answer_of c =
         sym c.agree.ensures ∙ not-false _ c.if-not-agree.false-raw in
     root-stops c.requires.0 _ c.if-left-eq0.false c.if-deep-eq0.false is-constructor
     agrees _ _ c.match_in_place-got.ensures _ c.answer_of-2.ensures
-    c.in_default-answer_of.keys2
+    (Tagged-not_done _ c.in_default-answer_of.not-Done)
 
 pub returns : goal.returns
 returns c =

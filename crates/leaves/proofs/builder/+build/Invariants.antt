@@ -1,0 +1,30 @@
+-- `builder::build` meets its contract. The loop's invariant: the nodes of the operands before i stand in the row that is made,
+-- and from operand i on all goes on to the whole. The measure of a call is the nesting.
+use mathlib.Core.Path.{◌≡◌, refl, sym, ◌∙◌}
+use mathlib.Core.Logic.{⊎_elim}
+use native.Mathlib.Omega.{arith}
+use borrow.Author.Rules.{rules}
+use lib.ListN.{length, length-set}
+use Rattle.checks.specs.Good.{kind_of, operand_count}
+use Rattle.meaning.specs.Rules.{build as built}
+use Rattle.state.specs.Record.{standing, held}
+use Rattle.state.specs.Visits.{visit, Pattern, Builds}
+use Rattle.state.proofs.AnswerWords.{done-node}
+use Rattle.state.proofs.Holding.{further, framed-refl}
+use Rattle.leaves.proofs.Limited.{units-out, nesting-out}
+use Rattle.leaves.proofs.Patterns.{no-variable, operand-pattern}
+use Rattle.leaves.proofs.Building.{Built, builds-at, built-none, built-all, built-more, build-stops}
+use Prim.Native.Nat.{ℕ, ◌+◌, ◌-◌, ◌<◌, ◌≤◌}
+use Rattle.leaves.proofs.builder.+build.Given as goal
+
+abbrev pub decreases-build : goal.decreases-build
+decreases-build l = l.deep
+
+abbrev pub invariant-loop-i : goal.invariant-loop-i
+invariant-loop-i l =
+    (l.i ≤ l.n) × (l.n ≡ operand_count l.table l.p) × (kind_of l.table l.p ≡ 19) × (l.left < 4294967296) × (length l.store ≡ length l.initial.store) × (length l.made ≡ 8)
+    × Built l.table (l.deep - 1) l.p l.initial.st (λ k. visit l.table l.deep (built l.p k (held l.initial.st)) l.initial.store (standing l.initial.st) l.units) l.store l.st l.made l.left l.i
+
+abbrev pub decreases-loop-i : goal.decreases-loop-i
+decreases-loop-i l =
+    l.n - l.i

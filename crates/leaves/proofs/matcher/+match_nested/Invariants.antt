@@ -1,0 +1,29 @@
+-- `matcher::match_nested` meets its contract. The loop's invariant: from child i on, with the record as it is filled so far, all goes
+-- on to the whole, whatever the mark. The measure of a call is the nesting.
+use mathlib.Core.Path.{◌≡◌, sym, ◌∙◌}
+use mathlib.Core.Bool.{true}
+use mathlib.Core.Logic.{⊎_elim}
+use native.Mathlib.Omega.{arith}
+use borrow.Author.Rules.{rules}
+use borrow.Author.Tests.{not-true, not-false}
+use lib.ListN.{length}
+use Rattle.checks.specs.Good.{kind_of, operand_count}
+use Rattle.state.specs.Record.{record_long, held}
+use Rattle.state.specs.Visits.{agreeing}
+use Rattle.state.proofs.AnswerWords.{done-node}
+use Rattle.leaves.proofs.Matching.{Matched, Turn, child-there, bound-there, handed-there, matched-none, matched-at, matched-all}
+use Rattle.leaves.proofs.Matching.{operand-is, variable-small, constructor-is, child-units, inner-stopped, free-matched}
+use Rattle.leaves.proofs.Matching.{bound-matched, bound-stops, other, leaf-matched, handed, inner-matched, inner-stops}
+use Prim.Native.Nat.{ℕ, ◌+◌, ◌-◌, ◌<◌, ◌≤◌}
+use Rattle.leaves.proofs.matcher.+match_nested.Given as goal
+
+abbrev pub decreases-match_nested : goal.decreases-match_nested
+decreases-match_nested l = l.deep
+
+abbrev pub invariant-loop-i : goal.invariant-loop-i
+invariant-loop-i l =
+    (l.i ≤ l.n) × (l.n ≡ operand_count l.table l.p) × (l.left < 4294967296) × (length l.st ≡ record_long) × Matched l.table l.store l.deep l.p l.s l.initial.st l.st l.left l.i
+
+abbrev pub decreases-loop-i : goal.decreases-loop-i
+decreases-loop-i l =
+    l.n - l.i
