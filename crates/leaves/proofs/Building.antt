@@ -17,7 +17,7 @@ use Rattle.meaning.specs.Bindings.{Bindings}
 use Rattle.meaning.specs.Table.{table, operands}
 use Rattle.meaning.specs.Plan.{ret, make}
 use Rattle.meaning.specs.Rules.{build, Do, does, building, needed, walk}
-use Rattle.meaning.specs.Limits.{room, ended, at, room_for, run_plan}
+use Rattle.meaning.specs.Limits.{ended, at, room_for, run_plan}
 use Rattle.meaning.specs.Store.{row}
 use Rattle.meaning.specs.Shared.{node_with, full_for, number_for, state_for}
 use Rattle.meaning.proofs.Tests.{impossible}

@@ -14,7 +14,7 @@ use Rattle.meaning.specs.Plan.{ret}
 use Rattle.meaning.specs.Rules.{compare, Do, does, comparing, agree, when, walk, zip}
 use Rattle.meaning.specs.Limits.{lost, run_plan}
 use Rattle.meaning.specs.Store.{children}
-use Rattle.state.specs.Noted.{Standing, on, Ran, left_of}
+use Rattle.state.specs.Noted.{Standing, Ran, left_of}
 use Rattle.state.specs.declared.answers.Answer.{Answer}
 use Rattle.state.specs.declared.answers.Answer.TheVariants.{Done, Failed, Cut}
 use Rattle.state.specs.Answers.{answer_of, packed, failed_word}

@@ -1,20 +1,19 @@
 -- What stays steady: a store that is good below its mark, with node and bindings below it, is so again after every visit.
-use mathlib.Core.Path.{◌≡◌, refl, ap, sym, ◌∙◌, subst}
+use mathlib.Core.Path.{◌≡◌, refl, sym, ◌∙◌, subst}
 use mathlib.Core.Bool.{Bool, true, false}
-use mathlib.Core.Option.{Option, none, some}
 use mathlib.Core.List.{List, [], ◌∷◌}
-use Prim.Native.Nat.{ℕ, zero, suc, ◌+◌, ◌-◌, ◌*◌, ◌/◌, ◌%◌, ◌≤◌, ◌<◌}
+use Prim.Native.Nat.{ℕ, zero, suc, ◌+◌, ◌-◌, ◌*◌, ◌<◌}
 use native.Mathlib.Omega.{arith}
 use lib.Dec.{leb}
 use lib.ListN.{length, get_or, length-take, get_or-eq_default}
 use borrow.Author.Tests.{leb-true, leb-false}
-use Rattle.words.specs.Words.{word_at, rows}
-use Rattle.checks.specs.Good.{kind_of, operand_count, argument_of, good_node}
+use Rattle.words.specs.Words.{word_at}
+use Rattle.checks.specs.Good.{kind_of, argument_of}
 use Rattle.meaning.specs.Bindings.{Bindings}
 use Rattle.meaning.specs.Table.{PVAR, PCON, operands, table, table_by}
-use Rattle.meaning.specs.Rules.{Visit, apply, build, does}
+use Rattle.meaning.specs.Rules.{apply, build}
 use Rattle.meaning.specs.Derivation.{places}
-use Rattle.meaning.specs.Limits.{ended, run}
+use Rattle.meaning.specs.Limits.{ended}
 use Rattle.state.specs.Noted.{Standing, back_to, on, Ran}
 use Rattle.meaning.specs.Demands.{Kept, Leaves}
 use Rattle.meaning.proofs.Alike.{Holdable, Makeable}
@@ -23,8 +22,8 @@ use Rattle.meaning.proofs.Words.{kept_word, same-node}
 use Rattle.index.specs.Run.{Fits, Fitting, SameRoom}
 use Rattle.index.proofs.Running.{mark-small, apply-left, apply-same-room, build-left}
 use Rattle.state.specs.declared.answers.Answer.{Answer}
-use Rattle.state.specs.declared.answers.Answer.TheVariants.{Done, Failed, Cut}
-use Rattle.state.specs.Answers.{answer_of, node_in, units_in}
+use Rattle.state.specs.declared.answers.Answer.TheVariants.{Done, Failed}
+use Rattle.state.specs.Answers.{answer_of}
 use Rattle.state.specs.Record.{notes_of, standing, missing, held}
 use Rattle.state.specs.Visits.{visit, meaning, out, Entries, Steady}
 use Rattle.state.proofs.AnswerWords.{out-answer}

@@ -1,16 +1,16 @@
 -- A visit over the store's words: the limits before it, and the rule of its kind after it.
-use mathlib.Core.Path.{◌≡◌, refl, ap, sym, ◌∙◌, subst}
+use mathlib.Core.Path.{◌≡◌, refl, ap}
 use mathlib.Core.List.{List, [], ◌∷◌}
-use Prim.Native.Nat.{ℕ, zero, suc, ◌+◌, ◌-◌, ◌<◌, ◌≤◌}
+use Prim.Native.Nat.{ℕ, zero, suc, ◌+◌, ◌-◌}
 use native.Mathlib.Omega.{arith}
 use lib.ListN.{get_or}
 use Rattle.words.specs.Words.{word_at}
 use Rattle.checks.specs.Kinds.{ours}
-use Rattle.checks.specs.Good.{kind_of, operand_count, argument_of, mask_by}
+use Rattle.checks.specs.Good.{kind_of, argument_of, mask_by}
 use Rattle.meaning.specs.Bindings.{Bindings}
-use Rattle.meaning.specs.Table.{Strategy, ID, FAIL, TEST, NOT, SEQ, CHOICE, LEFT, REC, CALL, PATH, CONG, ALL, ONE, SOME, MATCH, BUILD}
-use Rattle.meaning.specs.Table.{SCOPE, WHERE, Pattern, PVAR, PCON, table, table_by, by_kind, operands}
-use Rattle.meaning.specs.Rules.{Visit, apply, match, build, Do, does, strategy, matching, building}
+use Rattle.meaning.specs.Table.{Strategy, FAIL}
+use Rattle.meaning.specs.Table.{PVAR, PCON, table, table_by, by_kind, operands}
+use Rattle.meaning.specs.Rules.{Visit, apply, does, strategy}
 use Rattle.meaning.specs.Limits.{units, nesting, ended, lost, cut, closed, run, run_plan}
 use Rattle.state.specs.Noted.{Standing, on, stored, Ran, left_of}
 use Rattle.state.specs.Visits.{visit, plan, ruled}

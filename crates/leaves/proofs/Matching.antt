@@ -8,7 +8,7 @@ use Prim.Native.Nat.{ℕ, ◌+◌, ◌-◌, ◌≤◌, ◌<◌}
 use native.Mathlib.Omega.{arith}
 use lib.Dec.{eqb}
 use borrow.Author.Tests.{eqb-true, eqb-false}
-use lib.ListN.{length, get_or, drop}
+use lib.ListN.{length, drop}
 use Rattle.checks.specs.Kinds.{variables}
 use Rattle.words.specs.Words.{word_at}
 use Rattle.words.specs.Tests.{if◌then◌else◌}
@@ -36,7 +36,7 @@ use Rattle.leaves.proofs.Kind.{counted, no-units, no-nesting, pattern-variable, 
 use Rattle.leaves.proofs.Keeping.{node-small}
 use Rattle.leaves.proofs.Limited.{units-out, nesting-out}
 use Rattle.state.proofs.Storing.{child-stored, steady-stored, steady-bound}
-use Rattle.state.proofs.Holding.{further, framed-refl, framed-trans, framed-bound, held-bound, mark-bound, notes-bound, mark-missing}
+use Rattle.state.proofs.Holding.{further, framed-refl, framed-trans, framed-bound, held-bound, mark-bound, notes-bound}
 use Rattle.state.proofs.Holding.{notes-missing, framed-missing, held-missing, held-some, held_none, lasting-missing, lasting-bound}
 use Rattle.leaves.proofs.Children.{part-next, part_end}
 use Rattle.leaves.proofs.Walking.{walk_end, walk-done, walk-failed, walk-cut, kept_on, kept-stop, returned, plan-missed}

@@ -1,19 +1,16 @@
 use mathlib.Core.Path.{◌≡◌, refl, sym, ◌∙◌}
-use mathlib.Core.Logic.{⊎_elim}
 use native.Mathlib.Omega.{arith}
 use borrow.Author.Rules.{rules}
 use lib.ListN.{length, length-set}
-use Rattle.checks.specs.Good.{kind_of, operand_count}
-use Rattle.meaning.specs.Rules.{build as built}
-use Rattle.state.specs.Record.{standing, held}
-use Rattle.state.specs.Visits.{visit, Pattern, Builds}
+use Rattle.checks.specs.Good.{operand_count}
+use Rattle.state.specs.Visits.{Pattern, Builds}
 use Rattle.state.proofs.Asking.{Tagged-not_done}
 use Rattle.state.proofs.AnswerWords.{done-node}
 use Rattle.state.proofs.Holding.{further, framed-refl}
 use Rattle.leaves.proofs.Limited.{units-out, nesting-out}
 use Rattle.leaves.proofs.Patterns.{no-variable, operand-pattern}
-use Rattle.leaves.proofs.Building.{Built, builds-at, built-none, built-all, built-more, build-stops}
-use Prim.Native.Nat.{ℕ, ◌+◌, ◌-◌, ◌<◌, ◌≤◌}
+use Rattle.leaves.proofs.Building.{builds-at, built-none, built-all, built-more, build-stops}
+use Prim.Native.Nat.{◌-◌, ◌<◌}
 use Rattle.leaves.proofs.builder.+build.Goals as goal
 use Rattle.leaves.proofs.builder.+build.Goals.{else-kind-eq-PVAR-2, then-kind-eq-PVAR-2}
 
@@ -71,9 +68,9 @@ entry-q-requires t c = omega (
 pub kind-requires-in-loop-i : goal.kind-requires-in-loop-i
 kind-requires-in-loop-i t c =
     let below : c.loop-i.i < operand_count c.args.table.now c.args.p =
-        omega arith in
+    omega arith in
     let operand : (c.entry-q.result < 4096) × Pattern c.args.table.now c.entry-q.result =
-        operand-pattern _ c.requires.0 _ _ _
+    operand-pattern _ c.requires.0 _ _ _
     c.requires.1 c.loop-i.invariant.2
     below c.entry-q.ensures in
     operand.0
@@ -82,12 +79,11 @@ pub build_variable-got-requires : goal.build_variable-got-requires
 build_variable-got-requires t c
     =
     let below : c.loop-i.i < operand_count c.args.table.now c.args.p =
-        omega arith in
+    omega arith in
     let operand : (c.entry-q.result < 4096) × Pattern c.args.table.now c.entry-q.result =
-        operand-pattern _ c.requires.0 _ _ _
+    operand-pattern _ c.requires.0 _ _ _
     c.requires.1 c.loop-i.invariant.2
-    below c.entry-q.ensures in
-    (
+    below c.entry-q.ensures in (
       c.requires.0,
       operand.0,
       sym c.kind-in-loop-i.ensures ∙ c.if-kind-eq-PVAR-2.true,
@@ -96,9 +92,9 @@ build_variable-got-requires t c
 pub build-got-requires : goal.build-got-requires
 build-got-requires t c =
     let below : c.loop-i.i < operand_count c.args.table.now c.args.p =
-        omega arith in
+    omega arith in
     let operand : (c.entry-q.result < 4096) × Pattern c.args.table.now c.entry-q.result =
-        operand-pattern _ c.requires.0 _ _ _
+    operand-pattern _ c.requires.0 _ _ _
     c.requires.1 c.loop-i.invariant.2
     below c.entry-q.ensures in
     let i = c.loop-i.invariant in
@@ -117,9 +113,9 @@ build-got-requires t c =
 pub returns-in_default : goal.returns-in_default
 returns-in_default t c =
     let below : c.loop-i.i < operand_count c.args.table.now c.args.p =
-        omega arith in
+    omega arith in
     let came : (length c.if-kind-eq-PVAR-2.store ≡ length c.loop-i.store) × Builds c.args.table.now c.loop-i.store c.loop-i.st c.entry-q.result c.loop-i.left (c.args.deep - 1) c.if-kind-eq-PVAR-2.got c.if-kind-eq-PVAR-2.st c.if-kind-eq-PVAR-2.store =
-        let l = c.loop-i in
+    let l = c.loop-i in
     elim c.if-kind-eq-PVAR-2.branch [ then-kind-eq-PVAR-2 w ↦ builds-at _ _ _ _ _ _ _ _ _ _ _ _ w.store-is w.st-is w.got-is refl (w.build_variable-got.ensures _ l.invariant.6.steady) | else-kind-eq-PVAR-2 w ↦ builds-at _ _ _ _ _ _ _ _ _ _ _ _ w.store-is w.st-is w.got-is w.build-got.auto.store w.build-got.ensures ] in
     let g = came in
     build-stops _ _ _ _ _ _ _ _ _ _ c.loop-i.invariant.6
@@ -129,7 +125,7 @@ returns-in_default t c =
 pub shape_of-store-in_default : goal.shape_of-store-in_default
 shape_of-store-in_default t c =
     let came : (length c.if-kind-eq-PVAR-2.store ≡ length c.loop-i.store) × Builds c.args.table.now c.loop-i.store c.loop-i.st c.entry-q.result c.loop-i.left (c.args.deep - 1) c.if-kind-eq-PVAR-2.got c.if-kind-eq-PVAR-2.st c.if-kind-eq-PVAR-2.store =
-        let l = c.loop-i in
+    let l = c.loop-i in
     elim c.if-kind-eq-PVAR-2.branch [ then-kind-eq-PVAR-2 w ↦ builds-at _ _ _ _ _ _ _ _ _ _ _ _ w.store-is w.st-is w.got-is refl (w.build_variable-got.ensures _ l.invariant.6.steady) | else-kind-eq-PVAR-2 w ↦ builds-at _ _ _ _ _ _ _ _ _ _ _ _ w.store-is w.st-is w.got-is w.build-got.auto.store w.build-got.ensures ] in
     came.0 ∙ c.loop-i.invariant.4
 
@@ -143,9 +139,9 @@ bounds-made-i t c = omega (
 pub loop-i-preserved : goal.loop-i-preserved
 loop-i-preserved t c =
     let below : c.loop-i.i < operand_count c.args.table.now c.args.p =
-        omega arith in
+    omega arith in
     let came : (length c.if-kind-eq-PVAR-2.store ≡ length c.loop-i.store) × Builds c.args.table.now c.loop-i.store c.loop-i.st c.entry-q.result c.loop-i.left (c.args.deep - 1) c.if-kind-eq-PVAR-2.got c.if-kind-eq-PVAR-2.st c.if-kind-eq-PVAR-2.store =
-        let l = c.loop-i in
+    let l = c.loop-i in
     elim c.if-kind-eq-PVAR-2.branch [ then-kind-eq-PVAR-2 w ↦ builds-at _ _ _ _ _ _ _ _ _ _ _ _ w.store-is w.st-is w.got-is refl (w.build_variable-got.ensures _ l.invariant.6.steady) | else-kind-eq-PVAR-2 w ↦ builds-at _ _ _ _ _ _ _ _ _ _ _ _ w.store-is w.st-is w.got-is w.build-got.auto.store w.build-got.ensures ] in
     let i = c.loop-i.invariant in
     let g = came in (

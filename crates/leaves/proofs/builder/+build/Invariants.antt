@@ -1,20 +1,13 @@
 -- `builder::build` meets its contract. The loop's invariant: the nodes of the operands before i stand in the row that is made,
 -- and from operand i on all goes on to the whole. The measure of a call is the nesting.
-use mathlib.Core.Path.{◌≡◌, refl, sym, ◌∙◌}
-use mathlib.Core.Logic.{⊎_elim}
-use native.Mathlib.Omega.{arith}
-use borrow.Author.Rules.{rules}
-use lib.ListN.{length, length-set}
+use mathlib.Core.Path.{◌≡◌}
+use lib.ListN.{length}
 use Rattle.checks.specs.Good.{kind_of, operand_count}
 use Rattle.meaning.specs.Rules.{build as built}
 use Rattle.state.specs.Record.{standing, held}
-use Rattle.state.specs.Visits.{visit, Pattern, Builds}
-use Rattle.state.proofs.AnswerWords.{done-node}
-use Rattle.state.proofs.Holding.{further, framed-refl}
-use Rattle.leaves.proofs.Limited.{units-out, nesting-out}
-use Rattle.leaves.proofs.Patterns.{no-variable, operand-pattern}
-use Rattle.leaves.proofs.Building.{Built, builds-at, built-none, built-all, built-more, build-stops}
-use Prim.Native.Nat.{ℕ, ◌+◌, ◌-◌, ◌<◌, ◌≤◌}
+use Rattle.state.specs.Visits.{visit}
+use Rattle.leaves.proofs.Building.{Built}
+use Prim.Native.Nat.{◌-◌, ◌<◌, ◌≤◌}
 use Rattle.leaves.proofs.builder.+build.Given as goal
 
 abbrev pub decreases-build : goal.decreases-build

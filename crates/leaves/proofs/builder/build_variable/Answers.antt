@@ -1,8 +1,7 @@
 -- `builder::build_variable` meets its contract: the limits first, then the variable's node, or that it has none.
-use mathlib.Core.Path.{◌≡◌, sym, ◌∙◌}
+use mathlib.Core.Path.{sym, ◌∙◌}
 use Prim.Native.Nat.{◌<◌}
 use native.Mathlib.Omega.{arith}
-use borrow.Author.Rules.{rules}
 use Rattle.checks.specs.Kinds.{variables}
 use Rattle.state.proofs.Holding.{further, framed-refl}
 use Rattle.leaves.proofs.Limited.{units-out, nesting-out}
@@ -23,34 +22,34 @@ returns-then-deep-eq0 c = λ w s k. record {
 pub bit-requires : goal.bit-requires
 bit-requires c =
     let small : c.entry-v.result < variables =
-        omega (
-  arith,
-  c.requires.0.variable _ c.requires.1
-      c.requires.2,
-  c.entry-v.ensures,
-) in
+    omega (
+      arith,
+      c.requires.0.variable _ c.requires.1
+          c.requires.2,
+      c.entry-v.ensures,
+    ) in
     small
 
 pub word_of-requires : goal.word_of-requires
 word_of-requires c =
     let small : c.entry-v.result < variables =
-        omega (
-  arith,
-  c.requires.0.variable _ c.requires.1
-      c.requires.2,
-  c.entry-v.ensures,
-) in
+    omega (
+      arith,
+      c.requires.0.variable _ c.requires.1
+          c.requires.2,
+      c.entry-v.ensures,
+    ) in
     small
 
 pub returns-then-bit-eq1 : goal.returns-then-bit-eq1
 returns-then-bit-eq1 c =
     let small : c.entry-v.result < variables =
-        omega (
-  arith,
-  c.requires.0.variable _ c.requires.1
-      c.requires.2,
-  c.entry-v.ensures,
-) in
+    omega (
+      arith,
+      c.requires.0.variable _ c.requires.1
+          c.requires.2,
+      c.entry-v.ensures,
+    ) in
     λ w s k. variable-built _ _ _ _ _ _ c.if-units-eq0.false
     c.if-deep-eq0.false _ c.requires.2
     c.entry-v.ensures k _ (omega arith) s small
@@ -59,23 +58,23 @@ returns-then-bit-eq1 c =
 pub no_binding-requires : goal.no_binding-requires
 no_binding-requires c =
     let small : c.entry-v.result < variables =
-        omega (
-  arith,
-  c.requires.0.variable _ c.requires.1
-      c.requires.2,
-  c.entry-v.ensures,
-) in
+    omega (
+      arith,
+      c.requires.0.variable _ c.requires.1
+          c.requires.2,
+      c.entry-v.ensures,
+    ) in
     let v = small in omega arith
 
 pub returns : goal.returns
 returns c =
     let small : c.entry-v.result < variables =
-        omega (
-  arith,
-  c.requires.0.variable _ c.requires.1
-      c.requires.2,
-  c.entry-v.ensures,
-) in
+    omega (
+      arith,
+      c.requires.0.variable _ c.requires.1
+          c.requires.2,
+      c.entry-v.ensures,
+    ) in
     λ w s k. variable-unbound _ _ _ _ _ _ c.if-units-eq0.false
     c.if-deep-eq0.false _ c.requires.2
     c.entry-v.ensures k _ (omega arith) small

@@ -1,13 +1,7 @@
 use Rattle.leaves.proofs.Building.{eight-again, row_inside, plain-small, node_made}
 use Rattle.leaves.proofs.Building.{row_inside, node_made}
 use native.Mathlib.Omega.{arith}
-use mathlib.Core.Path.{◌≡◌, refl}
 use borrow.Author.Rules.{rules}
-use Rattle.leaves.proofs.builder.node.Reads as reads
-use Rattle.leaves.proofs.builder.node.Lts as lts
-use Rattle.state.proofs.answers.done.Reads as done-reads
-use Rattle.leaves.proofs.builder.node_asked.Reads as node-asked-reads
-use Rattle.words.proofs.put_row.Reads as put-row-reads
 use Rattle.leaves.proofs.builder.node.Goals as goal
 
 pub returns-then-st-k : goal.returns-then-st-k

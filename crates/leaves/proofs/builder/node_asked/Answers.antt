@@ -1,13 +1,7 @@
 use Rattle.leaves.proofs.Building.{node-full, lent-held, gives-stands, gives-full, gives_made, made-small}
 use Rattle.leaves.proofs.Building.{node-full, lent-held, gives-stands, gives-full, gives_made}
 use native.Mathlib.Omega.{arith}
-use mathlib.Core.Path.{◌≡◌, refl}
-use borrow.Author.Rules.{rules}
-use Rattle.leaves.proofs.builder.node_asked.Reads as reads
-use Rattle.leaves.proofs.builder.node_asked.Lts as lts
-use Rattle.index.proofs.lent.ask.Reads as ask-reads
-use Rattle.state.proofs.answers.done.Reads as done-reads
-use Rattle.state.proofs.answers.no_room.Reads as no-room-reads
+use mathlib.Core.Path.{refl}
 use Rattle.leaves.proofs.builder.node_asked.Goals as goal
 
 pub returns-then-st-ne0 : goal.returns-then-st-ne0

@@ -4,7 +4,7 @@ use borrow.Author.Rules.{rules}
 use mir.Val.{Fits}
 use mir.Syntax.{w32}
 use Rattle.words.specs.Words.{word_at}
-use Rattle.state.specs.Visits.{count_of, Stored}
+use Rattle.state.specs.Visits.{count_of}
 use Rattle.state.proofs.Asking.{Tagged-not_done}
 use Rattle.state.proofs.AnswerWords.{done-units}
 use Rattle.state.proofs.Storing.{child-stored}
@@ -12,7 +12,7 @@ use Rattle.leaves.proofs.Limited.{units-kept, nesting-kept}
 use Rattle.leaves.proofs.Comparing.{Pair, FromPair, not-zero, one_less, falls-once, lower, weaker, below}
 use Rattle.leaves.proofs.Comparing.{not_last, last, up_to, nearer, few, child-word}
 use Rattle.leaves.proofs.Comparing.{other-constructor, other-count, agreed, compared, pair-done, pair-stops, last-pair}
-use Prim.Native.Nat.{ℕ, ◌+◌, ◌-◌, ◌*◌, ◌<◌, ◌≤◌}
+use Prim.Native.Nat.{◌+◌, ◌<◌}
 use Rattle.leaves.proofs.compare.+same.Goals as goal
 
 pub loop-left-init : goal.loop-left-init
@@ -43,7 +43,7 @@ pub returns-then-n-count : goal.returns-then-n-count
 unfolding Pair
 returns-then-n-count t c =
     let same-heads : let w = c.args.store.now in word_at w c.loop-left.x 0 ≡ word_at w c.loop-left.y 0 =
-        sym c.node_word.ensures ∙ c.if-node_word.false ∙ c.node_word-in-loop-left.ensures in
+    sym c.node_word.ensures ∙ c.if-node_word.false ∙ c.node_word-in-loop-left.ensures in
     λ u β m.
     let l = c.loop-left.invariant in
     l.2 u β m _ (other-count _ _ _ u _ m _ β c.if-left-eq0.false
@@ -56,9 +56,9 @@ pub returns-then-n-eq0 : goal.returns-then-n-eq0
 unfolding Pair
 returns-then-n-eq0 t c =
     let same-heads : let w = c.args.store.now in word_at w c.loop-left.x 0 ≡ word_at w c.loop-left.y 0 =
-        sym c.node_word.ensures ∙ c.if-node_word.false ∙ c.node_word-in-loop-left.ensures in
+    sym c.node_word.ensures ∙ c.if-node_word.false ∙ c.node_word-in-loop-left.ensures in
     let same-counts : c.count-n.result ≡ count_of c.args.store.now c.loop-left.y =
-        c.if-n-count.false ∙ c.count.ensures in
+    c.if-n-count.false ∙ c.count.ensures in
     λ u β m.
     let l = c.loop-left.invariant in
     let n = c.count-n.ensures in
@@ -71,9 +71,9 @@ pub loop-i-init : goal.loop-i-init
 unfolding Pair FromPair
 loop-i-init t c =
     let same-heads : let w = c.args.store.now in word_at w c.loop-left.x 0 ≡ word_at w c.loop-left.y 0 =
-        sym c.node_word.ensures ∙ c.if-node_word.false ∙ c.node_word-in-loop-left.ensures in
+    sym c.node_word.ensures ∙ c.if-node_word.false ∙ c.node_word-in-loop-left.ensures in
     let same-counts : c.count-n.result ≡ count_of c.args.store.now c.loop-left.y =
-        c.if-n-count.false ∙ c.count.ensures in
+    c.if-n-count.false ∙ c.count.ensures in
     let l = c.loop-left.invariant in
     let n = c.count-n.ensures in (
       not-zero c.if-n-eq0.false,
@@ -95,7 +95,7 @@ loop-i-init t c =
 pub same-got-requires : goal.same-got-requires
 same-got-requires t c =
     let next-pair : let w = c.args.store.now in (c.loop-i.i < count_of w c.loop-left.x) × (c.loop-i.i < count_of w c.loop-left.y) =
-        let l = c.loop-i.invariant in
+    let l = c.loop-i.invariant in
     (not_last c.loop-i-test.true l.1, not_last c.loop-i-test.true l.2) in
     let l = c.loop-i.invariant in
     let i = next-pair in (
@@ -107,7 +107,7 @@ pub returns-in_default : goal.returns-in_default
 unfolding FromPair
 returns-in_default t c =
     let next-pair : let w = c.args.store.now in (c.loop-i.i < count_of w c.loop-left.x) × (c.loop-i.i < count_of w c.loop-left.y) =
-        let l = c.loop-i.invariant in
+    let l = c.loop-i.invariant in
     (not_last c.loop-i-test.true l.1, not_last c.loop-i-test.true l.2) in
     λ u β m.
     let g = c.loop-i.invariant.5 u β m in
@@ -120,7 +120,7 @@ pub loop-i-preserved : goal.loop-i-preserved
 unfolding FromPair
 loop-i-preserved t c =
     let next-pair : let w = c.args.store.now in (c.loop-i.i < count_of w c.loop-left.x) × (c.loop-i.i < count_of w c.loop-left.y) =
-        let l = c.loop-i.invariant in
+    let l = c.loop-i.invariant in
     (not_last c.loop-i-test.true l.1, not_last c.loop-i-test.true l.2) in
     let l = c.loop-i.invariant in (
       c.loop-i-test.true,
@@ -147,7 +147,7 @@ pub loop-left-preserved : goal.loop-left-preserved
 unfolding Pair FromPair
 loop-left-preserved t c =
     let last_one : let w = c.args.store.now in (c.loop-i.i + 1 ≡ count_of w c.loop-left.x) × (c.loop-i.i + 1 ≡ count_of w c.loop-left.y) =
-        let l = c.loop-i.invariant in
+    let l = c.loop-i.invariant in
     (last l.0 c.loop-i-test.false l.1, last l.0 c.loop-i-test.false l.2) in
     let l = c.loop-i.invariant in
     let i = last_one in (
@@ -181,39 +181,39 @@ count-requires t c = c.loop-left.invariant.4
 pub overflow_add-i : goal.overflow_add-i
 overflow_add-i t c =
     let few-pairs : Fits w32 (c.loop-i.i + 1) × Fits w32 (2 + c.loop-i.i) =
-        few _ c.loop-i.invariant.0 c.loop-i.invariant.1 in
+    few _ c.loop-i.invariant.0 c.loop-i.invariant.1 in
     few-pairs.0
 
 pub overflow_add-i-in-loop-i : goal.overflow_add-i-in-loop-i
 overflow_add-i-in-loop-i t c =
     let few-pairs : Fits w32 (c.loop-i.i + 1) × Fits w32 (2 + c.loop-i.i) =
-        few _ c.loop-i.invariant.0 c.loop-i.invariant.1 in
+    few _ c.loop-i.invariant.0 c.loop-i.invariant.1 in
     few-pairs.1
 
 pub node_word-requires-in-loop-i : goal.node_word-requires-in-loop-i
 node_word-requires-in-loop-i t c =
     let next-pair : let w = c.args.store.now in (c.loop-i.i < count_of w c.loop-left.x) × (c.loop-i.i < count_of w c.loop-left.y) =
-        let l = c.loop-i.invariant in
+    let l = c.loop-i.invariant in
     (not_last c.loop-i-test.true l.1, not_last c.loop-i-test.true l.2) in
     (c.loop-i.invariant.6, child-word _ next-pair.0)
 
 pub overflow_add-i-in-loop-i-2 : goal.overflow_add-i-in-loop-i-2
 overflow_add-i-in-loop-i-2 t c =
     let few-pairs : Fits w32 (c.loop-i.i + 1) × Fits w32 (2 + c.loop-i.i) =
-        few _ c.loop-i.invariant.0 c.loop-i.invariant.1 in
+    few _ c.loop-i.invariant.0 c.loop-i.invariant.1 in
     few-pairs.1
 
 pub node_word-requires-in-loop-i-2 : goal.node_word-requires-in-loop-i-2
 node_word-requires-in-loop-i-2 t c =
     let next-pair : let w = c.args.store.now in (c.loop-i.i < count_of w c.loop-left.x) × (c.loop-i.i < count_of w c.loop-left.y) =
-        let l = c.loop-i.invariant in
+    let l = c.loop-i.invariant in
     (not_last c.loop-i-test.true l.1, not_last c.loop-i-test.true l.2) in
     (c.loop-i.invariant.7, child-word _ next-pair.1)
 
 pub overflow_add-i-in-loop-i-3 : goal.overflow_add-i-in-loop-i-3
 overflow_add-i-in-loop-i-3 t c =
     let few-pairs : Fits w32 (c.loop-i.i + 1) × Fits w32 (2 + c.loop-i.i) =
-        few _ c.loop-i.invariant.0 c.loop-i.invariant.1 in
+    few _ c.loop-i.invariant.0 c.loop-i.invariant.1 in
     few-pairs.0
 
 pub loop-i-smaller : goal.loop-i-smaller
@@ -222,26 +222,26 @@ loop-i-smaller t c = nearer c.loop-i.invariant.0
 pub overflow_add-i-in-loop-left : goal.overflow_add-i-in-loop-left
 overflow_add-i-in-loop-left t c =
     let few-pairs : Fits w32 (c.loop-i.i + 1) × Fits w32 (2 + c.loop-i.i) =
-        few _ c.loop-i.invariant.0 c.loop-i.invariant.1 in
+    few _ c.loop-i.invariant.0 c.loop-i.invariant.1 in
     few-pairs.1
 
 pub node_word-x-requires : goal.node_word-x-requires
 node_word-x-requires t c =
     let last_one : let w = c.args.store.now in (c.loop-i.i + 1 ≡ count_of w c.loop-left.x) × (c.loop-i.i + 1 ≡ count_of w c.loop-left.y) =
-        let l = c.loop-i.invariant in
+    let l = c.loop-i.invariant in
     (last l.0 c.loop-i-test.false l.1, last l.0 c.loop-i-test.false l.2) in
     (c.loop-i.invariant.6, child-word _ (up_to last_one.0))
 
 pub overflow_add-i-in-loop-left-2 : goal.overflow_add-i-in-loop-left-2
 overflow_add-i-in-loop-left-2 t c =
     let few-pairs : Fits w32 (c.loop-i.i + 1) × Fits w32 (2 + c.loop-i.i) =
-        few _ c.loop-i.invariant.0 c.loop-i.invariant.1 in
+    few _ c.loop-i.invariant.0 c.loop-i.invariant.1 in
     few-pairs.1
 
 pub node_word-y-requires : goal.node_word-y-requires
 node_word-y-requires t c =
     let last_one : let w = c.args.store.now in (c.loop-i.i + 1 ≡ count_of w c.loop-left.x) × (c.loop-i.i + 1 ≡ count_of w c.loop-left.y) =
-        let l = c.loop-i.invariant in
+    let l = c.loop-i.invariant in
     (last l.0 c.loop-i-test.false l.1, last l.0 c.loop-i-test.false l.2) in
     (c.loop-i.invariant.7, child-word _ (up_to last_one.1))
 

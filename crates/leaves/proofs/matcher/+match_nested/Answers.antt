@@ -1,19 +1,17 @@
 use mathlib.Core.Path.{◌≡◌, sym, ◌∙◌}
 use mathlib.Core.Bool.{true}
-use mathlib.Core.Logic.{⊎_elim}
 use native.Mathlib.Omega.{arith}
 use borrow.Author.Rules.{rules}
 use borrow.Author.Tests.{not-true, not-false}
-use lib.ListN.{length}
-use Rattle.checks.specs.Good.{kind_of, operand_count}
-use Rattle.state.specs.Record.{record_long, held}
+use Rattle.checks.specs.Good.{kind_of}
+use Rattle.state.specs.Record.{held}
 use Rattle.state.specs.Visits.{agreeing}
 use Rattle.state.proofs.Asking.{Tagged-not_done}
 use Rattle.state.proofs.AnswerWords.{done-node}
 use Rattle.leaves.proofs.Matching.{Matched, Turn, child-there, bound-there, handed-there, matched-none, matched-at, matched-all}
 use Rattle.leaves.proofs.Matching.{operand-is, variable-small, constructor-is, child-units, inner-stopped, free-matched}
 use Rattle.leaves.proofs.Matching.{bound-matched, bound-stops, other, leaf-matched, handed, inner-matched, inner-stops}
-use Prim.Native.Nat.{ℕ, ◌+◌, ◌-◌, ◌<◌, ◌≤◌}
+use Prim.Native.Nat.{◌+◌, ◌-◌, ◌<◌}
 use Rattle.leaves.proofs.matcher.+match_nested.Goals as goal
 use Rattle.leaves.proofs.matcher.+match_nested.Goals.{then-kind-eq-PVAR+then-bit-eq1+in-Done, then-kind-eq-PVAR+else-bit-eq1}
 use Rattle.leaves.proofs.matcher.+match_nested.Goals.{else-kind-eq-PVAR+else-not-agree+then-operands-ne0+else-deep-eq1+in-Done-answer_of}
@@ -53,7 +51,7 @@ node_word-c-requires t c = (
 pub returns-then-left-eq0 : goal.returns-then-left-eq0
 returns-then-left-eq0 t c =
     let turn : let a = c.args in let l = c.loop-i in Turn a.table.now a.store.now a.deep a.p a.s a.st.now l.st l.left l.i c.entry-q.result c.node_word-c.result =
-        let f = c.requires.1 in
+    let f = c.requires.1 in
     let i = c.loop-i.invariant in
     record {
       so_far = i.4;
@@ -72,7 +70,7 @@ returns-then-left-eq0 t c =
 pub kind-requires : goal.kind-requires
 kind-requires t c =
     let turn : let a = c.args in let l = c.loop-i in Turn a.table.now a.store.now a.deep a.p a.s a.st.now l.st l.left l.i c.entry-q.result c.node_word-c.result =
-        let f = c.requires.1 in
+    let f = c.requires.1 in
     let i = c.loop-i.invariant in
     record {
       so_far = i.4;
@@ -91,7 +89,7 @@ kind-requires t c =
 pub entry-v-requires : goal.entry-v-requires
 entry-v-requires t c =
     let turn : let a = c.args in let l = c.loop-i in Turn a.table.now a.store.now a.deep a.p a.s a.st.now l.st l.left l.i c.entry-q.result c.node_word-c.result =
-        let f = c.requires.1 in
+    let f = c.requires.1 in
     let i = c.loop-i.invariant in
     record {
       so_far = i.4;
@@ -110,7 +108,7 @@ entry-v-requires t c =
 pub bit-requires : goal.bit-requires
 bit-requires t c =
     let turn : let a = c.args in let l = c.loop-i in Turn a.table.now a.store.now a.deep a.p a.s a.st.now l.st l.left l.i c.entry-q.result c.node_word-c.result =
-        let f = c.requires.1 in
+    let f = c.requires.1 in
     let i = c.loop-i.invariant in
     record {
       so_far = i.4;
@@ -125,14 +123,14 @@ bit-requires t c =
       few = i.2;
     } in
     let is-variable : kind_of c.args.table.now c.entry-q.result ≡ 18 =
-        sym c.kind.ensures ∙ c.if-kind-eq-PVAR.true in
+    sym c.kind.ensures ∙ c.if-kind-eq-PVAR.true in
     variable-small turn
     is-variable c.entry-v.ensures
 
 pub word_of-requires : goal.word_of-requires
 word_of-requires t c =
     let turn : let a = c.args in let l = c.loop-i in Turn a.table.now a.store.now a.deep a.p a.s a.st.now l.st l.left l.i c.entry-q.result c.node_word-c.result =
-        let f = c.requires.1 in
+    let f = c.requires.1 in
     let i = c.loop-i.invariant in
     record {
       so_far = i.4;
@@ -147,14 +145,14 @@ word_of-requires t c =
       few = i.2;
     } in
     let is-variable : kind_of c.args.table.now c.entry-q.result ≡ 18 =
-        sym c.kind.ensures ∙ c.if-kind-eq-PVAR.true in
+    sym c.kind.ensures ∙ c.if-kind-eq-PVAR.true in
     variable-small turn
     is-variable c.entry-v.ensures
 
 pub same-got-requires : goal.same-got-requires
 same-got-requires t c =
     let turn : let a = c.args in let l = c.loop-i in Turn a.table.now a.store.now a.deep a.p a.s a.st.now l.st l.left l.i c.entry-q.result c.node_word-c.result =
-        let f = c.requires.1 in
+    let f = c.requires.1 in
     let i = c.loop-i.invariant in
     record {
       so_far = i.4;
@@ -169,7 +167,7 @@ same-got-requires t c =
       few = i.2;
     } in
     let is-variable : kind_of c.args.table.now c.entry-q.result ≡ 18 =
-        sym c.kind.ensures ∙ c.if-kind-eq-PVAR.true in
+    sym c.kind.ensures ∙ c.if-kind-eq-PVAR.true in
     let k = turn in (
       bound-there k is-variable c.entry-v.ensures
           (sym c.bit.ensures ∙ c.if-bit-eq1.true) c.word_of.ensures c.requires.2,
@@ -179,7 +177,7 @@ same-got-requires t c =
 pub returns-in_default : goal.returns-in_default
 returns-in_default t c =
     let turn : let a = c.args in let l = c.loop-i in Turn a.table.now a.store.now a.deep a.p a.s a.st.now l.st l.left l.i c.entry-q.result c.node_word-c.result =
-        let f = c.requires.1 in
+    let f = c.requires.1 in
     let i = c.loop-i.invariant in
     record {
       so_far = i.4;
@@ -194,9 +192,9 @@ returns-in_default t c =
       few = i.2;
     } in
     let levels : c.args.deep ≡ 0 → ⊥ =
-        λ e. omega (arith, c.requires.1.4) in
+    λ e. omega (arith, c.requires.1.4) in
     let is-variable : kind_of c.args.table.now c.entry-q.result ≡ 18 =
-        sym c.kind.ensures ∙ c.if-kind-eq-PVAR.true in
+    sym c.kind.ensures ∙ c.if-kind-eq-PVAR.true in
     bound-stops turn c.if-left-eq0.false levels
     is-variable c.entry-v.ensures c.loop-i.invariant.3
     (sym c.bit.ensures ∙ c.if-bit-eq1.true) c.word_of.ensures _
@@ -206,7 +204,7 @@ returns-in_default t c =
 pub put_variable-requires : goal.put_variable-requires
 put_variable-requires t c =
     let turn : let a = c.args in let l = c.loop-i in Turn a.table.now a.store.now a.deep a.p a.s a.st.now l.st l.left l.i c.entry-q.result c.node_word-c.result =
-        let f = c.requires.1 in
+    let f = c.requires.1 in
     let i = c.loop-i.invariant in
     record {
       so_far = i.4;
@@ -221,14 +219,14 @@ put_variable-requires t c =
       few = i.2;
     } in
     let is-variable : kind_of c.args.table.now c.entry-q.result ≡ 18 =
-        sym c.kind.ensures ∙ c.if-kind-eq-PVAR.true in
+    sym c.kind.ensures ∙ c.if-kind-eq-PVAR.true in
     variable-small turn
     is-variable c.entry-v.ensures
 
 pub agree-requires : goal.agree-requires
 agree-requires t c =
     let turn : let a = c.args in let l = c.loop-i in Turn a.table.now a.store.now a.deep a.p a.s a.st.now l.st l.left l.i c.entry-q.result c.node_word-c.result =
-        let f = c.requires.1 in
+    let f = c.requires.1 in
     let i = c.loop-i.invariant in
     record {
       so_far = i.4;
@@ -247,7 +245,7 @@ agree-requires t c =
 pub returns-then-not-agree : goal.returns-then-not-agree
 returns-then-not-agree t c =
     let turn : let a = c.args in let l = c.loop-i in Turn a.table.now a.store.now a.deep a.p a.s a.st.now l.st l.left l.i c.entry-q.result c.node_word-c.result =
-        let f = c.requires.1 in
+    let f = c.requires.1 in
     let i = c.loop-i.invariant in
     record {
       so_far = i.4;
@@ -262,16 +260,16 @@ returns-then-not-agree t c =
       few = i.2;
     } in
     let levels : c.args.deep ≡ 0 → ⊥ =
-        λ e. omega (arith, c.requires.1.4) in
+    λ e. omega (arith, c.requires.1.4) in
     let is-constructor : kind_of c.args.table.now c.entry-q.result ≡ 19 =
-        constructor-is turn c.kind.ensures c.if-kind-eq-PVAR.false in
+    constructor-is turn c.kind.ensures c.if-kind-eq-PVAR.false in
     other turn c.if-left-eq0.false levels is-constructor
     c.loop-i.invariant.3 c.failure.ensures (sym c.agree.ensures ∙ not-true _ c.if-not-agree.true-raw)
 
 pub operands-requires : goal.operands-requires
 operands-requires t c =
     let turn : let a = c.args in let l = c.loop-i in Turn a.table.now a.store.now a.deep a.p a.s a.st.now l.st l.left l.i c.entry-q.result c.node_word-c.result =
-        let f = c.requires.1 in
+    let f = c.requires.1 in
     let i = c.loop-i.invariant in
     record {
       so_far = i.4;
@@ -290,7 +288,7 @@ operands-requires t c =
 pub returns-then-deep-eq1 : goal.returns-then-deep-eq1
 returns-then-deep-eq1 t c =
     let turn : let a = c.args in let l = c.loop-i in Turn a.table.now a.store.now a.deep a.p a.s a.st.now l.st l.left l.i c.entry-q.result c.node_word-c.result =
-        let f = c.requires.1 in
+    let f = c.requires.1 in
     let i = c.loop-i.invariant in
     record {
       so_far = i.4;
@@ -305,9 +303,9 @@ returns-then-deep-eq1 t c =
       few = i.2;
     } in
     let is-constructor : kind_of c.args.table.now c.entry-q.result ≡ 19 =
-        constructor-is turn c.kind.ensures c.if-kind-eq-PVAR.false in
+    constructor-is turn c.kind.ensures c.if-kind-eq-PVAR.false in
     let agrees : agreeing c.args.table.now c.args.store.now c.entry-q.result c.node_word-c.result ≡ true =
-        sym c.agree.ensures ∙ not-false _ c.if-not-agree.false-raw in
+    sym c.agree.ensures ∙ not-false _ c.if-not-agree.false-raw in
     inner-stopped turn c.if-left-eq0.false is-constructor
     agrees (λ z. c.if-operands-ne0.true (c.operands.ensures ∙ z)) c.if-deep-eq1.true
     c.stopped.ensures
@@ -315,7 +313,7 @@ returns-then-deep-eq1 t c =
 pub match_nested-got-requires : goal.match_nested-got-requires
 match_nested-got-requires t c =
     let turn : let a = c.args in let l = c.loop-i in Turn a.table.now a.store.now a.deep a.p a.s a.st.now l.st l.left l.i c.entry-q.result c.node_word-c.result =
-        let f = c.requires.1 in
+    let f = c.requires.1 in
     let i = c.loop-i.invariant in
     record {
       so_far = i.4;
@@ -330,11 +328,11 @@ match_nested-got-requires t c =
       few = i.2;
     } in
     let levels : c.args.deep ≡ 0 → ⊥ =
-        λ e. omega (arith, c.requires.1.4) in
+    λ e. omega (arith, c.requires.1.4) in
     let is-constructor : kind_of c.args.table.now c.entry-q.result ≡ 19 =
-        constructor-is turn c.kind.ensures c.if-kind-eq-PVAR.false in
+    constructor-is turn c.kind.ensures c.if-kind-eq-PVAR.false in
     let agrees : agreeing c.args.table.now c.args.store.now c.entry-q.result c.node_word-c.result ≡ true =
-        sym c.agree.ensures ∙ not-false _ c.if-not-agree.false-raw in
+    sym c.agree.ensures ∙ not-false _ c.if-not-agree.false-raw in
     let k = turn in
     let d = levels in
     let n = is-constructor in
@@ -359,7 +357,7 @@ match_nested-got-requires t c =
 pub returns-in_default-answer_of : goal.returns-in_default-answer_of
 returns-in_default-answer_of t c =
     let turn : let a = c.args in let l = c.loop-i in Turn a.table.now a.store.now a.deep a.p a.s a.st.now l.st l.left l.i c.entry-q.result c.node_word-c.result =
-        let f = c.requires.1 in
+    let f = c.requires.1 in
     let i = c.loop-i.invariant in
     record {
       so_far = i.4;
@@ -374,11 +372,11 @@ returns-in_default-answer_of t c =
       few = i.2;
     } in
     let levels : c.args.deep ≡ 0 → ⊥ =
-        λ e. omega (arith, c.requires.1.4) in
+    λ e. omega (arith, c.requires.1.4) in
     let is-constructor : kind_of c.args.table.now c.entry-q.result ≡ 19 =
-        constructor-is turn c.kind.ensures c.if-kind-eq-PVAR.false in
+    constructor-is turn c.kind.ensures c.if-kind-eq-PVAR.false in
     let agrees : agreeing c.args.table.now c.args.store.now c.entry-q.result c.node_word-c.result ≡ true =
-        sym c.agree.ensures ∙ not-false _ c.if-not-agree.false-raw in
+    sym c.agree.ensures ∙ not-false _ c.if-not-agree.false-raw in
     inner-stops turn c.if-left-eq0.false levels
     is-constructor agrees c.done.ensures _ _
     c.match_nested-got.ensures _ c.answer_of-then-operands-ne0.ensures (Tagged-not_done _ c.in_default-answer_of.not-Done)
@@ -386,7 +384,7 @@ returns-in_default-answer_of t c =
 pub loop-i-preserved : goal.loop-i-preserved
 loop-i-preserved t c =
     let turn : let a = c.args in let l = c.loop-i in Turn a.table.now a.store.now a.deep a.p a.s a.st.now l.st l.left l.i c.entry-q.result c.node_word-c.result =
-        let f = c.requires.1 in
+    let f = c.requires.1 in
     let i = c.loop-i.invariant in
     record {
       so_far = i.4;
@@ -401,32 +399,32 @@ loop-i-preserved t c =
       few = i.2;
     } in
     let levels : c.args.deep ≡ 0 → ⊥ =
-        λ e. omega (arith, c.requires.1.4) in
+    λ e. omega (arith, c.requires.1.4) in
     let came : let a = c.args in (c.if-kind-eq-PVAR.left < 4294967296) × Matched a.table.now a.store.now a.deep a.p a.s a.st.now c.if-kind-eq-PVAR.st c.if-kind-eq-PVAR.left (c.loop-i.i + 1) =
-        let l = c.loop-i in
+    let l = c.loop-i in
     let k = turn in
     let z = c.if-left-eq0.false in
     let d = levels in
     let e = c.kind.ensures in
     let less : l.left - 1 < 4294967296 = omega (arith, l.invariant.2) in
     elim c.if-kind-eq-PVAR.branch [
-      then-kind-eq-PVAR+then-bit-eq1+in-Done w ↦
-        matched-at _ _ _ _ _ _ _ _ _ _ _ w.st-is w.left-is (omega (arith, done-node _ _ _ (sym w.answer_of.ensures ∙ w.in-Done.is)))
-        (bound-matched k z d (sym e ∙ w.if-kind-eq-PVAR.true) w.entry-v.ensures l.invariant.3 (sym w.bit.ensures ∙ w.if-bit-eq1.true)
-        w.word_of.ensures _ (λ m. w.same-got.ensures _ (held l.st) m) _ w.answer_of.ensures _ _ w.in-Done.is)
-    | then-kind-eq-PVAR+else-bit-eq1 w ↦
-        matched-at _ _ _ _ _ _ _ _ _ _ _ w.st-is w.left-is less
-        (free-matched k z d (sym e ∙ w.if-kind-eq-PVAR.true) w.entry-v.ensures l.invariant.3
-        (λ f. w.if-bit-eq1.false (w.bit.ensures ∙ f)) w.put_variable.ensures)
-    | else-kind-eq-PVAR+else-not-agree+then-operands-ne0+else-deep-eq1+in-Done-answer_of w ↦
-        matched-at _ _ _ _ _ _ _ _ _ _ _ w.st-is w.left-is
-        (omega (arith, done-node _ _ _ (sym w.answer_of-then-operands-ne0.ensures ∙ w.in-Done-answer_of.is)))
-        (inner-matched k z d (constructor-is k e w.if-kind-eq-PVAR.false) (sym w.agree.ensures ∙ w.if-not-agree.false) w.done.ensures _ _
-        w.match_nested-got.ensures _ w.answer_of-then-operands-ne0.ensures _ _ w.in-Done-answer_of.is)
-    | else-kind-eq-PVAR+else-not-agree+else-operands-ne0 w ↦
-        matched-at _ _ _ _ _ _ _ _ _ _ _ w.st-is w.left-is less
-        (leaf-matched k z d (constructor-is k e w.if-kind-eq-PVAR.false) (sym w.agree.ensures ∙ w.if-not-agree.false)
-        (sym w.operands.ensures ∙ w.if-operands-ne0.false))
+      | then-kind-eq-PVAR+then-bit-eq1+in-Done w ↦
+          matched-at _ _ _ _ _ _ _ _ _ _ _ w.st-is w.left-is (omega (arith, done-node _ _ _ (sym w.answer_of.ensures ∙ w.in-Done.is)))
+          (bound-matched k z d (sym e ∙ w.if-kind-eq-PVAR.true) w.entry-v.ensures l.invariant.3 (sym w.bit.ensures ∙ w.if-bit-eq1.true)
+          w.word_of.ensures _ (λ m. w.same-got.ensures _ (held l.st) m) _ w.answer_of.ensures _ _ w.in-Done.is)
+      | then-kind-eq-PVAR+else-bit-eq1 w ↦
+          matched-at _ _ _ _ _ _ _ _ _ _ _ w.st-is w.left-is less
+          (free-matched k z d (sym e ∙ w.if-kind-eq-PVAR.true) w.entry-v.ensures l.invariant.3
+          (λ f. w.if-bit-eq1.false (w.bit.ensures ∙ f)) w.put_variable.ensures)
+      | else-kind-eq-PVAR+else-not-agree+then-operands-ne0+else-deep-eq1+in-Done-answer_of w ↦
+          matched-at _ _ _ _ _ _ _ _ _ _ _ w.st-is w.left-is
+          (omega (arith, done-node _ _ _ (sym w.answer_of-then-operands-ne0.ensures ∙ w.in-Done-answer_of.is)))
+          (inner-matched k z d (constructor-is k e w.if-kind-eq-PVAR.false) (sym w.agree.ensures ∙ w.if-not-agree.false) w.done.ensures _ _
+          w.match_nested-got.ensures _ w.answer_of-then-operands-ne0.ensures _ _ w.in-Done-answer_of.is)
+      | else-kind-eq-PVAR+else-not-agree+else-operands-ne0 w ↦
+          matched-at _ _ _ _ _ _ _ _ _ _ _ w.st-is w.left-is less
+          (leaf-matched k z d (constructor-is k e w.if-kind-eq-PVAR.false) (sym w.agree.ensures ∙ w.if-not-agree.false)
+          (sym w.operands.ensures ∙ w.if-operands-ne0.false))
     ] in
     let i = c.loop-i.invariant in
     let n = came in

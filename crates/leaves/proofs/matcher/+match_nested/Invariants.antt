@@ -1,20 +1,11 @@
 -- `matcher::match_nested` meets its contract. The loop's invariant: from child i on, with the record as it is filled so far, all goes
 -- on to the whole, whatever the mark. The measure of a call is the nesting.
-use mathlib.Core.Path.{◌≡◌, sym, ◌∙◌}
-use mathlib.Core.Bool.{true}
-use mathlib.Core.Logic.{⊎_elim}
-use native.Mathlib.Omega.{arith}
-use borrow.Author.Rules.{rules}
-use borrow.Author.Tests.{not-true, not-false}
+use mathlib.Core.Path.{◌≡◌}
 use lib.ListN.{length}
-use Rattle.checks.specs.Good.{kind_of, operand_count}
-use Rattle.state.specs.Record.{record_long, held}
-use Rattle.state.specs.Visits.{agreeing}
-use Rattle.state.proofs.AnswerWords.{done-node}
-use Rattle.leaves.proofs.Matching.{Matched, Turn, child-there, bound-there, handed-there, matched-none, matched-at, matched-all}
-use Rattle.leaves.proofs.Matching.{operand-is, variable-small, constructor-is, child-units, inner-stopped, free-matched}
-use Rattle.leaves.proofs.Matching.{bound-matched, bound-stops, other, leaf-matched, handed, inner-matched, inner-stops}
-use Prim.Native.Nat.{ℕ, ◌+◌, ◌-◌, ◌<◌, ◌≤◌}
+use Rattle.checks.specs.Good.{operand_count}
+use Rattle.state.specs.Record.{record_long}
+use Rattle.leaves.proofs.Matching.{Matched}
+use Prim.Native.Nat.{◌-◌, ◌<◌, ◌≤◌}
 use Rattle.leaves.proofs.matcher.+match_nested.Given as goal
 
 abbrev pub decreases-match_nested : goal.decreases-match_nested

@@ -1,17 +1,15 @@
 use mathlib.Core.Path.{◌≡◌, sym, ◌∙◌}
 use mathlib.Core.Bool.{true}
-use Prim.Native.Nat.{◌+◌, ◌-◌, ◌*◌, ◌<◌, ◌≤◌}
+use Prim.Native.Nat.{◌<◌, ◌≤◌}
 use native.Mathlib.Omega.{arith}
-use borrow.Author.Rules.{rules}
 use borrow.Author.Tests.{not-true, not-false}
-use lib.ListN.{length}
 use Rattle.checks.specs.Kinds.{variables}
 use Rattle.checks.specs.Good.{kind_of, operand_count}
-use Rattle.state.specs.Record.{record_long, held}
+use Rattle.state.specs.Record.{held}
 use Rattle.state.specs.Visits.{agreeing}
 use Rattle.state.proofs.Asking.{Tagged-not_done}
 use Rattle.state.proofs.AnswerWords.{done-node}
-use Rattle.leaves.proofs.Matching.{Turn, child-there, bound-there, handed-there, going-there, going-bound, Going, going-none}
+use Rattle.leaves.proofs.Matching.{Turn, child-there, bound-there, handed-there, going-there, going-bound, going-none}
 use Rattle.leaves.proofs.Matching.{going-turn, going_on, going-long, going-down, matched-all, operand-is, variable-small}
 use Rattle.leaves.proofs.Matching.{constructor-is, child-units, inner-stopped, free-matched, bound-matched, bound-stops, other}
 use Rattle.leaves.proofs.Matching.{leaf-matched, handed, inner-matched, inner-refused}
@@ -31,31 +29,31 @@ loop-i-init c = let h = c.requires in (
 pub overflow_add-i : goal.overflow_add-i
 overflow_add-i c =
     let few : operand_count c.args.table.now c.loop-i.x ≤ 6 =
-        c.requires.1.0.few _ c.loop-i.invariant.5.inside in
+    c.requires.1.0.few _ c.loop-i.invariant.5.inside in
     omega (arith, few)
 
 pub entry-q-requires : goal.entry-q-requires
 entry-q-requires c =
     let few : operand_count c.args.table.now c.loop-i.x ≤ 6 =
-        c.requires.1.0.few _ c.loop-i.invariant.5.inside in
+    c.requires.1.0.few _ c.loop-i.invariant.5.inside in
     (c.loop-i.invariant.5.inside, omega (arith, few))
 
 pub overflow_add-i-in-loop-i : goal.overflow_add-i-in-loop-i
 overflow_add-i-in-loop-i c =
     let few : operand_count c.args.table.now c.loop-i.x ≤ 6 =
-        c.requires.1.0.few _ c.loop-i.invariant.5.inside in
+    c.requires.1.0.few _ c.loop-i.invariant.5.inside in
     omega (arith, few)
 
 pub node_word-c-requires : goal.node_word-c-requires
 node_word-c-requires c =
     let few : operand_count c.args.table.now c.loop-i.x ≤ 6 =
-        c.requires.1.0.few _ c.loop-i.invariant.5.inside in
+    c.requires.1.0.few _ c.loop-i.invariant.5.inside in
     (going-there c.loop-i.invariant.5, omega (arith, few))
 
 pub returns-then-left-eq0 : goal.returns-then-left-eq0
 returns-then-left-eq0 c =
     let turn : let a = c.args in let l = c.loop-i in Turn a.table.now a.store.now l.d l.x l.invariant.5.given l.invariant.5.held_then l.st l.left l.i c.entry-q.result c.node_word-c.result =
-        let l = c.loop-i.invariant in
+    let l = c.loop-i.invariant in
     going-turn l.5 c.requires.1.0 (omega arith) c.entry-q.ensures
     c.node_word-c.ensures l.2 in
     c.loop-i.invariant.5.whole _ _
@@ -64,13 +62,13 @@ returns-then-left-eq0 c =
 pub overflow_add-i-in-loop-i-2 : goal.overflow_add-i-in-loop-i-2
 overflow_add-i-in-loop-i-2 c =
     let few : operand_count c.args.table.now c.loop-i.x ≤ 6 =
-        c.requires.1.0.few _ c.loop-i.invariant.5.inside in
+    c.requires.1.0.few _ c.loop-i.invariant.5.inside in
     omega (arith, few)
 
 pub kind-requires : goal.kind-requires
 kind-requires c =
     let turn : let a = c.args in let l = c.loop-i in Turn a.table.now a.store.now l.d l.x l.invariant.5.given l.invariant.5.held_then l.st l.left l.i c.entry-q.result c.node_word-c.result =
-        let l = c.loop-i.invariant in
+    let l = c.loop-i.invariant in
     going-turn l.5 c.requires.1.0 (omega arith) c.entry-q.ensures
     c.node_word-c.ensures l.2 in
     (operand-is turn).0
@@ -78,7 +76,7 @@ kind-requires c =
 pub entry-v-requires : goal.entry-v-requires
 entry-v-requires c =
     let turn : let a = c.args in let l = c.loop-i in Turn a.table.now a.store.now l.d l.x l.invariant.5.given l.invariant.5.held_then l.st l.left l.i c.entry-q.result c.node_word-c.result =
-        let l = c.loop-i.invariant in
+    let l = c.loop-i.invariant in
     going-turn l.5 c.requires.1.0 (omega arith) c.entry-q.ensures
     c.node_word-c.ensures l.2 in
     ((operand-is turn).0, omega arith)
@@ -86,35 +84,35 @@ entry-v-requires c =
 pub bit-requires : goal.bit-requires
 bit-requires c =
     let turn : let a = c.args in let l = c.loop-i in Turn a.table.now a.store.now l.d l.x l.invariant.5.given l.invariant.5.held_then l.st l.left l.i c.entry-q.result c.node_word-c.result =
-        let l = c.loop-i.invariant in
+    let l = c.loop-i.invariant in
     going-turn l.5 c.requires.1.0 (omega arith) c.entry-q.ensures
     c.node_word-c.ensures l.2 in
     let is-variable : kind_of c.args.table.now c.entry-q.result ≡ 18 =
-        sym c.kind.ensures ∙ c.if-kind-eq-PVAR.true in
+    sym c.kind.ensures ∙ c.if-kind-eq-PVAR.true in
     let small : c.entry-v.result < variables =
-        variable-small turn is-variable c.entry-v.ensures in
+    variable-small turn is-variable c.entry-v.ensures in
     small
 
 pub word_of-requires : goal.word_of-requires
 word_of-requires c =
     let turn : let a = c.args in let l = c.loop-i in Turn a.table.now a.store.now l.d l.x l.invariant.5.given l.invariant.5.held_then l.st l.left l.i c.entry-q.result c.node_word-c.result =
-        let l = c.loop-i.invariant in
+    let l = c.loop-i.invariant in
     going-turn l.5 c.requires.1.0 (omega arith) c.entry-q.ensures
     c.node_word-c.ensures l.2 in
     let is-variable : kind_of c.args.table.now c.entry-q.result ≡ 18 =
-        sym c.kind.ensures ∙ c.if-kind-eq-PVAR.true in
+    sym c.kind.ensures ∙ c.if-kind-eq-PVAR.true in
     let small : c.entry-v.result < variables =
-        variable-small turn is-variable c.entry-v.ensures in
+    variable-small turn is-variable c.entry-v.ensures in
     small
 
 pub same-got-requires : goal.same-got-requires
 same-got-requires c =
     let turn : let a = c.args in let l = c.loop-i in Turn a.table.now a.store.now l.d l.x l.invariant.5.given l.invariant.5.held_then l.st l.left l.i c.entry-q.result c.node_word-c.result =
-        let l = c.loop-i.invariant in
+    let l = c.loop-i.invariant in
     going-turn l.5 c.requires.1.0 (omega arith) c.entry-q.ensures
     c.node_word-c.ensures l.2 in
     let is-variable : kind_of c.args.table.now c.entry-q.result ≡ 18 =
-        sym c.kind.ensures ∙ c.if-kind-eq-PVAR.true in
+    sym c.kind.ensures ∙ c.if-kind-eq-PVAR.true in
     let k = turn in (
       bound-there k is-variable c.entry-v.ensures (sym c.bit.ensures ∙ c.if-bit-eq1.true)
           c.word_of.ensures c.loop-i.invariant.5.bound-then,
@@ -124,11 +122,11 @@ same-got-requires c =
 pub returns-in_default : goal.returns-in_default
 returns-in_default c =
     let turn : let a = c.args in let l = c.loop-i in Turn a.table.now a.store.now l.d l.x l.invariant.5.given l.invariant.5.held_then l.st l.left l.i c.entry-q.result c.node_word-c.result =
-        let l = c.loop-i.invariant in
+    let l = c.loop-i.invariant in
     going-turn l.5 c.requires.1.0 (omega arith) c.entry-q.ensures
     c.node_word-c.ensures l.2 in
     let is-variable : kind_of c.args.table.now c.entry-q.result ≡ 18 =
-        sym c.kind.ensures ∙ c.if-kind-eq-PVAR.true in
+    sym c.kind.ensures ∙ c.if-kind-eq-PVAR.true in
     c.loop-i.invariant.5.whole _ _ (bound-stops turn c.if-left-eq0.false (λ e. omega (arith, c.loop-i.invariant.3))
     is-variable c.entry-v.ensures c.loop-i.invariant.4
     (sym c.bit.ensures ∙ c.if-bit-eq1.true) c.word_of.ensures _
@@ -141,11 +139,11 @@ loop-i-smaller-then-bit-eq1 c = omega arith
 pub loop-i-preserved-then-bit-eq1 : goal.loop-i-preserved-then-bit-eq1
 loop-i-preserved-then-bit-eq1 c =
     let turn : let a = c.args in let l = c.loop-i in Turn a.table.now a.store.now l.d l.x l.invariant.5.given l.invariant.5.held_then l.st l.left l.i c.entry-q.result c.node_word-c.result =
-        let l = c.loop-i.invariant in
+    let l = c.loop-i.invariant in
     going-turn l.5 c.requires.1.0 (omega arith) c.entry-q.ensures
     c.node_word-c.ensures l.2 in
     let is-variable : kind_of c.args.table.now c.entry-q.result ≡ 18 =
-        sym c.kind.ensures ∙ c.if-kind-eq-PVAR.true in
+    sym c.kind.ensures ∙ c.if-kind-eq-PVAR.true in
     let l = c.loop-i.invariant in
     let f = bound-matched turn c.if-left-eq0.false (λ e. omega (arith, c.loop-i.invariant.3))
     is-variable c.entry-v.ensures l.4 (sym c.bit.ensures ∙ c.if-bit-eq1.true)
@@ -164,13 +162,13 @@ loop-i-preserved-then-bit-eq1 c =
 pub put_variable-requires : goal.put_variable-requires
 put_variable-requires c =
     let turn : let a = c.args in let l = c.loop-i in Turn a.table.now a.store.now l.d l.x l.invariant.5.given l.invariant.5.held_then l.st l.left l.i c.entry-q.result c.node_word-c.result =
-        let l = c.loop-i.invariant in
+    let l = c.loop-i.invariant in
     going-turn l.5 c.requires.1.0 (omega arith) c.entry-q.ensures
     c.node_word-c.ensures l.2 in
     let is-variable : kind_of c.args.table.now c.entry-q.result ≡ 18 =
-        sym c.kind.ensures ∙ c.if-kind-eq-PVAR.true in
+    sym c.kind.ensures ∙ c.if-kind-eq-PVAR.true in
     let small : c.entry-v.result < variables =
-        variable-small turn is-variable c.entry-v.ensures in
+    variable-small turn is-variable c.entry-v.ensures in
     small
 
 pub loop-i-smaller-else-bit-eq1 : goal.loop-i-smaller-else-bit-eq1
@@ -179,11 +177,11 @@ loop-i-smaller-else-bit-eq1 c = omega arith
 pub loop-i-preserved-else-bit-eq1 : goal.loop-i-preserved-else-bit-eq1
 loop-i-preserved-else-bit-eq1 c =
     let turn : let a = c.args in let l = c.loop-i in Turn a.table.now a.store.now l.d l.x l.invariant.5.given l.invariant.5.held_then l.st l.left l.i c.entry-q.result c.node_word-c.result =
-        let l = c.loop-i.invariant in
+    let l = c.loop-i.invariant in
     going-turn l.5 c.requires.1.0 (omega arith) c.entry-q.ensures
     c.node_word-c.ensures l.2 in
     let is-variable : kind_of c.args.table.now c.entry-q.result ≡ 18 =
-        sym c.kind.ensures ∙ c.if-kind-eq-PVAR.true in
+    sym c.kind.ensures ∙ c.if-kind-eq-PVAR.true in
     let l = c.loop-i.invariant in
     let f = free-matched turn c.if-left-eq0.false (λ e. omega (arith, c.loop-i.invariant.3))
     is-variable c.entry-v.ensures l.4 (λ e. c.if-bit-eq1.false (c.bit.ensures ∙ e))
@@ -193,7 +191,7 @@ loop-i-preserved-else-bit-eq1 c =
 pub agree-requires : goal.agree-requires
 agree-requires c =
     let turn : let a = c.args in let l = c.loop-i in Turn a.table.now a.store.now l.d l.x l.invariant.5.given l.invariant.5.held_then l.st l.left l.i c.entry-q.result c.node_word-c.result =
-        let l = c.loop-i.invariant in
+    let l = c.loop-i.invariant in
     going-turn l.5 c.requires.1.0 (omega arith) c.entry-q.ensures
     c.node_word-c.ensures l.2 in
     let k = turn in ((operand-is k).0, child-there k)
@@ -201,11 +199,11 @@ agree-requires c =
 pub returns-then-not-agree : goal.returns-then-not-agree
 returns-then-not-agree c =
     let turn : let a = c.args in let l = c.loop-i in Turn a.table.now a.store.now l.d l.x l.invariant.5.given l.invariant.5.held_then l.st l.left l.i c.entry-q.result c.node_word-c.result =
-        let l = c.loop-i.invariant in
+    let l = c.loop-i.invariant in
     going-turn l.5 c.requires.1.0 (omega arith) c.entry-q.ensures
     c.node_word-c.ensures l.2 in
     let is-constructor : kind_of c.args.table.now c.entry-q.result ≡ 19 =
-        constructor-is turn c.kind.ensures c.if-kind-eq-PVAR.false in
+    constructor-is turn c.kind.ensures c.if-kind-eq-PVAR.false in
     c.loop-i.invariant.5.whole _ _ (other turn c.if-left-eq0.false (λ e. omega (arith, c.loop-i.invariant.3))
     is-constructor c.loop-i.invariant.4 c.failure.ensures
     (sym c.agree.ensures ∙ not-true _ c.if-not-agree.true-raw))
@@ -213,7 +211,7 @@ returns-then-not-agree c =
 pub operands-m-requires : goal.operands-m-requires
 operands-m-requires c =
     let turn : let a = c.args in let l = c.loop-i in Turn a.table.now a.store.now l.d l.x l.invariant.5.given l.invariant.5.held_then l.st l.left l.i c.entry-q.result c.node_word-c.result =
-        let l = c.loop-i.invariant in
+    let l = c.loop-i.invariant in
     going-turn l.5 c.requires.1.0 (omega arith) c.entry-q.ensures
     c.node_word-c.ensures l.2 in
     (operand-is turn).0
@@ -221,13 +219,13 @@ operands-m-requires c =
 pub returns-then-d-eq1 : goal.returns-then-d-eq1
 returns-then-d-eq1 c =
     let turn : let a = c.args in let l = c.loop-i in Turn a.table.now a.store.now l.d l.x l.invariant.5.given l.invariant.5.held_then l.st l.left l.i c.entry-q.result c.node_word-c.result =
-        let l = c.loop-i.invariant in
+    let l = c.loop-i.invariant in
     going-turn l.5 c.requires.1.0 (omega arith) c.entry-q.ensures
     c.node_word-c.ensures l.2 in
     let is-constructor : kind_of c.args.table.now c.entry-q.result ≡ 19 =
-        constructor-is turn c.kind.ensures c.if-kind-eq-PVAR.false in
+    constructor-is turn c.kind.ensures c.if-kind-eq-PVAR.false in
     let agrees : agreeing c.args.table.now c.args.store.now c.entry-q.result c.node_word-c.result ≡ true =
-        sym c.agree.ensures ∙ not-false _ c.if-not-agree.false-raw in
+    sym c.agree.ensures ∙ not-false _ c.if-not-agree.false-raw in
     c.loop-i.invariant.5.whole _ _ (inner-stopped turn c.if-left-eq0.false
     is-constructor agrees
     (λ z. c.if-m-ne0.true (c.operands-m.ensures ∙ z)) c.if-d-eq1.true c.stopped.ensures)
@@ -235,7 +233,7 @@ returns-then-d-eq1 c =
 pub loop-i-smaller-then-i-n : goal.loop-i-smaller-then-i-n
 loop-i-smaller-then-i-n c =
     let turn : let a = c.args in let l = c.loop-i in Turn a.table.now a.store.now l.d l.x l.invariant.5.given l.invariant.5.held_then l.st l.left l.i c.entry-q.result c.node_word-c.result =
-        let l = c.loop-i.invariant in
+    let l = c.loop-i.invariant in
     going-turn l.5 c.requires.1.0 (omega arith) c.entry-q.ensures
     c.node_word-c.ensures l.2 in
     let f : _ ≤ 6 = c.requires.1.0.few _ (operand-is turn).0 in omega
@@ -244,13 +242,13 @@ loop-i-smaller-then-i-n c =
 pub loop-i-preserved-then-i-n : goal.loop-i-preserved-then-i-n
 loop-i-preserved-then-i-n c =
     let turn : let a = c.args in let l = c.loop-i in Turn a.table.now a.store.now l.d l.x l.invariant.5.given l.invariant.5.held_then l.st l.left l.i c.entry-q.result c.node_word-c.result =
-        let l = c.loop-i.invariant in
+    let l = c.loop-i.invariant in
     going-turn l.5 c.requires.1.0 (omega arith) c.entry-q.ensures
     c.node_word-c.ensures l.2 in
     let is-constructor : kind_of c.args.table.now c.entry-q.result ≡ 19 =
-        constructor-is turn c.kind.ensures c.if-kind-eq-PVAR.false in
+    constructor-is turn c.kind.ensures c.if-kind-eq-PVAR.false in
     let agrees : agreeing c.args.table.now c.args.store.now c.entry-q.result c.node_word-c.result ≡ true =
-        sym c.agree.ensures ∙ not-false _ c.if-not-agree.false-raw in
+    sym c.agree.ensures ∙ not-false _ c.if-not-agree.false-raw in
     let l = c.loop-i.invariant in (
       omega arith,
       c.operands-m.ensures,
@@ -265,13 +263,13 @@ loop-i-preserved-then-i-n c =
 pub match_children-f-requires : goal.match_children-f-requires
 match_children-f-requires c =
     let turn : let a = c.args in let l = c.loop-i in Turn a.table.now a.store.now l.d l.x l.invariant.5.given l.invariant.5.held_then l.st l.left l.i c.entry-q.result c.node_word-c.result =
-        let l = c.loop-i.invariant in
+    let l = c.loop-i.invariant in
     going-turn l.5 c.requires.1.0 (omega arith) c.entry-q.ensures
     c.node_word-c.ensures l.2 in
     let is-constructor : kind_of c.args.table.now c.entry-q.result ≡ 19 =
-        constructor-is turn c.kind.ensures c.if-kind-eq-PVAR.false in
+    constructor-is turn c.kind.ensures c.if-kind-eq-PVAR.false in
     let agrees : agreeing c.args.table.now c.args.store.now c.entry-q.result c.node_word-c.result ≡ true =
-        sym c.agree.ensures ∙ not-false _ c.if-not-agree.false-raw in
+    sym c.agree.ensures ∙ not-false _ c.if-not-agree.false-raw in
     let k = turn in
     let d : c.loop-i.d ≡ 0 → ⊥ = λ e. omega (arith, c.loop-i.invariant.3) in
     let n = is-constructor in
@@ -291,13 +289,13 @@ match_children-f-requires c =
 pub returns-in_default-answer_of : goal.returns-in_default-answer_of
 returns-in_default-answer_of c =
     let turn : let a = c.args in let l = c.loop-i in Turn a.table.now a.store.now l.d l.x l.invariant.5.given l.invariant.5.held_then l.st l.left l.i c.entry-q.result c.node_word-c.result =
-        let l = c.loop-i.invariant in
+    let l = c.loop-i.invariant in
     going-turn l.5 c.requires.1.0 (omega arith) c.entry-q.ensures
     c.node_word-c.ensures l.2 in
     let is-constructor : kind_of c.args.table.now c.entry-q.result ≡ 19 =
-        constructor-is turn c.kind.ensures c.if-kind-eq-PVAR.false in
+    constructor-is turn c.kind.ensures c.if-kind-eq-PVAR.false in
     let agrees : agreeing c.args.table.now c.args.store.now c.entry-q.result c.node_word-c.result ≡ true =
-        sym c.agree.ensures ∙ not-false _ c.if-not-agree.false-raw in
+    sym c.agree.ensures ∙ not-false _ c.if-not-agree.false-raw in
     c.loop-i.invariant.5.whole _ _ (inner-refused turn c.if-left-eq0.false
     (λ e. omega (arith, c.loop-i.invariant.3)) is-constructor agrees c.done.ensures _
     _ c.match_children-f.ensures _ c.answer_of-else-i-n.ensures c.loop-i.invariant.4
@@ -309,13 +307,13 @@ loop-i-smaller-else-i-n c = omega arith
 pub loop-i-preserved-else-i-n : goal.loop-i-preserved-else-i-n
 loop-i-preserved-else-i-n c =
     let turn : let a = c.args in let l = c.loop-i in Turn a.table.now a.store.now l.d l.x l.invariant.5.given l.invariant.5.held_then l.st l.left l.i c.entry-q.result c.node_word-c.result =
-        let l = c.loop-i.invariant in
+    let l = c.loop-i.invariant in
     going-turn l.5 c.requires.1.0 (omega arith) c.entry-q.ensures
     c.node_word-c.ensures l.2 in
     let is-constructor : kind_of c.args.table.now c.entry-q.result ≡ 19 =
-        constructor-is turn c.kind.ensures c.if-kind-eq-PVAR.false in
+    constructor-is turn c.kind.ensures c.if-kind-eq-PVAR.false in
     let agrees : agreeing c.args.table.now c.args.store.now c.entry-q.result c.node_word-c.result ≡ true =
-        sym c.agree.ensures ∙ not-false _ c.if-not-agree.false-raw in
+    sym c.agree.ensures ∙ not-false _ c.if-not-agree.false-raw in
     let l = c.loop-i.invariant in
     let f = inner-matched turn c.if-left-eq0.false (λ e. omega (arith, c.loop-i.invariant.3))
     is-constructor agrees c.done.ensures _ _
@@ -334,13 +332,13 @@ loop-i-smaller c = omega arith
 pub loop-i-preserved : goal.loop-i-preserved
 loop-i-preserved c =
     let turn : let a = c.args in let l = c.loop-i in Turn a.table.now a.store.now l.d l.x l.invariant.5.given l.invariant.5.held_then l.st l.left l.i c.entry-q.result c.node_word-c.result =
-        let l = c.loop-i.invariant in
+    let l = c.loop-i.invariant in
     going-turn l.5 c.requires.1.0 (omega arith) c.entry-q.ensures
     c.node_word-c.ensures l.2 in
     let is-constructor : kind_of c.args.table.now c.entry-q.result ≡ 19 =
-        constructor-is turn c.kind.ensures c.if-kind-eq-PVAR.false in
+    constructor-is turn c.kind.ensures c.if-kind-eq-PVAR.false in
     let agrees : agreeing c.args.table.now c.args.store.now c.entry-q.result c.node_word-c.result ≡ true =
-        sym c.agree.ensures ∙ not-false _ c.if-not-agree.false-raw in
+    sym c.agree.ensures ∙ not-false _ c.if-not-agree.false-raw in
     let l = c.loop-i.invariant in
     let f = leaf-matched turn c.if-left-eq0.false (λ e. omega (arith, c.loop-i.invariant.3))
     is-constructor agrees (sym c.operands-m.ensures ∙ c.if-m-ne0.false) in

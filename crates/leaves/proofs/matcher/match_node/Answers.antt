@@ -15,7 +15,6 @@ use Rattle.state.proofs.Storing.{steady-bound}
 use Rattle.leaves.proofs.Matching.{root-stored, root-bound-there, root-there, root-units, root-nesting, root-small, root-free}
 use Rattle.leaves.proofs.Matching.{root-bound, root-bound-stops, root-other, root-leaf, root-handed, root-stops, root-stopped}
 use Rattle.leaves.proofs.Matching.{root-matched}
-use borrow.Author.Rules.{rules}
 use Rattle.leaves.proofs.matcher.match_node.Goals as goal
 use Rattle.leaves.proofs.matcher.match_node.Goals.{After-entry-v, Else-kind-eq-PVAR, Else-not-agree}
 
@@ -29,9 +28,9 @@ returns-then-deep-eq0 c = root-nesting c.requires.0 _ c.no_nesting.ensures c.if-
 pub bit-requires : goal.bit-requires
 bit-requires c =
     let is-variable : kind_of c.args.table.now c.args.p ≡ 18 =
-        sym c.kind.ensures ∙ c.if-kind-eq-PVAR.true in
+    sym c.kind.ensures ∙ c.if-kind-eq-PVAR.true in
     let small : c.entry-v.result < variables =
-        root-small c.requires.0
+    root-small c.requires.0
     c.args.deep c.if-left-eq0.false
     c.if-deep-eq0.false is-variable c.entry-v.ensures in
     small
@@ -39,9 +38,9 @@ bit-requires c =
 pub word_of-requires : goal.word_of-requires
 word_of-requires c =
     let is-variable : kind_of c.args.table.now c.args.p ≡ 18 =
-        sym c.kind.ensures ∙ c.if-kind-eq-PVAR.true in
+    sym c.kind.ensures ∙ c.if-kind-eq-PVAR.true in
     let small : c.entry-v.result < variables =
-        root-small c.requires.0
+    root-small c.requires.0
     c.args.deep c.if-left-eq0.false
     c.if-deep-eq0.false is-variable c.entry-v.ensures in
     small
@@ -49,8 +48,7 @@ word_of-requires c =
 pub same-got-requires : goal.same-got-requires
 same-got-requires c =
     let is-variable : kind_of c.args.table.now c.args.p ≡ 18 =
-        sym c.kind.ensures ∙ c.if-kind-eq-PVAR.true in
-    (
+    sym c.kind.ensures ∙ c.if-kind-eq-PVAR.true in (
       root-bound-there c.requires.0 c.args.deep c.if-left-eq0.false c.if-deep-eq0.false is-variable
           c.entry-v.ensures (sym c.bit.ensures ∙ c.if-bit-eq1.true) c.word_of.ensures,
       root-stored
@@ -60,7 +58,7 @@ same-got-requires c =
 pub returns-in_default : goal.returns-in_default
 returns-in_default c =
     let is-variable : kind_of c.args.table.now c.args.p ≡ 18 =
-        sym c.kind.ensures ∙ c.if-kind-eq-PVAR.true in
+    sym c.kind.ensures ∙ c.if-kind-eq-PVAR.true in
     root-bound-stops c.requires.0 _ c.if-left-eq0.false c.if-deep-eq0.false is-variable
     c.entry-v.ensures (sym c.bit.ensures ∙ c.if-bit-eq1.true) c.word_of.ensures _
     (c.same-got.ensures _ (held c.args.st.now) (standing c.args.st.now)) _
@@ -69,7 +67,7 @@ returns-in_default c =
 pub returns-then-bit-eq1 : goal.returns-then-bit-eq1
 returns-then-bit-eq1 c =
     let is-variable : kind_of c.args.table.now c.args.p ≡ 18 =
-        sym c.kind.ensures ∙ c.if-kind-eq-PVAR.true in
+    sym c.kind.ensures ∙ c.if-kind-eq-PVAR.true in
     root-bound c.requires.0 _ c.if-left-eq0.false c.if-deep-eq0.false is-variable
     c.entry-v.ensures (sym c.bit.ensures ∙ c.if-bit-eq1.true) c.word_of.ensures _
     (c.same-got.ensures _ (held c.args.st.now) (standing c.args.st.now)) _
@@ -78,9 +76,9 @@ returns-then-bit-eq1 c =
 pub bind-set-requires : goal.bind-set-requires
 bind-set-requires c =
     let is-variable : kind_of c.args.table.now c.args.p ≡ 18 =
-        sym c.kind.ensures ∙ c.if-kind-eq-PVAR.true in
+    sym c.kind.ensures ∙ c.if-kind-eq-PVAR.true in
     let small : c.entry-v.result < variables =
-        root-small c.requires.0
+    root-small c.requires.0
     c.args.deep c.if-left-eq0.false
     c.if-deep-eq0.false is-variable c.entry-v.ensures in
     let v = small in omega arith
@@ -88,7 +86,7 @@ bind-set-requires c =
 pub returns-then-kind-eq-PVAR : goal.returns-then-kind-eq-PVAR
 returns-then-kind-eq-PVAR c =
     let is-variable : kind_of c.args.table.now c.args.p ≡ 18 =
-        sym c.kind.ensures ∙ c.if-kind-eq-PVAR.true in
+    sym c.kind.ensures ∙ c.if-kind-eq-PVAR.true in
     root-free c.requires.0 _ c.if-left-eq0.false c.if-deep-eq0.false is-variable c.entry-v.ensures
     (λ e. c.if-bit-eq1.false (c.bit.ensures ∙ e)) c.bind-set.ensures
 
@@ -98,7 +96,7 @@ agree-requires c = (c.requires.0.inside, root-stored c.requires.0 c.args.deep)
 pub returns-then-not-agree : goal.returns-then-not-agree
 returns-then-not-agree c =
     let is-constructor : kind_of c.args.table.now c.args.p ≡ 19 =
-        no-variable c.args.table.now
+    no-variable c.args.table.now
     c.args.p _ c.requires.1
     c.kind.ensures c.if-kind-eq-PVAR.false in
     root-other c.requires.0 _ c.if-left-eq0.false c.if-deep-eq0.false is-constructor c.failure.ensures
@@ -107,34 +105,33 @@ returns-then-not-agree c =
 pub returns-then-operands-eq0 : goal.returns-then-operands-eq0
 returns-then-operands-eq0 c =
     let is-constructor : kind_of c.args.table.now c.args.p ≡ 19 =
-        no-variable c.args.table.now
+    no-variable c.args.table.now
     c.args.p _ c.requires.1
     c.kind.ensures c.if-kind-eq-PVAR.false in
     let agrees : agreeing c.args.table.now c.args.store.now c.args.p (node_in c.args.s) ≡ true =
-        sym c.agree.ensures ∙ not-false _ c.if-not-agree.false-raw in
+    sym c.agree.ensures ∙ not-false _ c.if-not-agree.false-raw in
     root-leaf c.requires.0 _ c.if-left-eq0.false c.if-deep-eq0.false is-constructor
     agrees (sym c.operands.ensures ∙ c.if-operands-eq0.true)
 
 pub returns-then-deep-eq1 : goal.returns-then-deep-eq1
 returns-then-deep-eq1 c =
     let is-constructor : kind_of c.args.table.now c.args.p ≡ 19 =
-        no-variable c.args.table.now
+    no-variable c.args.table.now
     c.args.p _ c.requires.1
     c.kind.ensures c.if-kind-eq-PVAR.false in
     let agrees : agreeing c.args.table.now c.args.store.now c.args.p (node_in c.args.s) ≡ true =
-        sym c.agree.ensures ∙ not-false _ c.if-not-agree.false-raw in
+    sym c.agree.ensures ∙ not-false _ c.if-not-agree.false-raw in
     root-stopped c.requires.0 _ c.if-left-eq0.false c.if-deep-eq0.false is-constructor
     agrees (λ z. c.if-operands-eq0.false (c.operands.ensures ∙ z)) c.if-deep-eq1.true c.stopped.ensures
 
 pub match_in_place-got-requires : goal.match_in_place-got-requires
 match_in_place-got-requires c =
     let is-constructor : kind_of c.args.table.now c.args.p ≡ 19 =
-        no-variable c.args.table.now
+    no-variable c.args.table.now
     c.args.p _ c.requires.1
     c.kind.ensures c.if-kind-eq-PVAR.false in
     let agrees : agreeing c.args.table.now c.args.store.now c.args.p (node_in c.args.s) ≡ true =
-        sym c.agree.ensures ∙ not-false _ c.if-not-agree.false-raw in
-    (
+    sym c.agree.ensures ∙ not-false _ c.if-not-agree.false-raw in (
       c.requires.0.long,
       (
         c.requires.0.entries,
@@ -154,11 +151,11 @@ match_in_place-got-requires c =
 pub returns-in_default-answer_of : goal.returns-in_default-answer_of
 returns-in_default-answer_of c =
     let is-constructor : kind_of c.args.table.now c.args.p ≡ 19 =
-        no-variable c.args.table.now
+    no-variable c.args.table.now
     c.args.p _ c.requires.1
     c.kind.ensures c.if-kind-eq-PVAR.false in
     let agrees : agreeing c.args.table.now c.args.store.now c.args.p (node_in c.args.s) ≡ true =
-        sym c.agree.ensures ∙ not-false _ c.if-not-agree.false-raw in
+    sym c.agree.ensures ∙ not-false _ c.if-not-agree.false-raw in
     root-stops c.requires.0 _ c.if-left-eq0.false c.if-deep-eq0.false is-constructor
     agrees _ _ c.match_in_place-got.ensures _ c.answer_of-2.ensures
     (Tagged-not_done _ c.in_default-answer_of.not-Done)
@@ -166,11 +163,11 @@ returns-in_default-answer_of c =
 pub returns : goal.returns
 returns c =
     let is-constructor : kind_of c.args.table.now c.args.p ≡ 19 =
-        no-variable c.args.table.now
+    no-variable c.args.table.now
     c.args.p _ c.requires.1
     c.kind.ensures c.if-kind-eq-PVAR.false in
     let agrees : agreeing c.args.table.now c.args.store.now c.args.p (node_in c.args.s) ≡ true =
-        sym c.agree.ensures ∙ not-false _ c.if-not-agree.false-raw in
+    sym c.agree.ensures ∙ not-false _ c.if-not-agree.false-raw in
     root-matched c.requires.0 _ c.if-left-eq0.false c.if-deep-eq0.false is-constructor
     agrees _ _ c.match_in_place-got.ensures _ c.answer_of-2.ensures _ _ _
     c.in-Done-answer_of.is c.done-2.ensures
