@@ -66,10 +66,6 @@ fewer s n h = omega arith
 pred-le : (d e : ℕ) → d ≤ e → d - 1 ≤ e
 pred-le d e h = omega arith
 
--- what is at most the units of a word is at most the word
-pub within : (s n i : ℕ) → n ≤ min i (units_in s) → n ≤ s
-within s n i h = omega arith
-
 -- what is at most the lesser of two is at most each
 under : (n i j : ℕ) → n ≤ min i j → (n ≤ i) × (n ≤ j)
 under n i j h = (omega arith, omega arith)
@@ -248,10 +244,6 @@ module _ {t w₀ st₀ : List ℕ} {start given deep : ℕ} {w st : List ℕ} {e
 pub of_two : (k r i : ℕ) → r ≡ k → i ≤ r → r < i + 2 → (k ≡ i) ⊎ (k ≡ i + 1)
 of_two k r i e h l = ⊎_elim (λ q. inl (sym e ∙ sym q)) (λ q. inr (omega arith)) (eq-or-lt_of_le h)
 
--- what is at least 4 and not 4 is at least 5
-pub five-up : (r : ℕ) → (r ≡ 4 → ⊥) → 4 ≤ r → 5 ≤ r
-five-up r n h = omega arith
-
 -- a kind that is in no arm of the loop
 pub last-kind : (k r : ℕ) → r ≡ k → (r ≡ 4 → ⊥) → (r ≡ 10 → ⊥) → (r ≡ 12 → ⊥) → (r < 4) ⊎ (9 ≤ r) → Last k
 last-kind k r e n c o h = record { not-seq = λ q. n (e ∙ q); outside = ⊎_elim (λ l. inl (omega arith)) (λ l. inr (omega arith)) h; not-cong = λ q. c (e ∙ q); not-one = λ q. o (e ∙ q) }
@@ -263,3 +255,14 @@ pos n h = omega arith
 -- a kind is one number
 pub two-kinds : {k r i j : ℕ} → r ≡ k → r ≡ i → k ≡ j → j < i → ⊥
 two-kinds e f g l = omega arith
+
+-- an answer that is not one is one of the two others
+pub not-done-tag : (a : Answer) → ((x v : ℕ) → a ≡ Done x v → ⊥) → Tagged a 1 2
+not-done-tag (Done x v) h = absurd (h x v refl)
+not-done-tag (Failed v) h = inl refl
+not-done-tag (Cut d) h = inr refl
+
+pub not-failed-tag : (a : Answer) → ((v : ℕ) → a ≡ Failed v → ⊥) → Tagged a 0 2
+not-failed-tag (Done x v) h = inl refl
+not-failed-tag (Failed v) h = absurd (h v refl)
+not-failed-tag (Cut d) h = inr refl

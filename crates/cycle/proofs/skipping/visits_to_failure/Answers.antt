@@ -1,9 +1,8 @@
 -- `skipping::visits_to_failure` meets its contract: what the table tells of the first operand, where constructor or count differ and
 -- four units and four levels of nesting are left. Assumes nothing.
-use mathlib.Core.Path.{◌≡◌, sym, ◌∙◌}
+use mathlib.Core.Path.{sym, ◌∙◌}
 use native.Mathlib.Omega.{arith}
 use Rattle.cycle.proofs.Failing.{skips-none, skips-hint}
-use borrow.Author.Rules.{rules}
 use Rattle.cycle.proofs.skipping.visits_to_failure.Goals as goal
 
 pub returns-then-n-eq0 : goal.returns-then-n-eq0

@@ -1,6 +1,5 @@
 -- `entry_ahead` reads the entry after the visits. Assumes nothing.
 use borrow.Author.Tests.{eq-eqb, ne_eqb}
-use borrow.Author.Rules.{rules}
 use Rattle.cycle.proofs.visits.entry_ahead.Goals as goal
 
 pub returns-then-ahead-eq0 : goal.returns-then-ahead-eq0

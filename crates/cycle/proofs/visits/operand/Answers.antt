@@ -1,6 +1,5 @@
 -- `visits::operand` meets its contract: in CONG a word of the entry, by the test on the kind. Assumes nothing.
 use borrow.Author.Tests.{eq-eqb, ne_eqb}
-use borrow.Author.Rules.{rules}
 use Rattle.cycle.proofs.visits.operand.Goals as goal
 
 pub returns-then-kind-eq-CONG : goal.returns-then-kind-eq-CONG

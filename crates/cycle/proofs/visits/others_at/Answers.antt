@@ -1,7 +1,5 @@
 -- `others_at` writes a child after the second into its word. Assumes nothing.
 use borrow.Author.Tests.{lt-ltb, le-ltb}
-use native.Mathlib.Omega.{arith}
-use borrow.Author.Rules.{rules}
 use Rattle.cycle.proofs.visits.others_at.Goals as goal
 
 pub returns-then-i-lt2 : goal.returns-then-i-lt2

@@ -1,6 +1,5 @@
 -- `saved_mark` reads the record for SOME alone. Assumes nothing.
 use borrow.Author.Tests.{eq-eqb, ne_eqb}
-use borrow.Author.Rules.{rules}
 use Rattle.cycle.proofs.visits.saved_mark.Goals as goal
 
 pub returns-then-kind-eq-SOME : goal.returns-then-kind-eq-SOME

@@ -1,9 +1,8 @@
 -- `visits_ahead` reads its number in the table, where the nesting is enough. Assumes nothing.
-use mathlib.Core.Path.{◌≡◌, sym, ◌∙◌}
+use mathlib.Core.Path.{sym, ◌∙◌}
 use mathlib.Core.Logic.{inl, inr}
 use native.Mathlib.Omega.{arith}
 use Rattle.cycle.proofs.Ahead.{ahead_none, ahead-hint}
-use borrow.Author.Rules.{rules}
 use Rattle.cycle.proofs.visits.visits_ahead.Goals as goal
 
 pub returns-then-deep-lt2 : goal.returns-then-deep-lt2
