@@ -8,7 +8,7 @@ use Rattle.tallying.proofs.add.Goals as goal
 
 pub returns-then-i-counts : goal.returns-then-i-counts
 returns-then-i-counts c =
-    ap (λ (v : ℕ). set c.args.counts.now (4 * c.args.e + c.args.c) v) c.wrapping_add_u64.ensures
+    ap (λ (v : ℕ). set c.args.counts.now (4 * c.args.e + c.args.c) v) c.wrapping_add_u64.ensures.value
     ∙ bump-inside c.args.counts.now c.args.e c.args.c c.if-i-counts.true
 
 pub returns-else-i-counts : goal.returns-else-i-counts

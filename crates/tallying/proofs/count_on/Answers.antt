@@ -11,8 +11,7 @@ use Rattle.tallying.proofs.end.Reads as end_reads
 use Rattle.tallying.proofs.see.Reads as see-reads
 use Rattle.machine.proofs.go.Reads as go-reads
 use Rattle.tallying.proofs.count_on.Goals as goal
-use Rattle.tallying.proofs.count_on.Goals.{Joined-m-lt4}
-use Rattle.tallying.proofs.count_on.Goals.{else-m-lt4, then-m-lt4}
+use Rattle.tallying.proofs.count_on.Goals.{else-m-lt4+else-m-gt5+else-m-eq0-2, then-m-lt4+else-m-eq0+else-m-gt4095}
 
 pub loop-m-init : goal.loop-m-init
 loop-m-init c =
@@ -109,21 +108,33 @@ end-requires c = (
       (arith, c.loop-m.invariant.0.long),
 )
 
-comes : (c : Joined-m-lt4) → Comes c.loop-m.m c.loop-m.s c.loop-m.auto
-    c.loop-m.counts c.if-m-lt4.s c.if-m-lt4.auto c.if-m-lt4.counts
-comes c =
-    elim c.if-m-lt4.branch [ then-m-lt4 w ↦ comes-visit (w.15 ∙ w.12.ensures) w.0.taken w.2.left (omega (arith, w.4.left))
-    (w.13 ∙ w.7.ensures.0) (w.14 ∙ w.7.ensures.1) | else-m-lt4 w ↦ comes-end w.12 w.10 (omega (arith, w.0.left)) (omega (arith, w.2.left)) w.4.left (w.11 ∙ w.7.ensures) ]
-
 pub go-m-requires : goal.go-m-requires
 go-m-requires c = let so = c.loop-m.invariant.0 in (so.level, so.low, omega arith, so.lent)
 
 pub loop-m-smaller : goal.loop-m-smaller
 loop-m-smaller c =
+    let comes : Comes c.loop-m.m c.loop-m.s c.loop-m.kept c.loop-m.counts c.if-m-lt4.s c.if-m-lt4.kept c.if-m-lt4.counts =
+    elim c.if-m-lt4.branch [
+      | then-m-lt4+else-m-eq0+else-m-gt4095 w ↦
+          comes-visit (w.s-is ∙ w.see-s.ensures) w.if-m-lt4.true w.if-m-eq0.false (omega (arith, w.if-m-gt4095.false))
+          (w.kept-is ∙ w.begin.ensures.0) (w.counts-is ∙ w.begin.ensures.1)
+      | else-m-lt4+else-m-gt5+else-m-eq0-2 w ↦
+          comes-end w.s-is w.kept-is (omega (arith, w.if-m-lt4.false)) (omega (arith, w.if-m-gt5.false)) w.if-m-eq0-2.false
+          (w.counts-is ∙ w.end.ensures)
+    ] in
     let inv = c.loop-m.invariant in
-    nearer inv.1 inv.2 inv.0 (comes c.before.before.before.before.before.before.before) _ (c.go-m.ensures.alone refl)
+    nearer inv.1 inv.2 inv.0 comes _ (c.go-m.ensures.alone refl)
 
 pub loop-m-preserved : goal.loop-m-preserved
 loop-m-preserved c =
+    let comes : Comes c.loop-m.m c.loop-m.s c.loop-m.kept c.loop-m.counts c.if-m-lt4.s c.if-m-lt4.kept c.if-m-lt4.counts =
+    elim c.if-m-lt4.branch [
+      | then-m-lt4+else-m-eq0+else-m-gt4095 w ↦
+          comes-visit (w.s-is ∙ w.see-s.ensures) w.if-m-lt4.true w.if-m-eq0.false (omega (arith, w.if-m-gt4095.false))
+          (w.kept-is ∙ w.begin.ensures.0) (w.counts-is ∙ w.begin.ensures.1)
+      | else-m-lt4+else-m-gt5+else-m-eq0-2 w ↦
+          comes-end w.s-is w.kept-is (omega (arith, w.if-m-lt4.false)) (omega (arith, w.if-m-gt5.false)) w.if-m-eq0-2.false
+          (w.counts-is ∙ w.end.ensures)
+    ] in
     let inv = c.loop-m.invariant in
-    (further inv.1 inv.2 inv.0 (comes c.before.before.before.before.before.before.before) _ (c.go-m.ensures.alone refl), inv.1, inv.2)
+    (further inv.1 inv.2 inv.0 comes _ (c.go-m.ensures.alone refl), inv.1, inv.2)

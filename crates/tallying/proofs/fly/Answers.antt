@@ -19,13 +19,12 @@ loop-l-smaller c = omega (arith, c.loop-l-test.true)
 
 pub loop-l-preserved : goal.loop-l-preserved
 unfolding flown
-loop-l-preserved c =
-    (
-      c.add.ensures
-          ∙ rw add-one (ap (λ cs. bumped cs (get_or c.args.kept.now c.loop-l.l 0) 3)
-          c.loop-l.invariant.0),
-      omega (arith, c.loop-l-test.true),
-    )
+loop-l-preserved c = (
+  c.add.ensures
+      ∙ rw add-one (ap (λ cs. bumped cs (get_or c.args.kept.now c.loop-l.l 0) 3)
+      c.loop-l.invariant.0),
+  omega (arith, c.loop-l-test.true),
+)
 
 pub shape_of-counts : goal.shape_of-counts
 shape_of-counts c = ap length c.loop-l.invariant.0 ∙ length-flown _ _ _

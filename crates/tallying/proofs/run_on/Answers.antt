@@ -13,32 +13,6 @@ use Rattle.stepping.proofs.conclude.Reads as conclude-reads
 use Rattle.stepping.proofs.own.load_bindings.Reads as load-bindings-reads
 use Rattle.stepping.proofs.own.save.Reads as save-reads
 use Rattle.tallying.proofs.run_on.Goals as goal
-use Rattle.tallying.proofs.run_on.Goals.{After-conclude-ended, After-count_on-t, After-count_rest, After-load_bindings-mask, After-save, After-work-8-1, Start}
-
--- ---- the places
--- each from the next: the start, the bindings loaded, the machine saved, the visits counted, the rest counted
-abbrev start : After-load_bindings-mask → Start
-start c = c.before.before.before.before.before.before.before
-
-abbrev loaded : After-save → After-load_bindings-mask
-loaded c = c.before.before.before
-
-abbrev saved : After-count_on-t → After-save
-saved c = c.before.before.before.before.before.before
-
-abbrev counted : After-count_rest → After-count_on-t
-counted c = c.before.before.before.before.before.before.before.before.before.before.before
-
-abbrev rested : After-conclude-ended → After-count_rest
-rested c = c.before.before.before.before.before.before
-
-abbrev concluded : After-work-8-1 → After-conclude-ended
-concluded c = c.before.before.before.before.before
-
--- what is run
-abbrev given : Start → Input
-given c =
-    input c.args.table.now c.args.store.now c.args.bindings.now c.args.mark c.args.start c.args.subject c.args.units
 
 -- ---- the lengths of the two lists of its own: a list of so many zeros is long to compute, so it is done once for each place
 -- m is n, and so as long
@@ -50,43 +24,29 @@ load_bindings-mask-requires c = (le_refl 327680, c.requires.0.bindings)
 
 pub slice_bounds-save-end : goal.slice_bounds-save-end
 slice_bounds-save-end c =
-    let work-long : length c.load_bindings-mask.new.0 ≡ 327680 =
-        c.load_bindings-mask.auto.0 in
+    let work-long : length c.load_bindings-mask.new.work ≡ 327680 = c.load_bindings-mask.auto.work in
     sym work-long
 
 pub save-requires : goal.save-requires
 save-requires c =
-    let work-long : length c.load_bindings-mask.new.0 ≡ 327680 =
-        c.load_bindings-mask.auto.0 in
+    let work-long : length c.load_bindings-mask.new.work ≡ 327680 = c.load_bindings-mask.auto.work in
     (as_long work-long, lit< tt)
 
 pub slice_bounds-count_on-end : goal.slice_bounds-count_on-end
 slice_bounds-count_on-end c =
-    let work-long : length c.load_bindings-mask.new.0 ≡ 327680 =
-        c.load_bindings-mask.auto.0 in
-    let saved-long : length c.save.new.0 ≡ 327680 =
-        c.save.auto.0 ∙ work-long (loaded c) in
+    let work-long : length c.load_bindings-mask.new.work ≡ 327680 = c.load_bindings-mask.auto.work in
+    let saved-long : length c.save.new.work ≡ 327680 = c.save.auto.work ∙ work-long in
     sym saved-long
 
 pub count_on-t-requires : goal.count_on-t-requires
 count_on-t-requires c =
-    let work-long : length c.load_bindings-mask.new.0 ≡ 327680 =
-        c.load_bindings-mask.auto.0 in
-    let saved-long : length c.save.new.0 ≡ 327680 =
-        c.save.auto.0 ∙ work-long (loaded c) in
-    (
-  refl,
-  lit< tt,
-  accepted-lent (given (start (loaded c.before.before.before.before.before))) _
-      (start (loaded c.before.before.before.before.before)).requires.0
-      (as_long saved-long),
-  refl,
-  (start (loaded c.before.before.before.before.before)).requires.2,
-)
+    let work-long : length c.load_bindings-mask.new.work ≡ 327680 = c.load_bindings-mask.auto.work in
+    let saved-long : length c.save.new.work ≡ 327680 = c.save.auto.work ∙ work-long in
+    let i : Input = input c.args.table.now c.args.store.now c.args.bindings.now c.args.mark c.args.start c.args.subject c.args.units in
+    (refl, lit< tt, accepted-lent i _ c.requires.0 (as_long saved-long), refl, c.requires.2)
 
 pub slice_bounds-count_rest-end : goal.slice_bounds-count_rest-end
-slice_bounds-count_rest-end c =
-    sym c.count_on-t.auto.1.1.1.0
+slice_bounds-count_rest-end c = sym c.count_on-t.auto.kept
 
 pub count_rest-requires : goal.count_rest-requires
 count_rest-requires c =
@@ -95,39 +55,30 @@ count_rest-requires c =
 
 pub slice_bounds-conclude-end : goal.slice_bounds-conclude-end
 slice_bounds-conclude-end c =
-    let work-long : length c.load_bindings-mask.new.0 ≡ 327680 =
-        c.load_bindings-mask.auto.0 in
-    let saved-long : length c.save.new.0 ≡ 327680 =
-        c.save.auto.0 ∙ work-long (loaded c) in
-    sym ((counted c.before.before.before.before.before).count-on.auto.1.1.0
-    ∙ saved-long (saved (counted c.before.before.before.before.before)))
+    let work-long : length c.load_bindings-mask.new.work ≡ 327680 = c.load_bindings-mask.auto.work in
+    let saved-long : length c.save.new.work ≡ 327680 = c.save.auto.work ∙ work-long in
+    sym (c.count_on-t.auto.work ∙ saved-long)
 
 pub conclude-ended-requires : goal.conclude-ended-requires
-conclude-ended-requires c = (
-  (start (loaded (saved (counted c.before.before.before.before.before)))).requires.0.bindings,
-  (counted c.before.before.before.before.before).count-on.ensures.0.lent.frames,
-)
+conclude-ended-requires c = (c.requires.0.bindings, c.count_on-t.ensures.0.lent.frames)
 
 -- ---- the lent lists are as long as they were
 pub shape_of-store : goal.shape_of-store
-shape_of-store c = (concluded c).conclude.auto.0 ∙ (counted (rested (concluded c))).count-on.auto.1.0
+shape_of-store c = c.conclude-ended.auto.store ∙ c.count_on-t.auto.store
 
 pub shape_of-bindings : goal.shape_of-bindings
-shape_of-bindings c = (concluded c).conclude.auto.1.0
+shape_of-bindings c = c.conclude-ended.auto.bindings
 
 pub shape_of-counts : goal.shape_of-counts
-shape_of-counts c = (rested (concluded c)).count-rest.auto.1.0 ∙ (counted (rested (concluded c))).count-on.auto.1.1.1.1.0
+shape_of-counts c = c.count_rest.auto.counts ∙ c.count_on-t.auto.counts
 
 -- ---- what it returns
--- the start of what has ended
-abbrev first : After-work-8-1 → Start
-first c = start (loaded (saved (counted (rested (concluded c)))))
-
 pub returns : goal.returns
 returns c =
-    ap (counted_at_return _ _ _) (rested (concluded c)).count-rest.ensures
-    ∙ all-counted (first c).args.shares (given (first c)) (first c).requires.0 (first c).args.counts.now (rows (first c).args.table.now)
-    (first c).requires.1 (first c).requires.2 (first c).ranges.units.fits
-    _ _ _ _ (loaded (saved (counted (rested (concluded c))))).load-bindings.ensures (saved (counted (rested (concluded c)))).save.ensures
-    _ _ _ _ _ _ (counted (rested (concluded c))).count-on.ensures.0 (counted (rested (concluded c))).count-on.ensures.1
-    _ _ _ _ (concluded c).conclude.ensures
+    let i : Input = input c.args.table.now c.args.store.now c.args.bindings.now c.args.mark c.args.start c.args.subject c.args.units in
+    ap (counted_at_return _ _ _) c.count_rest.ensures
+    ∙ all-counted c.args.shares i c.requires.0 c.args.counts.now (rows c.args.table.now)
+    c.requires.1 c.requires.2 c.ranges.units.fits
+    _ _ _ _ c.load_bindings-mask.ensures c.save.ensures
+    _ _ _ _ _ _ c.count_on-t.ensures.0 c.count_on-t.ensures.1
+    _ _ _ _ c.conclude-ended.ensures
