@@ -5,14 +5,14 @@ use mathlib.Core.Bool.{Bool, true, false}
 use mathlib.Core.Option.{Option, none, some}
 use mathlib.Core.List.{List, [], ◌∷◌, ◌++◌, map}
 use mathlib.Core.Logic.{◌⊎◌, inl, inr, ⊎_elim}
-use Prim.Native.Nat.{ℕ, zero, suc, ◌+◌, ◌-◌, ◌*◌, ◌<◌, ◌≤◌}
+use Prim.Native.Nat.{ℕ, zero, suc, ◌+◌, ◌-◌, ◌<◌, ◌≤◌}
 use native.Mathlib.Omega.{arith}
 use borrow.Author.Tests.{le-leb, lt-leb, eqb-true, eqb-false}
 use lib.Dec.{eqb}
 use lib.ListN.{length, get_or, take}
 use Rattle.words.specs.Words.{word_at, rows}
 use Rattle.words.proofs.Tests.{below-or-from}
-use Rattle.checks.specs.Kinds.{ours, variables, kind, lines, line_of, sort_of, takes, highest_by, argument_words_by, operands_from_by}
+use Rattle.checks.specs.Kinds.{ours, kind, lines, line_of, sort_of, takes, highest_by, argument_words_by, operands_from_by}
 use Rattle.checks.specs.Good.{kind_of, operand_count, argument_of, number, mask_by, good_entry_by}
 use Rattle.checks.specs.Plain.{TableLength, EntryBy}
 use Rattle.checks.specs.declared.Checked.{Checked}
@@ -20,14 +20,14 @@ use Rattle.checks.specs.declared.kinds.Sort.{Sort}
 use Rattle.checks.specs.declared.kinds.Sort.TheVariants.{Strategy, Pattern, Neither}
 use Rattle.checks.specs.Checked.{checked, table_checked_by}
 use Rattle.checks.proofs.Promises.{table_passes, entry_plain}
-use Rattle.meaning.specs.Bindings.{Bindings, unbound, bind, masked}
+use Rattle.meaning.specs.Bindings.{Bindings}
 use Rattle.meaning.specs.Derivation.{history, nowhere}
 use Rattle.meaning.specs.Table as tables
 use Rattle.meaning.specs.Table.{table, table_by, by_kind, operands, six, PVAR, PCON}
-use Rattle.meaning.specs.Plan.{Keep, keep, drop as give, Plan, ret, fail, miss, stuck, look, make, ask}
+use Rattle.meaning.specs.Plan.{ret, fail, miss, stuck, look, make, ask}
 use Rattle.meaning.specs.Rules.{Visit, apply, match, build, compare, Do, does, strategy, matching, building, comparing, variable, needed}
 use Rattle.meaning.specs.Rules.{when, when_at, given, walk, again, one_of, some_of, zip, nth, put}
-use Rattle.meaning.specs.Limits.{Limit, Res, ended, lost, cut, Store, closed}
+use Rattle.meaning.specs.Limits.{Res, ended, lost, cut, Store, closed}
 use Rattle.meaning.specs.Steps.{Frame as Level, Next, over, next, roomy, advance, onto, settle, enter, one, steps, start}
 use Rattle.meaning.specs.Store.{Input, Accepted, bindings, deepest, on}
 use Rattle.meaning.specs.Shared.{store_by}
@@ -35,7 +35,7 @@ use Rattle.meaning.proofs.Checked.{inside}
 use Rattle.meaning.proofs.Tests.{impossible}
 use Rattle.meaning.proofs.Words.{six-at}
 use Rattle.turns.specs.Ways.{Fit, Applied, FairVisit}
-use Rattle.machine.specs.Stack.{Fair, Run, Open}
+use Rattle.machine.specs.Stack.{Fair, Run}
 
 module _ {S L : Type 0} (M : Store ℕ (Visit ℕ) S L) (R : Visit ℕ → Do ℕ) (Asked : Visit ℕ → Type 0) where
   -- a plan that asks for such visits alone, whatever it sees

@@ -1,9 +1,9 @@
 -- The loop: what it has done so far, and why it ends. Assumes nothing.
-use mathlib.Core.Path.{◌≡◌, refl, ap, sym, ◌∙◌, subst}
-use mathlib.Core.Bool.{Bool, true, false, true≢false}
-use mathlib.Core.Logic.{◌⊎◌, inl, inr, ⊎_elim}
+use mathlib.Core.Path.{◌≡◌, refl, sym, ◌∙◌, subst}
+use mathlib.Core.Bool.{Bool, true, true≢false}
+use mathlib.Core.Logic.{◌⊎◌, ⊎_elim}
 use mathlib.Core.List.{List, ◌∷◌}
-use Prim.Native.Nat.{ℕ, zero, suc, ◌+◌, ◌-◌, ◌*◌, ◌<◌, ◌≤◌}
+use Prim.Native.Nat.{ℕ, suc, ◌+◌, ◌-◌, ◌*◌, ◌<◌, ◌≤◌}
 use native.Mathlib.Omega.{arith}
 use borrow.Author.Tests.{lt-ltb, le-ltb}
 use lib.Dec.{eqb, ltb}
@@ -13,7 +13,7 @@ use Rattle.words.proofs.Tests.{below-or-from}
 use Rattle.meaning.specs.Table.{table}
 use Rattle.meaning.specs.Rules.{does}
 use Rattle.meaning.specs.Derivation.{What, Event, began, ended, history}
-use Rattle.meaning.specs.Steps.{one, steps}
+use Rattle.meaning.specs.Steps.{steps}
 use Rattle.meaning.specs.Store.{on}
 use Rattle.meaning.specs.Shared.{store_by}
 use Rattle.meaning.proofs.Steps.{steps-suc}

@@ -1,6 +1,6 @@
 -- A frame that is written means what it was: what each word that says what a frame waits for depends on. Assumes nothing.
 use mathlib.Core.Path.{◌≡◌, refl, ap, sym, ◌∙◌, subst}
-use mathlib.Core.Bool.{Bool, true, false, true≢false}
+use mathlib.Core.Bool.{true, false, true≢false}
 use mathlib.Core.Logic.{◌⊎◌, inl, inr, ⊎_elim}
 use mathlib.Core.List.{List, [], ◌∷◌}
 use Prim.Native.Nat.{ℕ, zero, suc, ◌+◌, ◌*◌, ◌/◌, ◌%◌, ◌<◌, ◌≤◌}
@@ -9,10 +9,10 @@ use borrow.Author.Tests.{eq-eqb, ne_eqb}
 use lib.ListN.{length, get_or}
 use Rattle.words.specs.Words.{word_at, put_row}
 use Rattle.words.proofs.Rows.{length-put_row}
-use Rattle.meaning.specs.Bindings.{Bindings, has}
-use Rattle.turns.specs.Ways.{record_from, held_at, row_of, row_to_build, Frame, Way, ways, way_of, saves, opened, next_of}
+use Rattle.meaning.specs.Bindings.{Bindings}
+use Rattle.turns.specs.Ways.{record_from, held_at, row_of, row_to_build, Frame, ways, way_of, saves, opened, next_of}
 use Rattle.turns.specs.declared.turn.Turn.{Turn}
-use Rattle.machine.specs.Stack.{row_at, frame_at, mask_at, kept_at}
+use Rattle.machine.specs.Stack.{row_at, frame_at}
 use Rattle.machine.specs.Machine.{Keeps, Opened}
 use Rattle.machine.proofs.Holding.{held_same}
 use Rattle.machine.proofs.Rowing.{row_same, row_put, row_kept, place_kept}

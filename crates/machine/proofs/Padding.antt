@@ -3,7 +3,7 @@ use mathlib.Core.Path.{◌≡◌, refl}
 use mathlib.Core.List.{List, [], ◌∷◌}
 use Prim.Native.Nat.{ℕ, zero, suc, ◌≤◌, min}
 use native.Mathlib.Omega.{arith}
-use lib.ListN.{length, get_or, take, drop, length-take, length-drop, length-append, length-replicate}
+use lib.ListN.{length, get_or, length-take, length-drop, length-append, length-replicate}
 use lib.Seq.{take-nil}
 use Rattle.meaning.specs.Store.{row}
 use Rattle.turns.specs.Ways.{kids}

@@ -6,7 +6,7 @@ use Prim.Native.Nat.{ℕ, zero, suc, ◌+◌, ◌*◌, ◌/◌, ◌%◌, ◌<◌
 use native.Mathlib.Omega.{arith}
 use lib.ListN.{length, get_or}
 use Rattle.words.specs.Words.{word_at, put_row}
-use Rattle.words.proofs.Rows.{length-put_row, word_at-put_row-same, word_at-put_row-other}
+use Rattle.words.proofs.Rows.{word_at-put_row-same, word_at-put_row-other}
 use Rattle.machine.specs.Stack.{row_at}
 
 -- eight words are a row

@@ -1,7 +1,7 @@
 -- The list of frames as it is written, and what a turn does to what the machine stands for. Assumes nothing.
 use mathlib.Core.Path.{◌≡◌, refl, ap, sym, ◌∙◌, subst, fun_ext}
 use mathlib.Core.Bool.{Bool, true, false}
-use mathlib.Core.Logic.{◌⊎◌, inl, inr, ⊎_elim}
+use mathlib.Core.Logic.{inl, inr, ⊎_elim}
 use mathlib.Core.Option.{Option, none, some}
 use mathlib.Core.List.{List, [], ◌∷◌}
 use Prim.Native.Nat.{ℕ, zero, suc, ◌+◌, ◌-◌, ◌*◌, ◌%◌, ◌^◌, ◌<◌, ◌≤◌}
@@ -9,29 +9,29 @@ use native.Mathlib.Omega.{arith}
 use native.Mathlib.Numerals.{add-one}
 use borrow.Author.Tests.{le-leb, lt-leb, lt-ltb, le-ltb}
 use lib.Bits.{bit_and, bit_or}
-use lib.Dec.{leb, ltb}
+use lib.Dec.{leb}
 use lib.ListN.{length, get_or, set, length-set}
 use lib.Seq.{get_or-set_other}
-use Rattle.words.specs.Words.{word_at, rows, put_row}
+use Rattle.words.specs.Words.{rows, put_row}
 use Rattle.words.specs.Tests.{if◌then◌else◌}
 use Rattle.words.proofs.Tests.{below-or-from}
 use Rattle.meaning.specs.Bindings.{Bindings, bind, has, masked}
 use Rattle.meaning.specs.Table.{table}
-use Rattle.meaning.specs.Plan.{Plan, ret, fail, miss, stuck, look, make, ask}
-use Rattle.meaning.specs.Rules.{Visit, Do, does}
+use Rattle.meaning.specs.Plan.{ret, fail, miss, stuck, look, make, ask}
+use Rattle.meaning.specs.Rules.{Do, does}
 use Rattle.meaning.specs.Derivation.{What, Event, history}
 use Rattle.meaning.specs.Limits.{Res, ended, lost, cut, room, unbound}
-use Rattle.meaning.specs.Steps.{Next, over, next, roomy, advance, settle}
+use Rattle.meaning.specs.Steps.{over, roomy, advance, settle}
 use Rattle.meaning.specs.Store.{State as Store, Left, on, rest, row}
 use Rattle.meaning.specs.Shared.{full_for, number_for, state_for, store_by}
 use Rattle.turns.specs.declared.turn.Turn.{Turn}
 use Rattle.turns.specs.declared.turn.Act.{Act}
-use Rattle.turns.specs.declared.turn.Act.TheVariants.{Done, Failed, Missed, Stuck, Bound, Leaf, Made, Ask, Next as Goes, Unscope}
-use Rattle.turns.specs.Ways.{record_from, held_at, kids, Frame, Way, way_of, visit_of, hiding, opened, next_of, asking, acts, plan_of, looked}
+use Rattle.turns.specs.declared.turn.Act.TheVariants.{Done, Failed, Missed, Stuck, Bound, Unscope}
+use Rattle.turns.specs.Ways.{record_from, held_at, kids, Frame, way_of, visit_of, hiding, opened, asking, acts, looked}
 use Rattle.machine.specs.declared.Machine.{Machine}
 use Rattle.machine.specs.Stack.{row_at, frame_at, mask_at, kept_at, present, way_at, mark_at, Noted, Open, Run, whats_of, Pending, Stack}
 use Rattle.machine.specs.Stack.{Asks, Ends, Stands}
-use Rattle.machine.specs.Machine.{own_from, Lent, Copied, Opened, OwnStay, standing_for, Node, Moved, kept_by, Carried}
+use Rattle.machine.specs.Machine.{Lent, Copied, Opened, standing_for, Node, Moved, kept_by, Carried}
 use Rattle.machine.proofs.Holding.{held_same, held-bind, held-hidden, held-unscoped}
 use Rattle.machine.proofs.Rowing.{row_same}
 

@@ -1,9 +1,9 @@
 -- The node that a row asks for, by whether nodes are shared: it stands, or it is made as where none is shared. Assumes nothing.
 use mathlib.Core.Path.{◌≡◌, refl, ap, sym, ◌∙◌}
 use mathlib.Core.Bool.{Bool, true, false}
-use mathlib.Core.Option.{Option, none, some}
-use mathlib.Core.List.{List, [], ◌∷◌}
-use Prim.Native.Nat.{ℕ, ◌+◌}
+use mathlib.Core.Option.{none, some}
+use mathlib.Core.List.{List}
+use Prim.Native.Nat.{ℕ}
 use lib.ListN.{get_or}
 use Rattle.checks.specs.Checked.{place_of}
 use Rattle.checks.specs.declared.Found.{Found}

@@ -1,36 +1,36 @@
 -- A visit begins, and an end is told to the frame below: what the machine stands for. Assumes nothing.
 use mathlib.Core.Path.{◌≡◌, refl, ap, sym, ◌∙◌, subst}
 use mathlib.Core.Bool.{Bool, true, false, true≢false}
-use mathlib.Core.Logic.{◌⊎◌, inl, inr, ⊎_elim}
+use mathlib.Core.Logic.{inl, inr, ⊎_elim}
 use mathlib.Core.List.{List, [], ◌∷◌}
 use Prim.Native.Nat.{ℕ, zero, suc, ◌+◌, ◌-◌, ◌*◌, ◌%◌, ◌<◌, ◌≤◌}
 use native.Mathlib.Omega.{arith}
 use borrow.Author.Tests.{eq-eqb, ne_eqb, lt-ltb}
-use lib.Dec.{eqb, ltb}
-use lib.ListN.{length, get_or, set}
+use lib.Dec.{eqb}
+use lib.ListN.{get_or, set}
 use Rattle.words.specs.Words.{word_at}
 use Rattle.words.specs.Tests.{if◌then◌else◌}
 use Rattle.words.proofs.Tests.{below-or-from}
 use Rattle.meaning.specs.Bindings.{Bindings}
 use Rattle.meaning.specs.Table.{table}
-use Rattle.meaning.specs.Plan.{Keep, keep, drop as give, ret, fail, miss, stuck, look, make, ask}
-use Rattle.meaning.specs.Rules.{Visit, Do, does}
+use Rattle.meaning.specs.Plan.{keep, drop as give, ret, fail, miss, stuck, look, make, ask}
+use Rattle.meaning.specs.Rules.{Do, does}
 use Rattle.meaning.specs.Derivation.{What, what, Event, began, ended as finished, history}
-use Rattle.meaning.specs.Limits.{Res, ended, lost, settled, closed}
-use Rattle.meaning.specs.Steps.{Next, over, next, advance, onto, settle, enter, one}
+use Rattle.meaning.specs.Limits.{ended, lost, settled, closed}
+use Rattle.meaning.specs.Steps.{advance, onto, settle, enter, one}
 use Rattle.meaning.specs.Store.{on, rest}
 use Rattle.meaning.specs.Shared.{store_by}
 use Rattle.turns.specs.declared.turn.Turn.{Turn}
 use Rattle.turns.specs.declared.turn.Act.{Act}
 use Rattle.turns.specs.declared.turn.Act.TheVariants.{Done, Failed, Missed, Stuck, Bound, Leaf, Made, Ask, Next as Goes, Unscope}
-use Rattle.turns.specs.Ways.{record_from, held_at, Frame, Way, way, ways, way_of, visit_of, opened, acts, plan_of, looked, current, saves}
-use Rattle.turns.specs.Ways.{filled, FairVisit, Ready}
-use Rattle.turns.specs.Turns.{Begins, Resumes, Recovers, Walks}
+use Rattle.turns.specs.Ways.{held_at, Frame, way, ways, way_of, visit_of, opened, acts, plan_of, looked, saves}
+use Rattle.turns.specs.Ways.{FairVisit, Ready}
+use Rattle.turns.specs.Turns.{Resumes, Recovers, Walks}
 use Rattle.machine.specs.declared.Machine.{Machine}
 use Rattle.machine.specs.declared.frames.Kept.{Kept}
 use Rattle.machine.specs.Stack.{row_at, frame_at, mask_at, kept_at, present, way_at, mark_at, Noted, Open, Run, whats_of, first_of, others_of}
-use Rattle.machine.specs.Stack.{Pending, Stack, Asks, Ends, Stands, Fair}
-use Rattle.machine.specs.Machine.{own_from, Lent, OwnStay, Moved, kept_by, Carried, Restored, Taken, visited, Turned}
+use Rattle.machine.specs.Stack.{Pending, Stack, Asks, Stands, Fair}
+use Rattle.machine.specs.Machine.{OwnStay, kept_by, Carried, Restored, Taken, visited, Turned}
 use Rattle.machine.proofs.Holding.{held_same}
 use Rattle.machine.proofs.Rowing.{row_same}
 use Rattle.machine.proofs.Opening.{same_way}

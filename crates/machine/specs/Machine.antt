@@ -1,5 +1,5 @@
 -- What the machine's functions promise. Frame i is at row 10 i.
-use Rattle.std.specs.Prelude.{◌≡◌, Bool, true, false, ◌⊎◌, List, [], ◌∷◌, ℕ, suc, ◌+◌, ◌-◌, ◌*◌, ◌<◌, ◌≤◌, ◌%◌, eqb, ltb, length, get_or, set}
+use Rattle.std.specs.Prelude.{◌≡◌, Bool, true, false, ◌⊎◌, List, ◌∷◌, ℕ, suc, ◌+◌, ◌-◌, ◌*◌, ◌<◌, ◌≤◌, ◌%◌, eqb, ltb, length, get_or, set}
 use Rattle.std.proofs.Math.Option.{Option, none, some}
 use Rattle.words.specs.Words.{word_at, rows, put_row}
 use Rattle.words.specs.Tests.{if◌then◌else◌}
@@ -10,12 +10,12 @@ use Rattle.meaning.specs.Derivation.{What, what, Event, began, ended, history}
 use Rattle.meaning.specs.Steps.{advance, settle, one, steps}
 use Rattle.meaning.specs.Store.{on, row}
 use Rattle.meaning.specs.Shared.{standing, store_by}
-use Rattle.turns.specs.Ways.{record_from, held_at, row_of, kids, Frame, way_of, visit_of, opened, plan_of, looked, current, saves, Ready}
+use Rattle.turns.specs.Ways.{record_from, held_at, kids, Frame, way_of, visit_of, opened, plan_of, looked, saves, Ready}
 use Rattle.turns.specs.Turns.{Begins, Resumes, Recovers, Walks}
 use Rattle.turns.specs.declared.turn.Turn.{Turn}
 use Rattle.machine.specs.declared.Machine.{Machine}
 use Rattle.machine.specs.declared.frames.Kept.{Kept}
-use Rattle.machine.specs.Stack.{row_at, frame_at, mask_at, kept_at, present, Open, Run, whats_of, first_of, others_of, Pending, Stack, Asks}
+use Rattle.machine.specs.Stack.{row_at, frame_at, kept_at, present, Open, Run, whats_of, first_of, others_of, Stack, Asks}
 use Rattle.machine.specs.Stack.{Stands, Fair}
 
 -- where the run's own words begin

@@ -1,7 +1,7 @@
 -- What the list of frames means. A frame has ten rows of eight words, at the place of its nesting. Row 0: what, x, y, at, mark, and the
 -- mask of the bindings that it keeps, in two words; row 1: its node's row; from row 2 on the words of the bindings that it keeps, or, of a
 -- pair, the other row.
-use Rattle.std.specs.Prelude.{◌≡◌, Bool, List, [], ◌∷◌, map, ℕ, zero, suc, ◌+◌, ◌*◌, ◌<◌, ◌≤◌, ◌%◌, length}
+use Rattle.std.specs.Prelude.{◌≡◌, Bool, List, [], ◌∷◌, map, ℕ, zero, suc, ◌+◌, ◌*◌, ◌<◌, ◌%◌}
 use Rattle.words.specs.Words.{word_at}
 use Rattle.meaning.specs.Bindings.{Bindings}
 use Rattle.meaning.specs.Table.{table}

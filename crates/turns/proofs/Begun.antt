@@ -2,7 +2,7 @@
 use mathlib.Core.Path.{◌≡◌, refl, ap, sym, ◌∙◌}
 use mathlib.Core.Bool.{Bool, true, false, ◌&&◌}
 use mathlib.Core.Logic.{◌⊎◌, inl, inr}
-use mathlib.Core.Option.{Option, none, some}
+use mathlib.Core.Option.{none, some}
 use mathlib.Core.List.{List, [], ◌∷◌, ◌++◌, map}
 use Prim.Native.Nat.{ℕ, zero, suc, ◌+◌, ◌-◌, ◌≤◌, ◌<◌, ◌%◌, min}
 use native.Mathlib.Omega.{arith}
@@ -16,18 +16,17 @@ use Rattle.checks.specs.Kinds.{ours, variables}
 use Rattle.checks.specs.Good.{kind_of, operand_count, argument_of, constructor_of, child_count, mask_by}
 use Rattle.meaning.specs.Bindings.{Bindings, unbound, bind, has, masked}
 use Rattle.meaning.specs.Table.{Strategy, FAIL, Pattern, PVAR, PCON, table_by, table, by_kind, operands, six}
-use Rattle.meaning.specs.Plan.{Plan, ret, fail, miss, stuck, make, ask, keep}
+use Rattle.meaning.specs.Plan.{ret, fail, stuck, make, ask, keep}
 use Rattle.meaning.specs.Rules.{Visit, Do, apply, match, build, compare, does, strategy, matching, building, comparing, variable, needed}
 use Rattle.meaning.specs.Rules.{when, when_at, agree, given, nth, put, walk, again, zip, one_of, some_of}
 use Rattle.meaning.specs.Store.{children}
 use Rattle.meaning.proofs.Bits.{bit_of, bit-has, no-bit-has, has-nothing}
-use Rattle.turns.specs.declared.turn.Act.{Act}
-use Rattle.turns.specs.declared.turn.Act.TheVariants.{Done, Failed, Missed, Stuck, Bound, Leaf, Made, Ask, Next, Unscope}
+use Rattle.turns.specs.declared.turn.Act.TheVariants.{Done, Failed, Missed, Stuck, Bound, Leaf, Ask}
 use Rattle.turns.specs.declared.turn.Turn.{Turn}
-use Rattle.turns.specs.Ways.{Frame, record_from, held_at, row_of, kids, row_to_build, within, makes, ways, way_of, visit_of, hiding, opened}
+use Rattle.turns.specs.Ways.{Frame, record_from, held_at, kids, row_to_build, within, makes, ways, way_of, visit_of, hiding, opened}
 use Rattle.turns.specs.Ways.{acts, plan_of, looked, Fit}
 use Rattle.turns.specs.Turns.{Begins}
-use Rattle.turns.proofs.Rows.{six-at, kids-length, kid_at, again-made, zip-take, zip-map, map-zip, walk_from}
+use Rattle.turns.proofs.Rows.{six-at, zip-take, zip-map, map-zip, walk_from}
 use Rattle.turns.proofs.Resumed.{ending, asking-for}
 
 -- ---- a strategy begins

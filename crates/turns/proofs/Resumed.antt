@@ -1,9 +1,9 @@
 -- A visit goes on when one that it asked for has ended.
 use mathlib.Core.Path.{◌≡◌, refl, ap, sym, ◌∙◌}
 use mathlib.Core.Bool.{Bool, true, false}
-use mathlib.Core.Logic.{◌⊎◌, ⊎_elim}
+use mathlib.Core.Logic.{⊎_elim}
 use mathlib.Core.List.{List, [], ◌∷◌, ◌++◌}
-use Prim.Native.Nat.{ℕ, zero, suc, ◌+◌, ◌≤◌, ◌<◌, ◌%◌, min}
+use Prim.Native.Nat.{ℕ, suc, ◌+◌, ◌≤◌, ◌<◌, ◌%◌}
 use native.Mathlib.Omega.{arith}
 use native.Mathlib.Numerals.{add-one}
 use borrow.Author.Tests.{lt-ltb, le-ltb}
@@ -17,15 +17,15 @@ use Rattle.checks.specs.Kinds.{ours}
 use Rattle.checks.specs.Good.{mask_by}
 use Rattle.meaning.specs.Bindings.{Bindings, masked}
 use Rattle.meaning.specs.Table.{six}
-use Rattle.meaning.specs.Plan.{Plan, ret, fail, miss, make, ask, keep}
+use Rattle.meaning.specs.Plan.{ret, fail, make, ask, keep}
 use Rattle.meaning.specs.Rules.{Visit, Do, apply, build, walk, again, zip, one_of, some_of, when}
 use Rattle.turns.specs.declared.turn.Act.{Act}
-use Rattle.turns.specs.declared.turn.Act.TheVariants.{Done, Failed, Missed, Made, Ask, Next, Unscope}
+use Rattle.turns.specs.declared.turn.Act.TheVariants.{Done, Failed, Made, Ask, Next, Unscope}
 use Rattle.turns.specs.declared.turn.Turn.{Turn}
 use Rattle.turns.specs.declared.resume.Head.{Head}
 use Rattle.turns.specs.declared.resume.Seen.{Seen}
 use Rattle.turns.specs.Turns.{OfHead, OfSeen}
-use Rattle.turns.specs.Ways.{Frame, filled, kids, within, makes, Way, stepping, ways, way_of, visit_of, acts, plan_of, current}
+use Rattle.turns.specs.Ways.{Frame, filled, kids, within, makes, stepping, ways, way_of, visit_of, acts, plan_of, current}
 use Rattle.turns.proofs.Rows.{six-at, kids-length, kid_at, kids-set, name_set, again-made, walk-on, walk-over, one_on, one-over}
 use Rattle.turns.proofs.Rows.{some-on, some-over}
 use Rattle.turns.proofs.Ways.{without-row, with_row, way-is}

@@ -1,5 +1,5 @@
 -- What the functions of this crate promise: a turn's plan is that of its visit's rule, or of the frame's way on.
-use Rattle.std.specs.Prelude.{◌≡◌, List, ℕ, ◌+◌, ◌<◌, min, length, get_or}
+use Rattle.std.specs.Prelude.{◌≡◌, List, ℕ, ◌+◌, min, length, get_or}
 use Rattle.meaning.specs.Bindings.{Bindings}
 use Rattle.meaning.specs.Table.{table}
 use Rattle.meaning.specs.Rules.{Visit, does}

@@ -1,6 +1,6 @@
 -- What the words of a frame mean: the two ways on of the visit that it asked for; and the plan that a turn says. A frame's ways on
 -- depend on its own words, the bindings that it keeps and the table alone.
-use Rattle.std.specs.Prelude.{◌≡◌, Bool, true, false, ◌&&◌, ◌||◌, List, [], ◌∷◌, ◌++◌, ℕ, ◌+◌, ◌<◌, ◌≤◌, ◌%◌, min, eqb, ltb, leb, length, get_or, take, drop, set}
+use Rattle.std.specs.Prelude.{◌≡◌, Bool, true, false, ◌&&◌, List, [], ◌∷◌, ◌++◌, ℕ, ◌+◌, ◌<◌, ◌%◌, eqb, ltb, length, get_or, take, drop, set}
 use Rattle.std.proofs.Math.Option.{none, some}
 use Rattle.words.specs.Words.{word_at, rows}
 use Rattle.words.specs.Tests.{if◌then◌else◌}
@@ -9,7 +9,7 @@ use Rattle.checks.specs.declared.kinds.Sort.TheVariants.{Strategy}
 use Rattle.checks.specs.Good.{kind_of, operand_count, argument_of, constructor_of, child_count, mask_by}
 use Rattle.meaning.specs.Bindings.{Bindings, unbound, bind, has, masked}
 use Rattle.meaning.specs.Table.{six}
-use Rattle.meaning.specs.Plan.{Keep, keep, drop as give, Plan, ret, fail, miss, stuck, look, make, ask}
+use Rattle.meaning.specs.Plan.{Keep, keep, drop as give, ret, fail, miss, stuck, look, make, ask}
 use Rattle.meaning.specs.Rules.{Visit, apply, match, build, compare, Do, walk, again, zip, one_of, some_of}
 use Rattle.meaning.specs.Store.{children}
 use Rattle.turns.specs.declared.turn.Act.{Act}

@@ -1,31 +1,20 @@
 -- `act` meets its contract: each arm carries out its turn. Assumes nothing.
 use mathlib.Core.Path.{◌≡◌, refl, ap, sym, ◌∙◌, subst}
-use mathlib.Core.Logic.{inl, inr, ⊎_elim}
+use mathlib.Core.Logic.{inr}
 use mathlib.Core.Option.{none}
-use mathlib.Core.List.{List, [], ◌∷◌}
-use Prim.Native.Nat.{ℕ, ◌+◌, ◌*◌, ◌%◌, ◌^◌, ◌<◌, ◌≤◌}
+use mathlib.Core.List.{[], ◌∷◌}
+use Prim.Native.Nat.{◌+◌, ◌*◌, ◌^◌, ◌<◌}
 use native.Mathlib.Omega.{arith}
 use lib.ListN.{length, get_or}
 use Rattle.turns.specs.Ways.{kids, opened, next_of, acts}
 use Rattle.meaning.specs.Store.{row}
 use Rattle.meaning.specs.Shared.{node_with}
 use Rattle.machine.specs.Stack.{row_at, frame_at, present}
-use Rattle.machine.specs.Machine.{Opened, Carried, standing_for}
+use Rattle.machine.specs.Machine.{Opened, standing_for}
 use Rattle.machine.proofs.Stacked.{carried-done, carried-failed, carried-missed, carried-stuck, carried-bound, carried-made}
 use Rattle.machine.proofs.Stacked.{carried-asked, carried-deepest-in, carried-unscoped, carried-unscoped-deepest}
 use Rattle.machine.proofs.Standing.{nothing, none-shared, found-shared, node-found, node-none}
 use borrow.Author.Rules.{rules}
-use Rattle.machine.proofs.act.Reads as reads
-use Rattle.machine.proofs.act.Lts as lts
-use Rattle.machine.proofs.frames.copy_words.Reads as copy-words-reads
-use Rattle.machine.proofs.frames.kept_mask.Reads as kept-mask-reads
-use Rattle.machine.proofs.frames.move_on.Reads as move-on-reads
-use Rattle.machine.proofs.frames.open.Reads as open-reads
-use Rattle.machine.proofs.nodes.put_node.Reads as put-node-reads
-use Rattle.machine.proofs.nodes.standing_leaf.Reads as standing-leaf-reads
-use Rattle.machine.proofs.nodes.standing_row.Reads as standing-row-reads
-use Rattle.machine.proofs.nodes.row_inside.Reads as row-inside-reads
-use Rattle.machine.proofs.state.Reads as state-reads
 use Rattle.machine.proofs.act.Goals as goal
 use Rattle.machine.proofs.act.Goals.{else-i-lt4095, else-i-lt4095-2, else-shares, else-shares-2, then-i-lt4095, then-i-lt4095-2, then-shares+in_default, then-shares-2+in_default-found}
 

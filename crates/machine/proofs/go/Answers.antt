@@ -1,15 +1,12 @@
-use mathlib.Core.Path.{◌≡◌, refl, sym, ap, ◌∙◌, subst}
-use mathlib.Core.Bool.{Bool, true, false, true≢false}
-use mathlib.Core.Logic.{◌⊎◌, inl, inr, ⊎_elim}
-use Prim.Native.Nat.{ℕ, ◌+◌, ◌-◌, ◌*◌, ◌<◌, ◌≤◌}
+use mathlib.Core.Path.{refl, sym, ◌∙◌, subst}
+use mathlib.Core.Bool.{true≢false}
+use mathlib.Core.Logic.{inl, inr, ⊎_elim}
+use Prim.Native.Nat.{ℕ}
 use native.Mathlib.Omega.{arith}
 use Rattle.words.proofs.Tests.{below-or-from}
 use Rattle.machine.specs.Machine.{spent}
-use Rattle.machine.proofs.Going.{rank, SoFar, none_yet, Comes, counted, told, deep-enough, nearer, further, stopped-asking, stopped-ended}
-use Rattle.machine.proofs.Going.{Untouched, gone-once, gone-asking, gone-ended}
-use Rattle.machine.proofs.go.Reads as reads
-use Rattle.machine.proofs.go.Lts as lts
-use Rattle.machine.proofs.turned.Reads as turned-reads
+use Rattle.machine.proofs.Going.{none_yet, Comes, counted, told, deep-enough, nearer, further, stopped-asking, stopped-ended}
+use Rattle.machine.proofs.Going.{gone-once, gone-asking, gone-ended}
 use Rattle.machine.proofs.go.Goals as goal
 use Rattle.machine.proofs.go.Goals.{else-m-lt4+else-m-gt5+else-m-eq0, then-m-lt4+else-m-stop+else-m-gt4095}
 

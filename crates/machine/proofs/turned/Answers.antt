@@ -1,13 +1,6 @@
 -- `turned` meets its contract. Assumes nothing.
-use Prim.Native.Nat.{ℕ, ◌+◌, ◌*◌, ◌<◌, ◌≤◌}
 use native.Mathlib.Omega.{arith}
 use Rattle.machine.proofs.Turning.{turned-is}
-use borrow.Author.Rules.{rules}
-use Rattle.machine.proofs.turned.Reads as reads
-use Rattle.machine.proofs.turned.Lts as lts
-use Rattle.machine.proofs.act.Reads as act-reads
-use Rattle.machine.proofs.frames.restore.Reads as restore-reads
-use Rattle.machine.proofs.frames.take_turn.Reads as take-turn-reads
 use Rattle.machine.proofs.turned.Goals as goal
 
 pub restore-k-requires : goal.restore-k-requires

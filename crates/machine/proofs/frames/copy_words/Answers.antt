@@ -1,13 +1,12 @@
-use mathlib.Core.Path.{◌≡◌, refl, ap, sym, ◌∙◌}
-use mathlib.Core.Logic.{⊎_elim}
-use Prim.Native.Nat.{ℕ, ◌+◌, ◌%◌, ◌<◌, ◌≤◌}
+use mathlib.Core.Path.{◌≡◌}
+use Prim.Native.Nat.{◌+◌, ◌%◌, ◌<◌}
 use native.Mathlib.Omega.{arith}
 use borrow.Author.Rules.{rules}
 use borrow.Author.Tests.{eq-eqb, ne_eqb}
 use lib.Dec.{eqb}
-use lib.ListN.{length, get_or, set}
+use lib.ListN.{get_or, set}
 use Rattle.words.specs.Tests.{if◌then◌else◌}
-use Rattle.machine.proofs.Copying.{SoFar, none_yet, left_below, turn, all-copied}
+use Rattle.machine.proofs.Copying.{none_yet, left_below, turn, all-copied}
 use Rattle.machine.proofs.frames.copy_words.Goals as goal
 use Rattle.machine.proofs.frames.copy_words.Goals.{else-rest-eq1, then-rest-eq1}
 

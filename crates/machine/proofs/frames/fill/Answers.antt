@@ -1,13 +1,8 @@
 -- `frames::fill` meets its contract. Assumes nothing.
-use mathlib.Core.Path.{◌≡◌, refl, ap, sym, ◌∙◌}
-use mathlib.Core.Logic.{inl, inr}
-use Prim.Native.Nat.{ℕ, ◌+◌, ◌*◌, ◌%◌, ◌<◌, ◌≤◌}
+use mathlib.Core.Path.{refl, ap}
+use Prim.Native.Nat.{ℕ, ◌%◌}
 use native.Mathlib.Omega.{arith}
 use Rattle.machine.proofs.Restoring.{filled_in, filled-out}
-use borrow.Author.Rules.{rules}
-use Rattle.machine.proofs.frames.fill.Reads as reads
-use Rattle.machine.proofs.frames.fill.Lts as lts
-use Rattle.words.proofs.word.Reads as word-reads
 use Rattle.machine.proofs.frames.fill.Goals as goal
 
 pub returns-then-at-lt6 : goal.returns-then-at-lt6

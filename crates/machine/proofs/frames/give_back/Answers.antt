@@ -1,15 +1,7 @@
 -- `frames::give_back` meets its contract. Assumes nothing.
-use mathlib.Core.Path.{◌≡◌, refl, ap, sym, ◌∙◌}
-use mathlib.Core.Logic.{inl, inr}
-use Prim.Native.Nat.{ℕ, ◌+◌, ◌*◌, ◌%◌, ◌<◌, ◌≤◌}
+use mathlib.Core.Logic.{inr}
 use native.Mathlib.Omega.{arith}
 use Rattle.machine.proofs.Restoring.{given_back}
-use borrow.Author.Rules.{rules}
-use Rattle.machine.proofs.frames.give_back.Reads as reads
-use Rattle.machine.proofs.frames.give_back.Lts as lts
-use Rattle.machine.proofs.frames.copy_words.Reads as copy-words-reads
-use Rattle.machine.proofs.frames.kept_mask.Reads as kept-mask-reads
-use Rattle.words.proofs.word.Reads as word-reads
 use Rattle.machine.proofs.frames.give_back.Goals as goal
 
 pub copy_words-requires : goal.copy_words-requires

@@ -1,14 +1,8 @@
 -- `frames::keep_bindings` meets its contract. Assumes nothing.
-use mathlib.Core.Path.{◌≡◌, refl, ap, sym, ◌∙◌}
-use mathlib.Core.Logic.{inl, inr}
-use Prim.Native.Nat.{ℕ, ◌+◌, ◌*◌, ◌%◌, ◌<◌, ◌≤◌}
+use mathlib.Core.Path.{sym, ◌∙◌}
+use mathlib.Core.Logic.{inl}
 use native.Mathlib.Omega.{arith}
 use Rattle.machine.proofs.Restoring.{kept-copied, kept-none}
-use borrow.Author.Rules.{rules}
-use Rattle.machine.proofs.frames.keep_bindings.Reads as reads
-use Rattle.machine.proofs.frames.keep_bindings.Lts as lts
-use Rattle.machine.proofs.frames.copy_words.Reads as copy-words-reads
-use Rattle.machine.proofs.frames.saves.Reads as saves-reads
 use Rattle.machine.proofs.frames.keep_bindings.Goals as goal
 
 pub copy_words-requires : goal.copy_words-requires

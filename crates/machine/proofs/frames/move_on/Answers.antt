@@ -1,15 +1,7 @@
 -- `frames::move_on` meets its contract. Assumes nothing.
-use mathlib.Core.Path.{◌≡◌, refl, ap, sym, ◌∙◌}
-use mathlib.Core.Logic.{inl, inr}
-use Prim.Native.Nat.{ℕ, ◌+◌, ◌*◌, ◌%◌, ◌<◌, ◌≤◌}
-use native.Mathlib.Omega.{arith}
+use mathlib.Core.Path.{ap}
+use Prim.Native.Nat.{ℕ, ◌+◌, ◌%◌}
 use Rattle.machine.proofs.Opening.{moved_on}
-use borrow.Author.Rules.{rules}
-use Rattle.machine.proofs.frames.move_on.Reads as reads
-use Rattle.machine.proofs.frames.move_on.Lts as lts
-use Rattle.machine.proofs.frames.keep_bindings.Reads as keep-bindings-reads
-use Rattle.words.proofs.put_row.Reads as put-row-reads
-use Rattle.words.proofs.word.Reads as word-reads
 use Rattle.machine.proofs.frames.move_on.Goals as goal
 
 pub returns : goal.returns

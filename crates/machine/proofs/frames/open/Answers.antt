@@ -1,20 +1,10 @@
 -- `frames::open` meets its contract. Assumes nothing.
-use mathlib.Core.Path.{◌≡◌, refl, ap, sym, ◌∙◌}
-use mathlib.Core.Logic.{inl, inr}
-use Prim.Native.Nat.{ℕ, ◌+◌, ◌*◌, ◌%◌, ◌<◌, ◌≤◌}
+use mathlib.Core.Path.{refl}
+use Prim.Native.Nat.{◌%◌}
 use native.Mathlib.Omega.{arith}
-use mathlib.Core.List.{List, [], ◌∷◌}
-use borrow.Author.Tests.{eq-eqb, ne_eqb}
-use lib.ListN.{length}
-use Rattle.words.proofs.Rows.{length-put_row}
+use mathlib.Core.List.{[], ◌∷◌}
 use Rattle.machine.proofs.Opening.{opened-plain, opened-row, opened-pair, long_kept, long-row, built-row, node_row}
 use borrow.Author.Rules.{rules}
-use Rattle.machine.proofs.frames.open.Reads as reads
-use Rattle.machine.proofs.frames.open.Lts as lts
-use Rattle.machine.proofs.frames.keep_bindings.Reads as keep-bindings-reads
-use Rattle.machine.proofs.nodes.row_at.Reads as row-at-reads
-use Rattle.words.proofs.put_row.Reads as put-row-reads
-use Rattle.words.proofs.word.Reads as word-reads
 use Rattle.machine.proofs.frames.open.Goals as goal
 
 pub returns-then-t-lt-LEFTMOST : goal.returns-then-t-lt-LEFTMOST

@@ -1,18 +1,8 @@
 -- `frames::restore` meets its contract. Assumes nothing.
-use mathlib.Core.Path.{◌≡◌, refl, ap, sym, ◌∙◌}
-use mathlib.Core.Logic.{inl, inr}
-use Prim.Native.Nat.{ℕ, ◌+◌, ◌*◌, ◌%◌, ◌<◌, ◌≤◌}
+use mathlib.Core.Path.{ap, sym, ◌∙◌}
 use native.Mathlib.Omega.{arith}
-use borrow.Author.Tests.{eq-eqb, ne_eqb}
 use Rattle.turns.specs.Ways.{saves}
 use Rattle.machine.proofs.Restoring.{restored-asked, restored-given-yes, restored-given-no, restored-filled, restored-plain, restored-marked}
-use borrow.Author.Rules.{rules}
-use Rattle.machine.proofs.frames.restore.Reads as reads
-use Rattle.machine.proofs.frames.restore.Lts as lts
-use Rattle.machine.proofs.frames.fill.Reads as fill-reads
-use Rattle.machine.proofs.frames.give_back.Reads as give-back-reads
-use Rattle.machine.proofs.frames.saves.Reads as saves-reads
-use Rattle.words.proofs.word.Reads as word-reads
 use Rattle.machine.proofs.frames.restore.Goals as goal
 
 pub returns-then-m-lt-SUCCEEDED : goal.returns-then-m-lt-SUCCEEDED

@@ -1,23 +1,11 @@
 -- `frames::take_turn` meets its contract. Assumes nothing.
-use mathlib.Core.Path.{◌≡◌, refl, ap, sym, ◌∙◌}
-use mathlib.Core.List.{List}
-use Prim.Native.Nat.{ℕ, ◌+◌, ◌%◌, ◌<◌, ◌≤◌, min}
+use mathlib.Core.Path.{refl, ap, sym, ◌∙◌}
+use Prim.Native.Nat.{ℕ, ◌+◌, ◌%◌, min}
 use native.Mathlib.Omega.{arith}
-use borrow.Author.Rules.{rules}
-use lib.ListN.{length, get_or, set}
+use lib.ListN.{get_or}
 use lib.Seq.{get_or-set_other}
 use Rattle.words.specs.Words.{word_at}
 use Rattle.machine.specs.Stack.{row_at}
-use Rattle.machine.proofs.frames.take_turn.Reads as reads
-use Rattle.machine.proofs.frames.take_turn.Lts as lts
-use Rattle.machine.proofs.frames.next_of.Reads as next-of-reads
-use Rattle.turns.proofs.begin.begin.Reads as begin-reads
-use Rattle.turns.proofs.resume.failed.Reads as failed-reads
-use Rattle.turns.proofs.resume.skipped.Reads as skipped-reads
-use Rattle.turns.proofs.resume.succeeded.Reads as succeeded-reads
-use Rattle.turns.proofs.resume.walked.Reads as walked-reads
-use Rattle.turns.proofs.turn.few.Reads as few-reads
-use Rattle.words.proofs.word.Reads as word-reads
 use Rattle.machine.proofs.frames.take_turn.Goals as goal
 
 pub returns-then-m-lt-SUCCEEDED : goal.returns-then-m-lt-SUCCEEDED

@@ -1,9 +1,6 @@
 -- `nodes::child` meets its contract. Assumes nothing.
 use mathlib.Core.Path.{refl}
 use borrow.Author.Tests.{lt-ltb, le-ltb}
-use borrow.Author.Rules.{rules}
-use Rattle.machine.proofs.nodes.child.Reads as reads
-use Rattle.machine.proofs.nodes.child.Lts as lts
 use Rattle.machine.proofs.nodes.child.Goals as goal
 
 pub returns-then-j-n : goal.returns-then-j-n

@@ -1,12 +1,6 @@
 -- `nodes::padded` meets its contract. Assumes nothing.
-use mathlib.Core.Path.{◌≡◌}
-use lib.ListN.{length}
 use Rattle.machine.proofs.Padding.{padded-row}
 use borrow.Author.Rules.{rules}
-use Rattle.machine.proofs.nodes.padded.Reads as reads
-use Rattle.machine.proofs.nodes.padded.Lts as lts
-use Rattle.machine.proofs.nodes.child.Reads as child-reads
-use Rattle.turns.proofs.turn.few.Reads as few-reads
 use Rattle.machine.proofs.nodes.padded.Goals as goal
 use Rattle.machine.proofs.nodes.padded.Goals.{Start}
 

@@ -1,7 +1,6 @@
 -- `nodes::put_node` meets its contract. Assumes nothing.
 use mathlib.Core.Path.{◌≡◌, refl, ap, ◌∙◌}
 use mathlib.Core.Bool.{false}
-use mathlib.Core.Option.{none, some}
 use mathlib.Core.List.{List}
 use Prim.Native.Nat.{ℕ, ◌+◌, ◌*◌, ◌<◌, ◌≤◌}
 use native.Mathlib.Omega.{arith}
@@ -13,13 +12,9 @@ use Rattle.meaning.specs.Shared.{standing}
 use Rattle.meaning.proofs.Tests.{impossible}
 use Rattle.turns.specs.Ways.{kids}
 use Rattle.machine.specs.declared.Machine.{Machine}
-use Rattle.machine.specs.Machine.{standing_for, Node}
+use Rattle.machine.specs.Machine.{Node}
 use Rattle.machine.proofs.Padding.{row-length}
 use borrow.Author.Rules.{rules}
-use Rattle.machine.proofs.nodes.put_node.Reads as reads
-use Rattle.machine.proofs.nodes.put_node.Lts as lts
-use Rattle.machine.proofs.nodes.padded.Reads as padded-reads
-use Rattle.words.proofs.put_row.Reads as put-row-reads
 use Rattle.machine.proofs.nodes.put_node.Goals as goal
 
 module _ (w : List ℕ) (i : ℕ) (m : Machine) (r : List ℕ) where

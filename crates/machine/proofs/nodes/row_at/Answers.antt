@@ -1,13 +1,10 @@
 -- `nodes::row_at` meets its contract. Assumes nothing.
-use mathlib.Core.Path.{◌≡◌, refl, sym}
-use mathlib.Core.List.{List, [], ◌∷◌}
-use Prim.Native.Nat.{ℕ, ◌+◌, ◌*◌, ◌<◌, ◌≤◌}
+use mathlib.Core.Path.{◌≡◌, sym}
+use mathlib.Core.List.{[], ◌∷◌}
+use Prim.Native.Nat.{ℕ, ◌+◌, ◌*◌}
 use native.Mathlib.Omega.{arith}
-use borrow.Author.Rules.{rules}
-use lib.ListN.{get_or, get_or-eq_default}
+use lib.ListN.{get_or-eq_default}
 use Rattle.words.specs.Words.{word_at}
-use Rattle.machine.proofs.nodes.row_at.Reads as reads
-use Rattle.machine.proofs.nodes.row_at.Lts as lts
 use Rattle.machine.proofs.nodes.row_at.Goals as goal
 
 pub returns : goal.returns

@@ -1,13 +1,10 @@
 -- `nodes::row_inside` meets its contract. Assumes nothing.
 use mathlib.Core.Path.{◌≡◌}
-use mathlib.Core.List.{List, [], ◌∷◌}
-use Prim.Native.Nat.{ℕ, ◌+◌, ◌*◌}
+use mathlib.Core.List.{[], ◌∷◌}
+use Prim.Native.Nat.{◌+◌, ◌*◌}
 use native.Mathlib.Omega.{arith}
 use lib.ListN.{get_or}
 use Rattle.words.specs.Words.{word_at}
-use borrow.Author.Rules.{rules}
-use Rattle.machine.proofs.nodes.row_inside.Reads as reads
-use Rattle.machine.proofs.nodes.row_inside.Lts as lts
 use Rattle.machine.proofs.nodes.row_inside.Goals as goal
 
 pub returns : goal.returns

@@ -1,15 +1,9 @@
 -- `nodes::standing_row` meets its contract. Assumes nothing.
-use mathlib.Core.Path.{◌≡◌, ap, ◌∙◌}
-use borrow.Author.Rules.{rules}
+use mathlib.Core.Path.{ap, ◌∙◌}
 use lib.ListN.{get_or}
 use Rattle.meaning.specs.Store.{row}
 use Rattle.meaning.specs.Shared.{node_with}
 use Rattle.turns.specs.Ways.{kids}
-use Rattle.machine.proofs.nodes.standing_row.Reads as reads
-use Rattle.machine.proofs.nodes.standing_row.Lts as lts
-use Rattle.machine.proofs.nodes.padded.Reads as padded-reads
-use Rattle.machine.proofs.nodes.row_inside.Reads as row-inside-reads
-use Rattle.machine.proofs.nodes.standing.Reads as standing-reads
 use Rattle.machine.proofs.nodes.standing_row.Goals as goal
 
 pub returns : goal.returns

@@ -1,13 +1,6 @@
 -- `begin::begin` meets its contract. Assumes nothing.
-use mathlib.Core.Path.{◌≡◌, refl, ap, sym, ◌∙◌}
+use mathlib.Core.Path.{◌∙◌}
 use Rattle.turns.proofs.Begun.{as-visit, visit-applied, visit-matched, visit-built, visit-compared}
-use borrow.Author.Rules.{rules}
-use Rattle.turns.proofs.begin.begin.Reads as reads
-use Rattle.turns.proofs.begin.begin.Lts as lts
-use Rattle.turns.proofs.begin.building.Reads as building-reads
-use Rattle.turns.proofs.begin.matching.Reads as matching-reads
-use Rattle.turns.proofs.begin.pair.Reads as Pair-reads
-use Rattle.turns.proofs.begin.strategy.Reads as strategy-reads
 use Rattle.turns.proofs.begin.begin.Goals as goal
 
 pub returns-then-mode-eq-APPLY : goal.returns-then-mode-eq-APPLY

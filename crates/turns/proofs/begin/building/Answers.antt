@@ -1,16 +1,10 @@
 -- `begin::building` meets its contract. Assumes nothing.
-use mathlib.Core.Path.{◌≡◌, refl, ap, sym, ◌∙◌}
+use mathlib.Core.Path.{◌≡◌, ap, sym, ◌∙◌}
 use mathlib.Core.List.{List}
 use Prim.Native.Nat.{ℕ, ◌/◌, ◌%◌}
 use Rattle.words.specs.Words.{word_at}
 use Rattle.checks.specs.Good.{kind_of}
 use Rattle.turns.proofs.Begun.{leaf-built, build-asked, var-built, var-stuck}
-use borrow.Author.Rules.{rules}
-use Rattle.turns.proofs.begin.building.Reads as reads
-use Rattle.turns.proofs.begin.building.Lts as lts
-use Rattle.turns.proofs.turn.asks.Reads as asks-reads
-use Rattle.turns.proofs.turn.ends.Reads as ends-reads
-use Rattle.words.proofs.word.Reads as word-reads
 use Rattle.turns.proofs.begin.building.Goals as goal
 
 -- the pattern is no PCON

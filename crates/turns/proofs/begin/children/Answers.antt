@@ -1,12 +1,5 @@
 -- `begin::children` meets its contract. Assumes nothing.
-use mathlib.Core.Path.{◌≡◌, refl, ap, sym, ◌∙◌}
 use Rattle.turns.proofs.Begun.{of-all, of_others, no-children, has-children, all-of-none, none-of-none, children-asked}
-use borrow.Author.Rules.{rules}
-use Rattle.turns.proofs.begin.children.Reads as reads
-use Rattle.turns.proofs.begin.children.Lts as lts
-use Rattle.turns.proofs.turn.asks.Reads as asks-reads
-use Rattle.turns.proofs.turn.ends.Reads as ends-reads
-use Rattle.words.proofs.word.Reads as word-reads
 use Rattle.turns.proofs.begin.children.Goals as goal
 
 pub returns-then-what-eq-EVERY : goal.returns-then-what-eq-EVERY

@@ -1,15 +1,8 @@
 -- `begin::each` meets its contract. Assumes nothing.
-use mathlib.Core.Path.{◌≡◌, refl, ap, sym, ◌∙◌}
+use mathlib.Core.Path.{ap, sym, ◌∙◌}
 use mathlib.Core.Logic.{inl, inr}
 use Prim.Native.Nat.{ℕ, ◌%◌, min}
 use Rattle.turns.proofs.Begun.{cong-lost, cong-empty, cong-asked}
-use borrow.Author.Rules.{rules}
-use Rattle.turns.proofs.begin.each.Reads as reads
-use Rattle.turns.proofs.begin.each.Lts as lts
-use Rattle.turns.proofs.turn.asks.Reads as asks-reads
-use Rattle.turns.proofs.turn.ends.Reads as ends-reads
-use Rattle.turns.proofs.turn.few.Reads as few-reads
-use Rattle.words.proofs.word.Reads as word-reads
 use Rattle.turns.proofs.begin.each.Goals as goal
 
 pub returns-then-word : goal.returns-then-word

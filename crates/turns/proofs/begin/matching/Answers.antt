@@ -1,17 +1,10 @@
 -- `begin::matching` meets its contract. Assumes nothing.
-use mathlib.Core.Path.{◌≡◌, refl, ap, sym, ◌∙◌}
+use mathlib.Core.Path.{◌≡◌, ap, ◌∙◌}
 use mathlib.Core.List.{List}
 use Prim.Native.Nat.{ℕ, ◌/◌, ◌%◌}
 use Rattle.words.specs.Words.{word_at}
 use Rattle.checks.specs.Good.{kind_of}
 use Rattle.turns.proofs.Begun.{var-compared, var-bound}
-use borrow.Author.Rules.{rules}
-use Rattle.turns.proofs.begin.matching.Reads as reads
-use Rattle.turns.proofs.begin.matching.Lts as lts
-use Rattle.turns.proofs.begin.constructor.Reads as constructor-reads
-use Rattle.turns.proofs.turn.asks.Reads as asks-reads
-use Rattle.turns.proofs.turn.ends.Reads as ends-reads
-use Rattle.words.proofs.word.Reads as word-reads
 use Rattle.turns.proofs.begin.matching.Goals as goal
 
 -- the pattern is no PCON

@@ -1,15 +1,9 @@
 -- `begin::path` meets its contract. Assumes nothing.
-use mathlib.Core.Path.{◌≡◌, refl, ap, sym, ◌∙◌}
+use mathlib.Core.Path.{refl, ap, ◌∙◌}
 use mathlib.Core.Logic.{inl, inr}
-use Prim.Native.Nat.{ℕ, ◌≤◌, ◌<◌, min}
+use Prim.Native.Nat.{ℕ, min}
 use native.Mathlib.Omega.{arith}
 use Rattle.turns.proofs.Begun.{path-nowhere, path-asked}
-use borrow.Author.Rules.{rules}
-use Rattle.turns.proofs.begin.path.Reads as reads
-use Rattle.turns.proofs.begin.path.Lts as lts
-use Rattle.turns.proofs.turn.ends.Reads as ends-reads
-use Rattle.turns.proofs.turn.few.Reads as few-reads
-use Rattle.words.proofs.word.Reads as word-reads
 use Rattle.turns.proofs.begin.path.Goals as goal
 
 pub returns-then-i-eq0 : goal.returns-then-i-eq0

@@ -1,11 +1,6 @@
 -- `begin::scope` meets its contract. Assumes nothing.
-use mathlib.Core.Path.{◌≡◌, refl, ap, sym, ◌∙◌}
+use mathlib.Core.Path.{refl}
 use Rattle.turns.proofs.Begun.{scope-begins}
-use borrow.Author.Rules.{rules}
-use Rattle.turns.proofs.begin.scope.Reads as reads
-use Rattle.turns.proofs.begin.scope.Lts as lts
-use Rattle.turns.proofs.begin.scope_mask.Reads as scope-mask-reads
-use Rattle.words.proofs.word.Reads as word-reads
 use Rattle.turns.proofs.begin.scope.Goals as goal
 
 pub returns : goal.returns

@@ -3,25 +3,12 @@ use mathlib.Core.Path.{◌≡◌, refl, ap, sym, ◌∙◌, subst}
 use mathlib.Core.Logic.{inl, inr, ⊎_elim}
 use mathlib.Core.List.{List}
 use Prim.Native.Nat.{ℕ, ◌/◌, ◌≤◌}
-use native.Mathlib.Omega.{arith}
 use Rattle.words.specs.Words.{word_at}
 use Rattle.checks.specs.Good.{kind_of}
 use Rattle.meaning.specs.Table.{by_kind}
 use Rattle.meaning.specs.Rules.{strategy}
-use Rattle.turns.specs.declared.turn.Act.TheVariants.{Done, Failed}
 use Rattle.turns.specs.Ways.{acts, ways, way_of, visit_of, looked}
-use Rattle.turns.proofs.Resumed.{ending}
 use Rattle.turns.proofs.Begun.{begins, begins-asking, begins-none, none-of-them}
-use borrow.Author.Rules.{rules}
-use Rattle.turns.proofs.begin.strategy.Reads as reads
-use Rattle.turns.proofs.begin.strategy.Lts as lts
-use Rattle.turns.proofs.begin.children.Reads as children-reads
-use Rattle.turns.proofs.begin.each.Reads as each-reads
-use Rattle.turns.proofs.begin.path.Reads as path-reads
-use Rattle.turns.proofs.begin.scope.Reads as scope-reads
-use Rattle.turns.proofs.turn.asks.Reads as asks-reads
-use Rattle.turns.proofs.turn.ends.Reads as ends-reads
-use Rattle.words.proofs.word.Reads as word-reads
 use Rattle.turns.proofs.begin.strategy.Goals as goal
 
 -- the kind that the code has read

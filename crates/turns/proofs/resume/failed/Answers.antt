@@ -1,15 +1,9 @@
 -- `resume::failed` meets its contract. Assumes nothing.
-use mathlib.Core.Path.{◌≡◌, refl, ap, sym, ◌∙◌}
+use mathlib.Core.Path.{ap, sym, ◌∙◌}
 use Prim.Native.Nat.{ℕ}
 use Rattle.meaning.specs.Plan.{ret, miss}
 use Rattle.turns.specs.Ways.{acts, ways}
 use Rattle.turns.proofs.Resumed.{recovers, other-asked, fails-too}
-use borrow.Author.Rules.{rules}
-use Rattle.turns.proofs.resume.failed.Reads as reads
-use Rattle.turns.proofs.resume.failed.Lts as lts
-use Rattle.turns.proofs.turn.asks.Reads as asks-reads
-use Rattle.turns.proofs.turn.ends.Reads as ends-reads
-use Rattle.words.proofs.word.Reads as word-reads
 use Rattle.turns.proofs.resume.failed.Goals as goal
 
 pub returns-in-3 : goal.returns-in-3

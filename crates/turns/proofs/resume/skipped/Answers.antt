@@ -1,14 +1,7 @@
 -- `resume::skipped` meets its contract. Assumes nothing.
-use mathlib.Core.Path.{◌≡◌, refl, ap, sym, ◌∙◌}
-use Prim.Native.Nat.{ℕ, ◌+◌, ◌≤◌, ◌<◌}
+use mathlib.Core.Path.{refl}
 use native.Mathlib.Omega.{arith}
 use Rattle.turns.proofs.Resumed.{lost-above, next-tried, none_left, some-kept}
-use borrow.Author.Rules.{rules}
-use Rattle.turns.proofs.resume.skipped.Reads as reads
-use Rattle.turns.proofs.resume.skipped.Lts as lts
-use Rattle.turns.proofs.turn.asks.Reads as asks-reads
-use Rattle.turns.proofs.turn.ends.Reads as ends-reads
-use Rattle.words.proofs.word.Reads as word-reads
 use Rattle.turns.proofs.resume.skipped.Goals as goal
 
 pub returns-then-h-gt-ONE_HAS : goal.returns-then-h-gt-ONE_HAS

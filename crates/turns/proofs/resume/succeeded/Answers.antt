@@ -1,16 +1,9 @@
 -- `resume::succeeded` meets its contract. Assumes nothing.
-use mathlib.Core.Path.{◌≡◌, refl, ap, sym, ◌∙◌}
+use mathlib.Core.Path.{refl, ap, sym, ◌∙◌}
 use Prim.Native.Nat.{ℕ}
-use borrow.Author.Rules.{rules}
 use Rattle.meaning.specs.Plan.{ret}
 use Rattle.turns.specs.Ways.{acts, ways}
 use Rattle.turns.proofs.Resumed.{resumes, second-asked, scope-ended, hands_on}
-use Rattle.turns.proofs.resume.succeeded.Reads as reads
-use Rattle.turns.proofs.resume.succeeded.Lts as lts
-use Rattle.turns.proofs.begin.scope_mask.Reads as scope-mask-reads
-use Rattle.turns.proofs.turn.asks.Reads as asks-reads
-use Rattle.turns.proofs.turn.ends.Reads as ends-reads
-use Rattle.words.proofs.word.Reads as word-reads
 use Rattle.turns.proofs.resume.succeeded.Goals as goal
 
 pub returns-in-1 : goal.returns-in-1

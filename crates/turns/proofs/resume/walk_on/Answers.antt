@@ -1,21 +1,14 @@
 -- `resume::walk_on` meets its contract. Assumes nothing.
-use mathlib.Core.Path.{◌≡◌, refl, ap, sym, ◌∙◌}
-use mathlib.Core.List.{List}
-use Prim.Native.Nat.{ℕ, ◌+◌, ◌≤◌, ◌<◌}
+use mathlib.Core.Path.{refl, sym}
+use Prim.Native.Nat.{◌+◌, ◌<◌}
 use native.Mathlib.Omega.{arith}
-use lib.ListN.{length, drop, length-drop}
+use lib.ListN.{drop, length-drop}
 use Rattle.words.specs.Words.{word_at}
 use Rattle.meaning.specs.Table.{six}
 use Rattle.meaning.specs.Plan.{ret}
 use Rattle.meaning.specs.Rules.{apply, match, build, compare, again}
-use Rattle.turns.specs.Ways.{Frame, makes, acts, ways, way_of, visit_of}
+use Rattle.turns.specs.Ways.{makes, acts, ways, way_of, visit_of}
 use Rattle.turns.proofs.Resumed.{first-operand, next-operand, next-mate, walker-on, some-walks-on, step-made}
-use borrow.Author.Rules.{rules}
-use Rattle.turns.proofs.resume.walk_on.Reads as reads
-use Rattle.turns.proofs.resume.walk_on.Lts as lts
-use Rattle.turns.proofs.turn.asks.Reads as asks-reads
-use Rattle.turns.proofs.turn.ends.Reads as ends-reads
-use Rattle.words.proofs.word.Reads as word-reads
 use Rattle.turns.proofs.resume.walk_on.Goals as goal
 
 pub returns-in-9 : goal.returns-in-9

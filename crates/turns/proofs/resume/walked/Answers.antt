@@ -1,17 +1,11 @@
 -- `resume::walked` meets its contract. Assumes nothing.
-use mathlib.Core.Path.{◌≡◌, refl, ap, sym, ◌∙◌}
-use Prim.Native.Nat.{ℕ, ◌+◌, ◌≤◌, ◌<◌}
+use mathlib.Core.Path.{refl}
 use native.Mathlib.Omega.{arith}
 use lib.ListN.{drop}
 use Rattle.meaning.specs.Table.{six}
 use Rattle.meaning.specs.Rules.{match, compare}
 use Rattle.turns.specs.Ways.{ways}
 use Rattle.turns.proofs.Resumed.{beyond-lost, walker-done, last_made}
-use borrow.Author.Rules.{rules}
-use Rattle.turns.proofs.resume.walked.Reads as reads
-use Rattle.turns.proofs.resume.walked.Lts as lts
-use Rattle.turns.proofs.resume.walk_on.Reads as walk-on-reads
-use Rattle.turns.proofs.turn.ends.Reads as ends-reads
 use Rattle.turns.proofs.resume.walked.Goals as goal
 
 pub returns-then-s-2 : goal.returns-then-s-2
