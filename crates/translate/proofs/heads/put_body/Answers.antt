@@ -10,37 +10,34 @@ open_body-left-requires c =
 
 pub put_term-next-requires : goal.put_term-next-requires
 put_term-next-requires c =
-    (room-left c.args.table.now c.requires.0 c.open_body-left.ensures c.open_body-left.auto.0, omega (arith, c.requires.1, c.open_body-left.auto.0))
+    (room-left c.args.table.now c.requires.0 c.open_body-left.ensures c.open_body-left.auto.table, omega (arith, c.requires.1, c.open_body-left.auto.table))
 
 pub put_conditions-build-requires : goal.put_conditions-build-requires
-put_conditions-build-requires c =
-    (
-      room-conditions c.args.table.now c.requires.0 c.open_body-left.ensures c.open_body-left.auto.0 c.put_term-next.ensures
-          c.put_term-next.auto.0,
-      omega (arith, c.requires.1, c.open_body-left.auto.0, c.put_term-next.auto.0),
-    )
+put_conditions-build-requires c = (
+  room-conditions c.args.table.now c.requires.0 c.open_body-left.ensures c.open_body-left.auto.table c.put_term-next.ensures
+      c.put_term-next.auto.table,
+  omega (arith, c.requires.1, c.open_body-left.auto.table, c.put_term-next.auto.table),
+)
 
 pub put_build-last-requires : goal.put_build-last-requires
-put_build-last-requires c =
-    (
-      room-build c.args.table.now c.requires.0 c.open_body-left.ensures c.open_body-left.auto.0 c.put_term-next.ensures
-          c.put_term-next.auto.0 _ _ c.put_conditions-build.ensures c.put_conditions-build.auto.0,
-      omega
-          (arith, c.requires.1, c.open_body-left.auto.0, c.put_term-next.auto.0, c.put_conditions-build.auto.0),
-    )
+put_build-last-requires c = (
+  room-build c.args.table.now c.requires.0 c.open_body-left.ensures c.open_body-left.auto.table c.put_term-next.ensures
+      c.put_term-next.auto.table _ _ c.put_conditions-build.ensures c.put_conditions-build.auto.table,
+  omega
+      (arith, c.requires.1, c.open_body-left.auto.table, c.put_term-next.auto.table, c.put_conditions-build.auto.table),
+)
 
 pub put_term-requires : goal.put_term-requires
-put_term-requires c =
-    (
-      room-right c.args.table.now c.requires.0 c.open_body-left.ensures c.open_body-left.auto.0 c.put_term-next.ensures
-          c.put_term-next.auto.0 _ _ c.put_conditions-build.ensures c.put_conditions-build.auto.0 c.put_build-last.ensures
-          c.put_build-last.auto.0,
-      omega
-          (arith, c.requires.1, c.open_body-left.auto.0, c.put_term-next.auto.0, c.put_conditions-build.auto.0, c.put_build-last.auto.0),
-    )
+put_term-requires c = (
+  room-right c.args.table.now c.requires.0 c.open_body-left.ensures c.open_body-left.auto.table c.put_term-next.ensures
+      c.put_term-next.auto.table _ _ c.put_conditions-build.ensures c.put_conditions-build.auto.table c.put_build-last.ensures
+      c.put_build-last.auto.table,
+  omega
+      (arith, c.requires.1, c.open_body-left.auto.table, c.put_term-next.auto.table, c.put_conditions-build.auto.table, c.put_build-last.auto.table),
+)
 
 pub returns : goal.returns
 returns c =
-    body-placed c.args.table.now c.requires.0 c.open_body-left.ensures c.open_body-left.auto.0 c.put_term-next.ensures
-    c.put_term-next.auto.0 _ _ c.put_conditions-build.ensures c.put_conditions-build.auto.0 c.put_build-last.ensures
-    c.put_build-last.auto.0 c.put_term.ensures
+    body-placed c.args.table.now c.requires.0 c.open_body-left.ensures c.open_body-left.auto.table c.put_term-next.ensures
+    c.put_term-next.auto.table _ _ c.put_conditions-build.ensures c.put_conditions-build.auto.table c.put_build-last.ensures
+    c.put_build-last.auto.table c.put_term.ensures

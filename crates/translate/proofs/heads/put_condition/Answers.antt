@@ -9,47 +9,44 @@ open_condition-start-requires c =
     (omega (arith, c.requires.0, found-long c.args.line.now c.args.c), c.requires.1)
 
 pub put_term-call-requires : goal.put_term-call-requires
-put_term-call-requires c =
-    (
-      omega (arith, c.requires.0, found-long c.args.line.now c.args.c, c.open_condition-start.ensures.place, c.open_condition-start.auto.0),
-      omega
-          (arith, c.requires.1, c.open_condition-start.auto.0),
-    )
+put_term-call-requires c = (
+  omega (arith, c.requires.0, found-long c.args.line.now c.args.c, c.open_condition-start.ensures.place, c.open_condition-start.auto.table),
+  omega
+      (arith, c.requires.1, c.open_condition-start.auto.table),
+)
 
 pub put_call-outcome-requires : goal.put_call-outcome-requires
-put_call-outcome-requires c =
-    (
-      omega (
-        arith,
-        c.requires.0,
-        found-long c.args.line.now
-            c.args.c,
-        c.open_condition-start.ensures.place,
-        c.open_condition-start.auto.0,
-        c.put_term-call.ensures.place,
-        c.put_term-call.auto.0,
-      ),
-      omega (arith, c.requires.1, c.open_condition-start.auto.0, c.put_term-call.auto.0),
-    )
+put_call-outcome-requires c = (
+  omega (
+    arith,
+    c.requires.0,
+    found-long c.args.line.now
+        c.args.c,
+    c.open_condition-start.ensures.place,
+    c.open_condition-start.auto.table,
+    c.put_term-call.ensures.place,
+    c.put_term-call.auto.table,
+  ),
+  omega (arith, c.requires.1, c.open_condition-start.auto.table, c.put_term-call.auto.table),
+)
 
 pub put_term-requires : goal.put_term-requires
-put_term-requires c =
-    (
-      omega (
-        arith,
-        c.requires.0,
-        found-long c.args.line.now
-            c.args.c,
-        c.open_condition-start.ensures.place,
-        c.open_condition-start.auto.0,
-        c.put_term-call.ensures.place,
-        c.put_term-call.auto.0,
-        c.put_call-outcome.ensures.place,
-        c.put_call-outcome.auto.0,
-      ),
-      omega
-          (arith, c.requires.1, c.open_condition-start.auto.0, c.put_term-call.auto.0, c.put_call-outcome.auto.0),
-    )
+put_term-requires c = (
+  omega (
+    arith,
+    c.requires.0,
+    found-long c.args.line.now
+        c.args.c,
+    c.open_condition-start.ensures.place,
+    c.open_condition-start.auto.table,
+    c.put_term-call.ensures.place,
+    c.put_term-call.auto.table,
+    c.put_call-outcome.ensures.place,
+    c.put_call-outcome.auto.table,
+  ),
+  omega
+      (arith, c.requires.1, c.open_condition-start.auto.table, c.put_term-call.auto.table, c.put_call-outcome.auto.table),
+)
 
 pub returns : goal.returns
 returns c =

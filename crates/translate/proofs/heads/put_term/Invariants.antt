@@ -8,12 +8,6 @@ use lib.ListN.{length}
 use native.Mathlib.Omega.{arith}
 use Prim.Native.Nat.{◌+◌, ◌-◌, ◌≤◌}
 use mathlib.Core.Path.{refl, sym, ◌∙◌, ap}
-use Rattle.text.proofs.field.next_at.Reads as next-at-reads
-use Rattle.rules.proofs.field.head_of.Reads as head-of-reads
-use Rattle.words.proofs.put_row.Reads as put-row-reads
-use Rattle.rules.proofs.field.children.Reads as children-reads
-use Rattle.translate.proofs.heads.put_term.Reads as reads
-use Rattle.translate.proofs.heads.put_term.Lts as lts
 use Rattle.translate.proofs.heads.put_term.Given as goal
 
 abbrev pub invariant-loop-wanted : goal.invariant-loop-wanted

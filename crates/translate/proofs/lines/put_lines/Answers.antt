@@ -23,13 +23,12 @@ slice_bounds-put_line-end c =
     let w = line-within c.loop-at.invariant.0 c.loop-at-test.true c.line_from-b.result c.line_from-b.ensures in omega (arith, w.0, w.1)
 
 pub put_line-e-requires : goal.put_line-e-requires
-put_line-e-requires c =
-    (
-      line-fits c.loop-at.invariant.0 c.loop-at-test.true c.line_from-b.result c.line_from-b.ensures,
-      omega
-          (arith, c.requires.1, c.loop-at.invariant.0.same),
-      omega (arith, c.requires.2, c.loop-at.invariant.1),
-    )
+put_line-e-requires c = (
+  line-fits c.loop-at.invariant.0 c.loop-at-test.true c.line_from-b.result c.line_from-b.ensures,
+  omega
+      (arith, c.requires.1, c.loop-at.invariant.0.same),
+  omega (arith, c.requires.2, c.loop-at.invariant.1),
+)
 
 pub loop-at-smaller : goal.loop-at-smaller
 loop-at-smaller c =
@@ -41,12 +40,11 @@ loop-at-smaller c =
     )
 
 pub loop-at-preserved : goal.loop-at-preserved
-loop-at-preserved c =
-    (
-      lining-on c.loop-at.invariant.0 c.loop-at-test.true c.line_from-b.result c.line_from-b.ensures _ _ c.put_line-e.ensures
-          c.put_line-e.auto.0,
-      c.put_line-e.auto.1.0 ∙ c.loop-at.invariant.1,
-    )
+loop-at-preserved c = (
+  lining-on c.loop-at.invariant.0 c.loop-at-test.true c.line_from-b.result c.line_from-b.ensures _ _ c.put_line-e.ensures
+      c.put_line-e.auto.table,
+  c.put_line-e.auto.ends ∙ c.loop-at.invariant.1,
+)
 
 pub shape_of-table : goal.shape_of-table
 shape_of-table c =

@@ -1,7 +1,5 @@
 -- `rules::link::inner` meets its contract. Assumes nothing.
 use Rattle.translate.proofs.Links.{inner-call, inner-over, inner-count}
-use Rattle.translate.proofs.link.inner.Reads as reads
-use Rattle.translate.proofs.link.inner.Lts as lts
 use Rattle.translate.proofs.link.inner.Goals as goal
 
 -- src/link.rt:30:9

@@ -11,10 +11,6 @@ use Rattle.words.proofs.Rows.{length-put_row}
 use Rattle.translate.specs.Links.{row_linked, steps_table, steps_ends}
 use Rattle.translate.specs.declared.link.Linked.{Linked}
 use Rattle.translate.proofs.Links.{link-step, steps-none, row-eight}
-use Rattle.translate.proofs.link.link.Reads as reads
-use Rattle.translate.proofs.link.link.Lts as lts
-use Rattle.translate.proofs.link.row_linked.Reads as row-linked-reads
-use Rattle.words.proofs.put_row.Reads as put-row-reads
 use Rattle.translate.proofs.link.link.Given as goal
 
 abbrev pub invariant-loop-e : goal.invariant-loop-e

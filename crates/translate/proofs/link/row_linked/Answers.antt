@@ -7,11 +7,6 @@ use lib.ListN.{length, set, length-set}
 use Rattle.words.specs.Words.{word_at}
 use Rattle.translate.specs.Links.{filled, row_at, row_linked, inner_of}
 use Rattle.translate.proofs.Links.{inner-most, filled-end, filled_more, filled_none}
-use Rattle.translate.proofs.link.row_linked.Reads as reads
-use Rattle.translate.proofs.link.row_linked.Lts as lts
-use Rattle.translate.proofs.link.end_at.Reads as end-at-reads
-use Rattle.translate.proofs.link.inner.Reads as inner-reads
-use Rattle.words.proofs.word.Reads as word-reads
 use Rattle.translate.proofs.link.row_linked.Goals as goal
 
 -- src/link.rt:47:5

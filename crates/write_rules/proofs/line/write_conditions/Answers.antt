@@ -26,14 +26,14 @@ loop-entry-smaller c =
     omega (
       arith,
       lists-further c.loop-entry.invariant (sym c.kind_of.ensures ∙ c.if-kind_of-ne-SEQ.false) c.loop-entry-test.true
-          c.write_condition-c.ensures.0 c.write_condition-c.ensures.1 c.write_condition-c.auto.1.1.1.0,
+          c.write_condition-c.ensures.0 c.write_condition-c.ensures.1 c.write_condition-c.auto.line,
       c.loop-entry-test.true,
     )
 
 pub loop-entry-preserved : goal.loop-entry-preserved
 loop-entry-preserved c =
     lists-on c.loop-entry.invariant (sym c.kind_of.ensures ∙ c.if-kind_of-ne-SEQ.false) c.loop-entry-test.true c.write_condition-c.ensures.0
-    c.write_condition-c.ensures.1 c.write_condition-c.auto.1.1.1.0
+    c.write_condition-c.ensures.1 c.write_condition-c.auto.line
 
 pub shape_of-line : goal.shape_of-line
 shape_of-line c =

@@ -20,13 +20,12 @@ bounds-buffer-i c =
     omega (arith, c.loop-i-test.true, c.requires, c.loop-i.invariant.2)
 
 pub loop-i-preserved : goal.loop-i-preserved
-loop-i-preserved c =
-    (
-      copy-on c.args.buffer.now c.args.line.now c.requires c.loop-i.i c.loop-i-test.true c.loop-i.invariant.0,
-      omega
-          (arith, c.loop-i-test.true),
-      length-set c.loop-i.buffer _ _ ∙ c.loop-i.invariant.2,
-    )
+loop-i-preserved c = (
+  copy-on c.args.buffer.now c.args.line.now c.requires c.loop-i.i c.loop-i-test.true c.loop-i.invariant.0,
+  omega
+      (arith, c.loop-i-test.true),
+  length-set c.loop-i.buffer _ _ ∙ c.loop-i.invariant.2,
+)
 
 pub bounds-buffer-i-2 : goal.bounds-buffer-i-2
 bounds-buffer-i-2 c =

@@ -16,13 +16,12 @@ returns-then-used-entry c =
     c.check_line-got.result c.check_line-got.ensures c.if-used-entry.true
 
 pub put_line-stop-requires : goal.put_line-stop-requires
-put_line-stop-requires c =
-    (
-      made-fits c.args.table.now c.args.used c.args.entry c.args.line.now c.requires.0 _ c.fill_masks.ensures
-          c.check_line-got.result c.check_line-got.ensures c.if-got-ne0.false c.requires.1 c.if-used-entry.false (replicate 32768 0) refl,
-      search rules,
-      search rules,
-    )
+put_line-stop-requires c = (
+  made-fits c.args.table.now c.args.used c.args.entry c.args.line.now c.requires.0 _ c.fill_masks.ensures
+      c.check_line-got.result c.check_line-got.ensures c.if-got-ne0.false c.requires.1 c.if-used-entry.false (replicate 32768 0) refl,
+  search rules,
+  search rules,
+)
 
 pub returns : goal.returns
 returns c =

@@ -12,7 +12,7 @@ returns-then-kind_of-eq18 c =
 
 pub write_number-requires-2 : goal.write_number-requires-2
 write_number-requires-2 c =
-    omega (arith, c.requires, field-long c.word-a.result, c.write_number-next.ensures.place, c.write_number-next.auto.0)
+    omega (arith, c.requires, field-long c.word-a.result, c.write_number-next.ensures.place, c.write_number-next.auto.line)
 
 pub returns : goal.returns
 returns c =

@@ -10,9 +10,9 @@ put_digits-end-requires c =
 
 pub put_byte-requires : goal.put_byte-requires
 put_byte-requires c =
-    omega (arith, c.requires, number-long c.args.n, c.put_digits-end.ensures.place, c.put_digits-end.auto.0)
+    omega (arith, c.requires, number-long c.args.n, c.put_digits-end.ensures.place, c.put_digits-end.auto.buf)
 
 pub returns : goal.returns
 returns c =
     wrote-more (wrote-put (omega (arith, c.requires, number-long c.args.n)) c.put_digits-end.ensures)
-    (wrote-put (omega (arith, c.requires, number-long c.args.n, c.put_digits-end.ensures.place, c.put_digits-end.auto.0)) c.put_byte.ensures)
+    (wrote-put (omega (arith, c.requires, number-long c.args.n, c.put_digits-end.ensures.place, c.put_digits-end.auto.buf)) c.put_byte.ensures)

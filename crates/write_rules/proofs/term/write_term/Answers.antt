@@ -58,7 +58,7 @@ loop-wanted-smaller c =
 
 pub loop-wanted-preserved : goal.loop-wanted-preserved
 loop-wanted-preserved c =
-    walks-on c.loop-wanted.invariant c.loop-wanted-test.true c.if-used-entry.false c.write_entry-at.ensures c.write_entry-at.auto.1.1.0
+    walks-on c.loop-wanted.invariant c.loop-wanted-test.true c.if-used-entry.false c.write_entry-at.ensures c.write_entry-at.auto.line
     (omega (arith, c.if-line-at-lt24.false, c.loop-wanted.invariant.within)) c.operand_count-n.result c.operand_count-n.ensures
 
 pub shape_of-line : goal.shape_of-line
