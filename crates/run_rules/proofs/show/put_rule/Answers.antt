@@ -1,16 +1,10 @@
--- `run_rules::show::put_rule` meets its contract: what the writer writes fits its buffer. Assumes nothing.
-use mathlib.Core.Path.{◌≡◌, ap, sym, ◌∙◌}
-use mathlib.Core.List.{List}
-use Prim.Native.Nat.{ℕ, ◌≤◌}
-use native.Mathlib.Omega.{arith}
-use lib.ListN.{length, drop, length-append}
-use lib.Seq.{length-take-le}
-use borrow.Author.Rules.{rules}
+-- What the writer writes fits its buffer.
+use Rattle.std.proofs.Common.{List, ℕ, ◌≤◌, length, drop, ap, sym, arith}
+use Rattle.std.proofs.lemmas.List.{length-append, length-take-le}
 use Rattle.rules.specs.Text.{rule_text}
 use Rattle.write_rules.specs.Written.{RuleWritten}
 use Rattle.write_rules.specs.declared.rule.Written.{Written}
-use Rattle.run_rules.proofs.show.put_rule.Statement.{statement}
-use Rattle.run_rules.proofs.show.put_rule.Tie as tie
+use Rattle.run_rules.proofs.show.put_rule.Goals as goal
 
 written-fits : {t : List ℕ} {u e : ℕ} {b : List ℕ} {r : Written} {b' : List ℕ} → RuleWritten t u e b r b' → r.length ≤ length b'
 written-fits (RuleWritten.entries f z k) = omega (arith, ap (λ (w : Written). w.length) z)
@@ -19,10 +13,7 @@ written-fits (RuleWritten.short f q a l z k) = omega (arith, ap (λ (w : Written
 written-fits {b = b} (RuleWritten.line f q a l z k) =
     omega (arith, ap (λ (w : Written). w.length) z, ap length k, length-append (rule_text q) (drop (length (rule_text q)) b))
 
-returns : tie.Need-returns
+pub returns : goal.returns
 returns c =
-    let fits = written-fits c.before.before.write-rule.ensures in
+    let fits = written-fits c.write_rule-written.ensures in
     (fits, sym (length-take-le _ _ fits))
-
-pub put-rule-spec : {M : Type 1} → statement M
-put-rule-spec = tie.close (tie.spec (λ c κs. search rules) (λ c. search rules) returns)
