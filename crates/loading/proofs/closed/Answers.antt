@@ -1,16 +1,9 @@
-use Prim.Native.Nat.{ℕ, ◌+◌, ◌-◌, ◌≤◌}
-use mathlib.Core.Path.{◌≡◌, ap, sym, ◌∙◌, subst}
-use mathlib.Core.List.{List}
-use mathlib.Core.Logic.{⊎_elim}
-use borrow.Author.Rules.{rules}
+use Prim.Native.Nat.{ℕ, ◌+◌}
+use mathlib.Core.Path.{ap, sym, ◌∙◌}
 use native.Mathlib.Omega.{arith}
-use Rattle.checks.specs.Kinds.{variables}
 use Rattle.state.specs.Record.{held}
 use Rattle.state.proofs.Holding.{further, held-some}
-use Rattle.loading.proofs.Copying.{Written, written_none, written-more, written_all, word_some, word_none}
-use Rattle.loading.proofs.closed.Reads as reads
-use Rattle.loading.proofs.closed.Lts as lts
-use Rattle.state.proofs.record.bit.Reads as bit-reads
+use Rattle.loading.proofs.Copying.{written_none, written-more, written_all, word_some, word_none}
 use Rattle.loading.proofs.closed.Goals as goal
 use Rattle.loading.proofs.closed.Goals.{else-bit-eq1, then-bit-eq1}
 
@@ -30,27 +23,29 @@ overflow_add-bindings c =
     )
 
 pub loop-v-preserved : goal.loop-v-preserved
-loop-v-preserved c =
-    (
-      omega arith,
-      elim c.if-bit-eq1.branch [ then-bit-eq1 w ↦ rw w.3
-          (written-more _ _ _ _
-          c.loop-v.invariant.1
-          (omega arith)
-          (ap (λ (x : ℕ). x + 1) w.2.ensures
-          ∙ word_some
-          c.args.st
-          c.loop-v.v
-          (omega arith)
-          (sym c.bit.ensures ∙ w.0.taken))) | else-bit-eq1 w ↦ rw w.1
-          (written-more _ _ _ _
-          c.loop-v.invariant.1
-          (omega arith)
-          (word_none
-          c.args.st
-          c.loop-v.v
-          (λ e. w.0.left (c.bit.ensures ∙ e)))) ],
-    )
+loop-v-preserved c = (
+  omega arith,
+  elim c.if-bit-eq1.branch [
+    | then-bit-eq1 w ↦ rw w.bindings-is
+        (written-more _ _ _ _
+        c.loop-v.invariant.1
+        (omega arith)
+        (ap (λ (x : ℕ). x + 1) w.word_of.ensures
+        ∙ word_some
+        c.args.st
+        c.loop-v.v
+        (omega arith)
+        (sym c.bit.ensures ∙ w.if-bit-eq1.true)))
+    | else-bit-eq1 w ↦ rw w.bindings-is
+        (written-more _ _ _ _
+        c.loop-v.invariant.1
+        (omega arith)
+        (word_none
+        c.args.st
+        c.loop-v.v
+        (λ e. w.if-bit-eq1.false (c.bit.ensures ∙ e))))
+  ],
+)
 
 pub returns : goal.returns
 returns c = written_all _ _ _ c.loop-v.invariant.1 (omega arith)

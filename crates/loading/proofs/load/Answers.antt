@@ -1,10 +1,5 @@
-use Rattle.loading.proofs.Copying.{Copied, copied_none, copied_more, copied_all, loaded-hints}
-use Rattle.loading.specs.Loaded.{Loaded}
-use mathlib.Core.Logic.{⊎_elim}
+use Rattle.loading.proofs.Copying.{copied_none, copied_more, copied_all, loaded-hints}
 use native.Mathlib.Omega.{arith}
-use borrow.Author.Rules.{rules}
-use lib.ListN.{length}
-use Prim.Native.Nat.{◌-◌, ◌*◌, ◌≤◌}
 use Rattle.loading.proofs.load.Goals as goal
 use Rattle.loading.proofs.load.Goals.{else-h-ne0, then-h-ne0}
 
@@ -21,7 +16,7 @@ pub loop-e-preserved : goal.loop-e-preserved
 loop-e-preserved c =
     let l = c.loop-e.invariant.1 in (
       omega (arith, c.requires),
-      elim c.if-h-ne0.branch [ then-h-ne0 w ↦ rw w.1 (loaded-hints _ _ _ _ _ l (omega (arith, c.requires)) (c.hint_for-h.ensures w.0.taken)) | else-h-ne0 w ↦ rw w.1 l ],
+      elim c.if-h-ne0.branch [ then-h-ne0 w ↦ rw w.code-is (loaded-hints _ _ _ _ _ l (omega (arith, c.requires)) (c.hint_for-h.ensures w.if-h-ne0.true)) | else-h-ne0 w ↦ rw w.code-is l ],
     )
 
 pub returns : goal.returns

@@ -1,9 +1,6 @@
 -- `loading::load` meets its contract: first the words are copied, then what is known of an entry is noted.
-use Rattle.loading.proofs.Copying.{Copied, copied_none, copied_more, copied_all, loaded-hints}
+use Rattle.loading.proofs.Copying.{Copied}
 use Rattle.loading.specs.Loaded.{Loaded}
-use mathlib.Core.Logic.{⊎_elim}
-use native.Mathlib.Omega.{arith}
-use borrow.Author.Rules.{rules}
 use lib.ListN.{length}
 use Prim.Native.Nat.{◌-◌, ◌*◌, ◌≤◌}
 use Rattle.loading.proofs.load.Given as goal

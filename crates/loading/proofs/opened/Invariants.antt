@@ -1,15 +1,8 @@
 use Rattle.checks.specs.Kinds.{variables}
-use Rattle.loading.proofs.Copying.{Filled, filled_none, filled-skip, filled-bind, filled-all}
-use native.Mathlib.Omega.{arith}
+use Rattle.loading.proofs.Copying.{Filled}
 use Rattle.meaning.specs.Limits.{at}
 use Rattle.index.specs.Run.{lending}
-use borrow.Author.Rules.{rules}
 use Prim.Native.Nat.{◌-◌, ◌≤◌}
-use mathlib.Core.Path.{refl, ◌∙◌}
-use mathlib.Core.Logic.{⊎_elim}
-use Rattle.loading.proofs.opened.Reads as reads
-use Rattle.loading.proofs.opened.Lts as lts
-use Rattle.state.proofs.record.bind.Reads as bind-reads
 use Rattle.loading.proofs.opened.Given as goal
 
 abbrev pub invariant-loop-v : goal.invariant-loop-v

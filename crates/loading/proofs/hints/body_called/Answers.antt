@@ -1,7 +1,6 @@
 -- `hints::body_called` meets its contract: a CALL of a REC.
-use mathlib.Core.Path.{◌≡◌, sym, ◌∙◌}
+use mathlib.Core.Path.{sym, ◌∙◌}
 use Rattle.loading.proofs.Hinting.{calls}
-use borrow.Author.Rules.{rules}
 use Rattle.loading.proofs.hints.body_called.Goals as goal
 
 pub returns : goal.returns

@@ -1,8 +1,7 @@
 -- `hints::hint_for` meets its contract: what is known, by the entry's kind.
-use mathlib.Core.Path.{◌≡◌, refl, sym, ◌∙◌}
+use mathlib.Core.Path.{refl, sym, ◌∙◌}
 use mathlib.Core.Logic.{inl, inr}
 use Rattle.loading.proofs.Hinting.{hints-choice, hints-all}
-use borrow.Author.Rules.{rules}
 use Rattle.loading.proofs.hints.hint_for.Goals as goal
 
 pub returns-then-k-eq-CHOICE : goal.returns-then-k-eq-CHOICE

@@ -1,7 +1,6 @@
 -- `hints::match_head` meets its contract: a MATCH of a PCON.
-use mathlib.Core.Path.{◌≡◌, refl, sym, ◌∙◌}
+use mathlib.Core.Path.{refl, sym, ◌∙◌}
 use Rattle.loading.proofs.Hinting.{found_none, found-match}
-use borrow.Author.Rules.{rules}
 use Rattle.loading.proofs.hints.match_head.Goals as goal
 
 pub returns-then-kind_of-ne-MATCH : goal.returns-then-kind_of-ne-MATCH

@@ -1,10 +1,9 @@
 -- `hints::scope_head` meets its contract: a SCOPE begins one visit later than its operand.
-use mathlib.Core.Path.{◌≡◌, ap, sym, ◌∙◌}
+use mathlib.Core.Path.{ap, sym, ◌∙◌}
 use Prim.Native.Nat.{ℕ}
 use native.Mathlib.Omega.{arith}
 use Rattle.words.specs.Words.{word_at}
 use Rattle.loading.proofs.Hinting.{found_none, found_scope}
-use borrow.Author.Rules.{rules}
 use Rattle.loading.proofs.hints.scope_head.Goals as goal
 
 pub word-requires : goal.word-requires

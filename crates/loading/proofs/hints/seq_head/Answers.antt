@@ -1,7 +1,6 @@
 -- `hints::seq_head` meets its contract: a SEQ begins one visit later than its operand.
-use mathlib.Core.Path.{◌≡◌, sym, ◌∙◌}
+use mathlib.Core.Path.{sym, ◌∙◌}
 use Rattle.loading.proofs.Hinting.{found_none, found-seq}
-use borrow.Author.Rules.{rules}
 use Rattle.loading.proofs.hints.seq_head.Goals as goal
 
 pub returns-then-h-eq0 : goal.returns-then-h-eq0
