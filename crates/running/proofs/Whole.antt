@@ -1,9 +1,9 @@
 -- A run that was not refused: what the engine needs is there, and its answer is the run over the words.
 use mathlib.Core.Path.{◌≡◌, refl, ap, sym, ◌∙◌, subst}
-use mathlib.Core.Bool.{Bool, true, false, ◌&&◌}
-use mathlib.Core.Option.{Option, none, some}
+use mathlib.Core.Bool.{Bool, true, false}
+use mathlib.Core.Option.{Option, some}
 use mathlib.Core.List.{List}
-use Prim.Native.Nat.{ℕ, zero, suc, ◌+◌, ◌-◌, ◌*◌, ◌/◌, ◌%◌, ◌≤◌, ◌<◌}
+use Prim.Native.Nat.{ℕ, zero, suc, ◌-◌, ◌*◌, ◌%◌, ◌≤◌, ◌<◌}
 use native.Mathlib.Omega.{arith}
 use lib.Dec.{eqb}
 use lib.ListN.{length, get_or, take}
@@ -13,12 +13,11 @@ use Rattle.words.specs.Words.{word_at, rows, cleared_from}
 use Rattle.words.specs.Tests.{if◌then◌else◌}
 use Rattle.checks.specs.declared.Checked.{Checked}
 use Rattle.checks.specs.Good.{good_node}
-use Rattle.checks.specs.Plain.{TableLength, StoreLength}
-use Rattle.checks.specs.Checked.{checked, table_checked, store_checked}
+use Rattle.checks.specs.Checked.{checked, table_checked}
 use Rattle.checks.specs.Promises.{AllGood, StoreFits}
 use Rattle.checks.proofs.Promises.{table_passes, store_passes}
 use Rattle.meaning.specs.Bindings.{Bindings}
-use Rattle.meaning.specs.Table.{Table, table}
+use Rattle.meaning.specs.Table.{table}
 use Rattle.meaning.specs.Rules.{apply, does}
 use Rattle.meaning.specs.Limits.{Limit, units, room, nesting, unbound, ended, lost, cut, at, run}
 use Rattle.meaning.specs.Derivation.{places, nowhere}
@@ -39,12 +38,12 @@ use Rattle.state.specs.declared.answers.Answer.TheVariants.{Done, Failed, Cut}
 use Rattle.state.specs.Answers.{packed, node_in, units_in, units_half, room_half, answer_of}
 use Rattle.state.specs.Noted.{Standing, missed_at, on, left_of, stored, Ran as LentRan}
 use Rattle.state.specs.Record.{mark_of, miss_of, room_of, top_of, nodes_of, standing, missing, held}
-use Rattle.state.specs.Visits.{visit, limit_of, meaning, out, Entries, Steady, Gives}
+use Rattle.state.specs.Visits.{visit, limit_of, meaning, Entries, Steady, Gives}
 use Rattle.cycle.specs.Cycle.{Hinted, Ready}
 use Rattle.state.proofs.Holding.{further, mark-missing, notes-missing, held-missing, framed-missing}
 use Rattle.leaves.proofs.Keeping.{makeable, apply-leaves, apply-rooms, steady-missing}
 use Rattle.state.proofs.AnswerWords.{node-packed, units-packed, out-answer}
-use Rattle.loading.specs.Loaded.{Loaded, Opened}
+use Rattle.loading.specs.Loaded.{Opened}
 use Rattle.calls.specs.Refused.{refused_with}
 use Rattle.calls.specs.Run.{at_return, refusing, run_with, run_with_by, numbers, words_of}
 use Rattle.running.specs.Ends.{cut_number, cut_place, Ends, own_run, RanAccepted}

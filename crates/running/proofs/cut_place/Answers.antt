@@ -1,5 +1,4 @@
 -- `cut_place` meets its contract: what it returns is the place of what the word names. Assumes nothing.
-use borrow.Author.Rules.{rules}
 use Rattle.running.proofs.Whole.{place-unbound, place-limit}
 use Rattle.running.proofs.cut_place.Goals as goal
 

@@ -1,5 +1,4 @@
 -- `run_accepted` meets its contract: the engine's answer, read, is the run's end.
-use borrow.Author.Rules.{rules}
 use Rattle.meaning.specs.Derivation.{nowhere}
 use Rattle.running.proofs.Whole.{ready-missing, done-left, done-ends, failed-left, failed_ends, cut_left, cut-ends}
 use Rattle.running.proofs.run_accepted.Goals as goal
