@@ -255,14 +255,3 @@ pos n h = omega arith
 -- a kind is one number
 pub two-kinds : {k r i j : ℕ} → r ≡ k → r ≡ i → k ≡ j → j < i → ⊥
 two-kinds e f g l = omega arith
-
--- an answer that is not one is one of the two others
-pub not-done-tag : (a : Answer) → ((x v : ℕ) → a ≡ Done x v → ⊥) → Tagged a 1 2
-not-done-tag (Done x v) h = absurd (h x v refl)
-not-done-tag (Failed v) h = inl refl
-not-done-tag (Cut d) h = inr refl
-
-pub not-failed-tag : (a : Answer) → ((v : ℕ) → a ≡ Failed v → ⊥) → Tagged a 0 2
-not-failed-tag (Done x v) h = inl refl
-not-failed-tag (Failed v) h = absurd (h v refl)
-not-failed-tag (Cut d) h = inr refl

@@ -1,7 +1,8 @@
 use Prim.Native.Nat.{◌+◌, ◌-◌, ◌<◌, ◌≤◌}
 use Rattle.cycle.proofs.Agreeing.{cong-counted, gives-cong, gives-cong-failed}
 use Rattle.cycle.proofs.Descending.{fits-path, fits_one, gives-one-none, gives-one-off, gives-one-short, gives-path, gives-path-past, gives-path-stops, gives-path-zero, gives_one, one-begins, one_again, ready-one, ready-path, stored-path, stored_one}
-use Rattle.cycle.proofs.Looping.{not-done-tag, not-failed-tag, all-itself, ends-nesting, ends-units, first-turn, last-kind, left-returns, left-turn, no-scope, of_two, pos, ready-next, ready-same, rec-turn, same-node, seq-returns, seq-turn, skip-turn, two-kinds, whole}
+use Rattle.state.proofs.Asking.{Tagged-not_done, Tagged-not_failed}
+use Rattle.cycle.proofs.Looping.{all-itself, ends-nesting, ends-units, first-turn, last-kind, left-returns, left-turn, no-scope, of_two, pos, ready-next, ready-same, rec-turn, same-node, seq-returns, seq-turn, skip-turn, two-kinds, whole}
 use Rattle.cycle.proofs.Returning.{gives-failure, gives-guard-off, gives-id, gives-not, gives-not-failed, gives-test, gives-test-failed, gives-where, gives-where-stops, no-rule, renamed, ruled-none}
 use Rattle.cycle.proofs.Rowing.{ready-stored}
 use Rattle.cycle.proofs.Ruling.{ready-operand, ruled-all, ruled-build, ruled-match, ruled-some}
@@ -179,7 +180,7 @@ apply_loop-begin_seq-got-requires t c = (
 pub apply_loop-returns-in_default-answer_of : goal.apply_loop-returns-in_default-answer_of
 apply_loop-returns-in_default-answer_of t c =
     seq-returns c.loop-start.invariant c.if-left-eq0.false c.if-d-eq0.false c.entry.ensures c.begin_seq-got.ensures
-    c.answer_of.ensures refl (sym c.kind-kind.ensures ∙ c.in-4.is) (not-done-tag _ c.in_default-answer_of.not-Done)
+    c.answer_of.ensures refl (sym c.kind-kind.ensures ∙ c.in-4.is) (Tagged-not_done _ c.in_default-answer_of.not-Done)
 
 pub apply_loop-loop-start-smaller-in-4 : goal.apply_loop-loop-start-smaller-in-4
 apply_loop-loop-start-smaller-in-4 t c =
@@ -271,7 +272,7 @@ apply_loop-returns-in_default-answer_of-2 t c =
     left-returns c.loop-start.invariant c.if-left-eq0.false c.if-d-eq0.false c.entry-first.ensures
     c.apply_first-got.ensures c.answer_of-in-5-to-6.ensures
     (of_two _ _ 5 c.kind-kind.ensures (omega arith) (omega arith)) refl
-    (not-failed-tag _ c.in_default-answer_of-2.not-Failed)
+    (Tagged-not_failed _ c.in_default-answer_of-2.not-Failed)
 
 pub apply_loop-loop-start-smaller-then-kind-lt7 : goal.apply_loop-loop-start-smaller-then-kind-lt7
 apply_loop-loop-start-smaller-then-kind-lt7 t c =
@@ -421,7 +422,7 @@ keep_subject-apply-got-requires t c = (
 
 pub keep_subject-returns-in_default : goal.keep_subject-returns-in_default
 keep_subject-returns-in_default t c =
-    gives-where-stops _ c.requires.0 c.entry.ensures c.apply-got.ensures c.answer_of.ensures c.requires.1 (not-done-tag _ c.in_default.not-Done)
+    gives-where-stops _ c.requires.0 c.entry.ensures c.apply-got.ensures c.answer_of.ensures c.requires.1 (Tagged-not_done _ c.in_default.not-Done)
 
 pub keep_subject-returns : goal.keep_subject-returns
 keep_subject-returns t c =
@@ -520,7 +521,7 @@ pub path-returns-in_default : goal.path-returns-in_default
 path-returns-in_default t c =
     gives-path-stops _ c.requires.0 c.requires.1 c.entry-i.ensures c.count.ensures c.if-i-eq0.false
     c.if-count-i.false c.entry.ensures c.node_word.ensures c.done.ensures c.apply-got.ensures
-    c.answer_of.ensures (not-done-tag _ c.in_default.not-Done)
+    c.answer_of.ensures (Tagged-not_done _ c.in_default.not-Done)
 
 pub path-row-made-requires : goal.path-row-made-requires
 path-row-made-requires t c =
