@@ -1,43 +1,41 @@
 -- A step, from lists that hold a run to its answer. Assumes nothing.
-use Rattle.std.proofs.Common.{◌≡◌, ℕ, zero, suc, ◌+◌, ◌-◌, ◌*◌, ◌/◌, ◌%◌, ◌<◌, ◌≤◌, min, Bool, true, false, ◌&&◌, eqb, ltb, leb, ◌⊎◌, List, [], ◌∷◌, length, get_or, sym, refl, ap, ◌∙◌, subst, inl, inr, ⊎_elim, arith, le-ltb, lt-ltb, eq-eqb, eqb-true, le-leb, leb-true}
-use mathlib.Core.Option.{Option, none, some}
-use Rattle.words.specs.Words.{word_at, rows, cleared_from}
+use Rattle.std.proofs.Common.{◌≡◌, ℕ, suc, ◌+◌, ◌-◌, ◌*◌, ◌/◌, ◌%◌, ◌<◌, ◌≤◌, min, Bool, true, false, ◌&&◌, eqb, ltb, leb, ◌⊎◌, List, [], ◌∷◌, length, get_or, sym, refl, ap, ◌∙◌, subst, inl, inr, ⊎_elim, arith, le-ltb, lt-ltb, eq-eqb, eqb-true, le-leb, leb-true}
+use mathlib.Core.Option.{some}
+use Rattle.words.specs.Words.{word_at, cleared_from}
 use Rattle.words.specs.Tests.{if◌then◌else◌}
 use Rattle.words.proofs.Tests.{below-or-from, and-true}
 use Rattle.words.proofs.Rows.{get_or-cleared_from-from}
 use Rattle.checks.specs.declared.Checked.{Checked}
 use Rattle.checks.specs.Checked.{checked, table_length_fits, store_length_fits, table_checked_by}
 use Rattle.checks.specs.Kinds.{ours, variables}
-use Rattle.checks.specs.Promises.{StoreFits}
 use Rattle.checks.proofs.Promises.{store_passes}
 use Rattle.meaning.specs.Bindings.{Bindings}
 use Rattle.meaning.specs.Derivation.{What, Event, places, history, nowhere}
 use Rattle.meaning.specs.Mapped.{renoted}
 use Rattle.meaning.specs.Table.{table}
 use Rattle.meaning.specs.Rules.{Visit, apply, does}
-use Rattle.meaning.specs.Plan.{keep, ret, fail}
-use Rattle.meaning.specs.Limits.{Limit, Res, ended, lost, cut, units, nesting, room, unbound, run}
-use Rattle.meaning.specs.Steps.{Next, over, next, one, steps, start}
-use Rattle.meaning.specs.Store.{Input, Accepted, Ran, Leaves, bindings, deepest, on, rest, stored, ran, ran_by}
+use Rattle.meaning.specs.Limits.{Limit, ended, lost, cut, units, nesting, room, unbound}
+use Rattle.meaning.specs.Steps.{over, one, steps}
+use Rattle.meaning.specs.Store.{Input, Accepted, Ran, Leaves, bindings, deepest, on, rest, ran}
 use Rattle.meaning.specs.Shared.{store_by, ran_sharing}
-use Rattle.meaning.specs.Answer.{number, place_of, binding_words, returned, returned_by}
+use Rattle.meaning.specs.Answer.{number, place_of, binding_words, returned_by}
 use Rattle.meaning.proofs.Demands.{over-the-words}
 use Rattle.meaning.proofs.Mapped.{renotes}
 use Rattle.meaning.proofs.Shared.{not-shared, all-shared, shared-leaves}
-use Rattle.meaning.proofs.Steps.{steps-in-parts, steps-suc, over-stays, one_end}
+use Rattle.meaning.proofs.Steps.{steps-in-parts, over-stays, one_end}
 use Rattle.calls.specs.Run.{at_return}
 use Rattle.calls.specs.declared.Outcome.{Outcome}
-use Rattle.turns.specs.Ways.{record_from, held_at, way, last, visit_of}
-use Rattle.machine.specs.Stack.{row_at, present, way_at, Noted, Open, Run, Pending, Stack, Asks, Ends, Stands, Fair}
+use Rattle.turns.specs.Ways.{record_from, visit_of}
+use Rattle.machine.specs.Stack.{present, Noted, Open, Run, Pending, Stack, Asks, Ends, Stands, Fair}
 use Rattle.machine.specs.Machine.{own_from, Lent, OwnStay, Went as Goes}
 use Rattle.machine.specs.declared.Machine.{Machine}
 use Rattle.machine.proofs.Holding.{held_same}
 use Rattle.machine.proofs.Stacked.{stable, stands-asked}
 use Rattle.machine.proofs.Fairness.{always-fair}
-use Rattle.stepping.specs.Stepping.{work_words, numbers, Lists, lists, run_after_by, run_after, own_row, machine_in, Given, Holds, lengths_fit, Zero}
+use Rattle.stepping.specs.Stepping.{numbers, Lists, lists, run_after_by, run_after, own_row, machine_in, Given, Holds, lengths_fit, Zero}
 use Rattle.stepping.specs.Stepping.{AnswersAt, Answers, StepAnswer, done as ends-done, failed as ends-failed, cut_off}
 use Rattle.stepping.specs.Stepping.{unbound as ends-unbound, unfinished, level_in}
-use Rattle.stepping.specs.Ended.{Saved, Loaded, PutBack, Used, Ended, Finished, Paused, Went, deepest as too-deep, used-up, paused}
+use Rattle.stepping.specs.Ended.{Saved, Used, Ended, Finished, Paused, Went, deepest as too-deep, used-up, paused}
 use Rattle.stepping.specs.Ended.{done, failed, full, stuck}
 use Rattle.stepping.proofs.Loading.{put-back-words}
 use Rattle.stepping.proofs.Rooted.{root-done, root-failed, cut-units, cut-nesting}

@@ -1,22 +1,19 @@
 -- What the contracts of start and step promise together, proved under the names of specs/Promises.antt. Assumes nothing.
-use Rattle.std.proofs.Common.{◌≡◌, ℕ, zero, suc, ◌+◌, ◌*◌, ◌<◌, ◌≤◌, Bool, true, false, eqb, leb, List, [], ◌∷◌, length, sym, refl, ap, ◌∙◌, subst, arith, eqb-true}
+use Rattle.std.proofs.Common.{◌≡◌, ℕ, ◌+◌, ◌*◌, Bool, true, false, eqb, leb, List, length, sym, refl, ap, ◌∙◌, subst, arith}
 use mathlib.Core.Option.{Option}
-use Rattle.words.specs.Tests.{if◌then◌else◌}
 use Rattle.checks.specs.Kinds.{ours}
-use Rattle.checks.specs.Checked.{checked}
-use Rattle.checks.specs.declared.Checked.{Checked}
 use Rattle.meaning.specs.Derivation.{places, nowhere}
 use Rattle.meaning.specs.Mapped.{renoted}
-use Rattle.meaning.specs.Limits.{Limit, units, room, nesting, unbound, ended, lost, cut}
+use Rattle.meaning.specs.Limits.{units, room, nesting, unbound, ended, lost, cut}
 use Rattle.meaning.specs.Steps.{over, next}
 use Rattle.meaning.specs.Store.{Input, Accepted, Ran, ran}
-use Rattle.meaning.specs.Answer.{Returned, number, place_of, returned, returned_by}
+use Rattle.meaning.specs.Answer.{Returned, number, returned, returned_by}
 use Rattle.calls.specs.Run.{at_return, run_with, run_with_by}
 use Rattle.calls.specs.declared.Outcome.{Outcome}
 use Rattle.calls.proofs.Accepting.{refusal-with}
 use Rattle.machine.specs.Stack.{Run}
-use Rattle.stepping.specs.Stepping.{numbers, start_refused, start_numbers, Lists, lists, run_after, Holds, Starts, Zero, AnswersAt}
-use Rattle.stepping.specs.Stepping.{Answers, StepsOn, lengths_fit, own_row}
+use Rattle.stepping.specs.Stepping.{numbers, start_refused, start_numbers, Lists, lists, run_after, Holds, Zero, AnswersAt}
+use Rattle.stepping.specs.Stepping.{Answers, own_row}
 use Rattle.stepping.specs.Promises.{sum, Calls, last, more, SteppedBy, AnySteps, ExactVisits, EndsInTime, Agreeing, ZeroRefused}
 use Rattle.stepping.proofs.Concluding.{end-is-run}
 use Rattle.stepping.proofs.Starting.{verdict, not-25}

@@ -1,5 +1,5 @@
 -- From the root's frame to the run's end, and a visit that a limit cuts off. Assumes nothing.
-use Rattle.std.proofs.Common.{◌≡◌, ℕ, zero, suc, ◌+◌, ◌<◌, ◌≤◌, Bool, true, false, List, [], ◌∷◌, sym, refl, ap, ◌∙◌, subst, arith}
+use Rattle.std.proofs.Common.{◌≡◌, ℕ, zero, suc, ◌≤◌, Bool, true, false, List, [], ◌∷◌, refl, ap, ◌∙◌, arith}
 use Rattle.meaning.specs.Bindings.{Bindings}
 use Rattle.meaning.specs.Derivation.{What, what, Event, ended as told, history}
 use Rattle.meaning.specs.Table.{table}

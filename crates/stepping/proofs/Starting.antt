@@ -1,31 +1,25 @@
 -- The start call: refused, or a list that holds a fresh run. Assumes nothing.
-use Rattle.std.proofs.Common.{◌≡◌, ℕ, zero, suc, ◌+◌, ◌-◌, ◌*◌, ◌%◌, ◌<◌, ◌≤◌, Bool, true, false, eqb, leb, List, [], length, get_or, sym, refl, ap, ◌∙◌, subst, inl, inr, arith, eq-eqb, ne_eqb, le-leb}
+use Rattle.std.proofs.Common.{◌≡◌, ℕ, ◌+◌, ◌<◌, ◌≤◌, Bool, true, false, eqb, List, [], length, get_or, sym, refl, ap, ◌∙◌, subst, inr, arith, eq-eqb, ne_eqb, le-leb}
 use mathlib.Core.Option.{Option}
 use borrow.Author.Tests.{lt-leb}
-use Rattle.words.specs.Words.{word_at}
-use Rattle.words.specs.Tests.{if◌then◌else◌}
 use Rattle.checks.specs.Kinds.{ours}
-use Rattle.checks.specs.Checked.{checked}
 use Rattle.checks.specs.declared.Checked.{Checked}
 use Rattle.checks.proofs.Promises.{store_passes}
 use Rattle.meaning.specs.Derivation.{nowhere}
-use Rattle.meaning.specs.Table.{table}
-use Rattle.meaning.specs.Rules.{apply, does}
+use Rattle.meaning.specs.Rules.{apply}
 use Rattle.meaning.specs.Plan.{keep, ret, fail}
-use Rattle.meaning.specs.Steps.{next, steps, start}
-use Rattle.meaning.specs.Store.{Input, Accepted, bindings, deepest, on, stored}
+use Rattle.meaning.specs.Steps.{steps, start}
+use Rattle.meaning.specs.Store.{Input, Accepted, bindings, on}
 use Rattle.calls.specs.Refused.{refused_with}
 use Rattle.calls.specs.Promises.{Refusal, of-sizes, of_entry, of_node, of-start}
 use Rattle.calls.specs.Signed.{SignedRefusal, as-without, of-disobeying-entry, of-disobeying-node}
-use Rattle.calls.specs.declared.Outcome.{Outcome}
 use Rattle.calls.proofs.Accepting.{accepted-with, refusal-with}
 use Rattle.turns.specs.Ways.{record_from, held_at, visit_of}
-use Rattle.machine.specs.Stack.{present, way_at, Run, Asks, Stands}
-use Rattle.machine.specs.Machine.{Lent}
+use Rattle.machine.specs.Stack.{way_at, Stands}
 use Rattle.machine.specs.declared.Machine.{Machine}
 use Rattle.machine.proofs.Holding.{held_same}
 use Rattle.machine.proofs.Stacked.{stands-asked}
-use Rattle.stepping.specs.Stepping.{numbers, start_refused, start_numbers, lists, run_after_by, run_after, own_row, machine_in, Holds, Starts}
+use Rattle.stepping.specs.Stepping.{numbers, start_refused, start_numbers, lists, run_after_by, run_after, machine_in, Holds, Starts}
 use Rattle.stepping.specs.Ended.{Saved, Loaded}
 use Rattle.stepping.proofs.Concluding.{machine-saved, given-saved}
 

@@ -1,8 +1,8 @@
 -- What the functions inside the two calls promise.
-use Rattle.std.specs.Prelude.{◌≡◌, ℕ, ◌+◌, ◌-◌, ◌*◌, ◌/◌, ◌%◌, ◌<◌, ◌≤◌, true, false, ◌⊎◌, List, [], ◌∷◌, length, ◌≢◌, slice_index}
+use Rattle.std.specs.Prelude.{◌≡◌, ℕ, ◌+◌, ◌*◌, ◌/◌, ◌%◌, ◌<◌, ◌≤◌, ◌⊎◌, List, [], ◌∷◌, length, ◌≢◌, slice_index}
 use Rattle.words.specs.Words.{word_at, cleared_from}
 use Rattle.words.specs.Tests.{if◌then◌else◌}
-use Rattle.meaning.specs.Bindings.{Bindings, has}
+use Rattle.meaning.specs.Bindings.{has}
 use Rattle.meaning.specs.Store.{bindings}
 use Rattle.calls.specs.declared.Outcome.{Outcome}
 use Rattle.turns.specs.Ways.{record_from, held_at}

@@ -1,5 +1,5 @@
 -- What the contracts of start and step promise together: one theorem over every list of step counts.
-use Rattle.std.specs.Prelude.{◌≡◌, ℕ, ◌+◌, ◌<◌, true, List, [], ◌∷◌, length, ◌≢◌}
+use Rattle.std.specs.Prelude.{◌≡◌, ℕ, ◌+◌, ◌<◌, true, List, [], ◌∷◌, ◌≢◌}
 use Rattle.std.proofs.Math.Option.{Option}
 use Rattle.meaning.specs.Store.{Input, Accepted}
 use Rattle.calls.specs.Run.{at_return, run_with}

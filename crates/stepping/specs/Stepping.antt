@@ -1,5 +1,5 @@
 -- A run that can be set aside: what the start call and the step call return, and what the lent memory holds between them.
-use Rattle.std.specs.Prelude.{◌≡◌, ℕ, ◌+◌, ◌-◌, ◌*◌, ◌<◌, ◌≤◌, min, Bool, true, false, ◌&&◌, List, [], length, ◌==◌, ◌≢◌, nat_le, nat_lt, slice_index}
+use Rattle.std.specs.Prelude.{◌≡◌, ℕ, ◌+◌, ◌-◌, ◌*◌, ◌<◌, min, Bool, true, false, ◌&&◌, List, [], length, ◌==◌, ◌≢◌, nat_le, nat_lt, slice_index}
 use Rattle.std.proofs.Math.Option.{Option}
 use Rattle.words.specs.Words.{word_at}
 use Rattle.words.specs.Tests.{if◌then◌else◌}
@@ -10,7 +10,7 @@ use Rattle.meaning.specs.Derivation.{What, Event, history, nowhere}
 use Rattle.meaning.specs.Mapped.{renoted}
 use Rattle.meaning.specs.Table.{table}
 use Rattle.meaning.specs.Rules.{apply, does}
-use Rattle.meaning.specs.Steps.{Next, over, next, steps, start}
+use Rattle.meaning.specs.Steps.{over, next, steps, start}
 use Rattle.meaning.specs.Store.{Input, Accepted, bindings, deepest, on}
 use Rattle.meaning.specs.Shared.{store_by}
 use Rattle.meaning.specs.Answer.{returned}

@@ -1,12 +1,10 @@
 -- An accepted run with counts, from its fresh start to what it returns. Assumes nothing.
-use Rattle.std.proofs.Common.{◌≡◌, ℕ, zero, suc, ◌+◌, ◌-◌, ◌*◌, ◌<◌, ◌≤◌, Bool, true, false, eqb, ◌⊎◌, List, [], ◌∷◌, length, sym, refl, ap, ◌∙◌, subst, inl, inr, ⊎_elim, arith, eq-eqb, ne_eqb}
-use Rattle.meaning.specs.Derivation.{What, Event, ended as told, history, nowhere}
+use Rattle.std.proofs.Common.{◌≡◌, ℕ, suc, ◌+◌, ◌-◌, ◌*◌, ◌<◌, ◌≤◌, Bool, true, false, eqb, List, ◌∷◌, length, sym, refl, ap, ◌∙◌, subst, ⊎_elim, arith, eq-eqb, ne_eqb}
+use Rattle.meaning.specs.Derivation.{Event, ended as told}
 use Rattle.meaning.specs.Tallies.{any_pattern, is_pair, counted, begins}
-use Rattle.meaning.specs.Table.{table}
-use Rattle.meaning.specs.Rules.{does}
 use Rattle.meaning.specs.Limits.{ended, lost, cut, units, nesting, room, unbound}
 use Rattle.meaning.specs.Mapped.{renoted}
-use Rattle.meaning.specs.Steps.{over, one, steps}
+use Rattle.meaning.specs.Steps.{over}
 use Rattle.meaning.specs.Store.{Input, Accepted, Ran, on, rest}
 use Rattle.meaning.specs.Answer.{number, place_of, returned}
 use Rattle.checks.specs.declared.Checked.{Checked}
@@ -17,13 +15,12 @@ use Rattle.turns.specs.Ways.{visit_of}
 use Rattle.machine.specs.Stack.{present, Noted, first_of, Asks, Ends, Stands, Fair}
 use Rattle.machine.specs.Machine.{Lent}
 use Rattle.machine.specs.declared.Machine.{Machine}
-use Rattle.stepping.specs.Stepping.{lists, run_after_by, Given}
+use Rattle.stepping.specs.Stepping.{run_after_by, Given}
 use Rattle.stepping.specs.Ended.{Saved, Loaded, Ended, Went, deepest as too-deep, used-up, paused, done, failed, full, stuck}
 use Rattle.stepping.proofs.Rooted.{root-done, root-failed, cut-units, cut-nesting}
 use Rattle.stepping.proofs.Starting.{first-visit, fresh-held}
 use Rattle.stepping.proofs.Concluding.{after_more, over-next, end-is-ran, given-saved, given-own, ended-cut, ended-lost, ended-done, fair-after}
 use Rattle.tallying.specs.declared.Seen.{Seen}
-use Rattle.tallying.specs.declared.Counted.{Counted}
 use Rattle.tallying.specs.Counts.{rest_counted, Room}
 use Rattle.tallying.specs.Added.{log_of, tallied, counted_at_return, counted_end, ran_if}
 use Rattle.tallying.specs.Tally.{CountedOn, Stopped}

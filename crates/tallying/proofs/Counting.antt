@@ -1,11 +1,11 @@
 -- The words of the counts: one more, and the others as they were. Assumes nothing.
-use Rattle.std.proofs.Common.{◌≡◌, ℕ, zero, suc, ◌+◌, ◌*◌, ◌%◌, ◌<◌, ◌≤◌, Bool, true, false, eqb, ltb, List, [], ◌∷◌, length, get_or, set, sym, refl, ap, ◌∙◌, subst, arith, length-set, get_or-set_other, get_or-set_same, le-ltb, lt-ltb, eq-eqb, ne_eqb, eqb-true}
+use Rattle.std.proofs.Common.{◌≡◌, ℕ, zero, suc, ◌+◌, ◌*◌, ◌%◌, ◌<◌, ◌≤◌, Bool, true, false, eqb, ltb, List, length, get_or, set, sym, refl, ap, ◌∙◌, subst, arith, length-set, get_or-set_other, get_or-set_same, le-ltb, lt-ltb, eq-eqb, ne_eqb, eqb-true}
 use borrow.Author.Tests.{eqb-false}
 use Rattle.words.specs.Tests.{if◌then◌else◌}
 use Rattle.machine.specs.declared.Machine.{Machine}
-use Rattle.meaning.specs.Derivation.{What, entry, pattern, pair, Event, began, ended}
-use Rattle.meaning.specs.Tallies.{one-if, is_entry, counted, begins, wins, loses}
-use Rattle.tallying.specs.Counts.{bumped, code_of, visited_code, flown, rest_counted, occurs, Kept, Balanced, Counts, Room}
+use Rattle.meaning.specs.Derivation.{What, entry, pattern, pair}
+use Rattle.meaning.specs.Tallies.{one-if, is_entry}
+use Rattle.tallying.specs.Counts.{bumped, code_of, visited_code, flown, rest_counted}
 
 pub bump-inside : (cs : List ℕ) (e c : ℕ) → 4 * e + c < length cs → set cs (4 * e + c) ((get_or cs (4 * e + c) 0 + 1) % 18446744073709551616)
     ≡ bumped cs e c

@@ -1,17 +1,17 @@
 -- What the counts are where a counted run has stopped: those given, and what happened to visits. Assumes nothing.
-use Rattle.std.proofs.Common.{◌≡◌, ℕ, zero, suc, ◌+◌, ◌-◌, ◌*◌, ◌/◌, ◌%◌, ◌<◌, ◌≤◌, Bool, true, false, eqb, List, [], ◌∷◌, length, get_or, sym, refl, ap, ◌∙◌, subst, arith, ext_get_or}
+use Rattle.std.proofs.Common.{◌≡◌, ℕ, zero, suc, ◌+◌, ◌*◌, ◌/◌, ◌%◌, ◌<◌, ◌≤◌, Bool, eqb, List, [], ◌∷◌, length, get_or, sym, refl, ap, ◌∙◌, subst, arith, ext_get_or}
 use Rattle.words.specs.Tests.{if◌then◌else◌}
 use Rattle.meaning.specs.Derivation.{What, Event, ended}
-use Rattle.meaning.specs.Tallies.{is_entry, any_pattern, is_pair, counted, begins, wins, loses}
+use Rattle.meaning.specs.Tallies.{is_entry, counted, begins}
 use Rattle.machine.specs.declared.Machine.{Machine}
 use Rattle.machine.specs.Stack.{first_of, others_of}
 use Rattle.tallying.specs.declared.Seen.{Seen}
-use Rattle.tallying.specs.Counts.{bumped, code_of, flown, rest_counted, occurs, Balanced, Counts, Room}
+use Rattle.tallying.specs.Counts.{bumped, flown, rest_counted, Balanced, Counts, Room}
 use Rattle.tallying.specs.Added.{added, tallied}
 use Rattle.tallying.specs.Tally.{CountedOn}
 use Rattle.tallying.proofs.Counting.{rest-asked, rest_ended, rest-cut}
 use Rattle.tallying.proofs.Tallying.{balanced-ended, counts-ended, counts-flown}
-use Rattle.tallying.proofs.Onward.{few-ended, first-kept, others-length, ended-none}
+use Rattle.tallying.proofs.Onward.{few-ended, first-kept, others-length}
 
 -- ---- the words
 

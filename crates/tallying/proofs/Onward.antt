@@ -1,11 +1,11 @@
 -- A counted run, from turn to turn: a visit begins, or one ends. Assumes nothing.
-use Rattle.std.proofs.Common.{◌≡◌, ℕ, zero, suc, ◌+◌, ◌-◌, ◌*◌, ◌<◌, ◌≤◌, Bool, true, false, eqb, ◌⊎◌, List, [], ◌∷◌, length, get_or, set, sym, refl, ap, ◌∙◌, subst, inl, inr, ⊎_elim, arith, length-set}
+use Rattle.std.proofs.Common.{◌≡◌, ℕ, suc, ◌+◌, ◌-◌, ◌*◌, ◌<◌, ◌≤◌, Bool, true, false, eqb, List, [], ◌∷◌, length, get_or, set, sym, refl, ap, ◌∙◌, subst, ⊎_elim, arith, length-set}
 use Rattle.words.specs.Tests.{if◌then◌else◌}
 use Rattle.words.proofs.Tests.{below-or-from}
 use Rattle.meaning.specs.Table.{table}
 use Rattle.meaning.specs.Rules.{does}
 use Rattle.meaning.specs.Derivation.{What, Event, began, ended, history}
-use Rattle.meaning.specs.Tallies.{one-if, any_pattern, is_pair, counted, begins, wins, loses}
+use Rattle.meaning.specs.Tallies.{any_pattern, is_pair, counted, begins, wins, loses}
 use Rattle.meaning.specs.Steps.{steps}
 use Rattle.meaning.specs.Store.{on}
 use Rattle.meaning.specs.Shared.{store_by}
@@ -16,7 +16,7 @@ use Rattle.machine.specs.Stack.{present, Asks, Stands, first_of, others_of}
 use Rattle.machine.specs.Machine.{Lent, Turned, visited, spent, Once}
 use Rattle.machine.proofs.Going.{rank, rank-asked, rank-ended}
 use Rattle.tallying.specs.declared.Seen.{Seen}
-use Rattle.tallying.specs.Counts.{bumped, code_of, visited_code, occurs, Kept, Balanced, Counts, Room}
+use Rattle.tallying.specs.Counts.{bumped, code_of, visited_code, occurs, Kept, Counts, Room}
 use Rattle.tallying.specs.Tally.{seen_at, CountedOn}
 use Rattle.tallying.proofs.Tallying.{code-visited, one-few, balanced-begun, balanced-ended, counts-begun, counts-ended, kept-begun}
 use Rattle.tallying.proofs.Tallying.{kept-first, kept-others, seen-begun}

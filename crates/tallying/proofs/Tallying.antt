@@ -1,9 +1,7 @@
 -- What a counted run has counted so far, kept from turn to turn. Assumes nothing.
-use Rattle.std.proofs.Common.{◌≡◌, ℕ, zero, suc, ◌+◌, ◌-◌, ◌*◌, ◌%◌, ◌^◌, ◌<◌, ◌≤◌, Bool, true, false, eqb, ◌⊎◌, List, [], ◌∷◌, length, get_or, set, sym, refl, ap, ◌∙◌, subst, inl, inr, ⊎_elim, arith, length-set, get_or-set_other, get_or-set_same, eq-eqb, ne_eqb}
+use Rattle.std.proofs.Common.{◌≡◌, ℕ, zero, suc, ◌+◌, ◌-◌, ◌*◌, ◌%◌, ◌^◌, ◌<◌, ◌≤◌, Bool, true, false, eqb, List, [], ◌∷◌, length, get_or, set, sym, refl, ap, ◌∙◌, subst, arith, get_or-set_other, get_or-set_same, ne_eqb}
 use Rattle.words.specs.Tests.{if◌then◌else◌}
-use Rattle.meaning.specs.Bindings.{Bindings}
-use Rattle.meaning.specs.Rules.{Visit}
-use Rattle.meaning.specs.Derivation.{What, entry, pattern, pair, what, Event, began, ended}
+use Rattle.meaning.specs.Derivation.{What, what, Event, began, ended}
 use Rattle.meaning.specs.Tallies.{one-if, is_entry, any_pattern, is_pair, counted, begins, wins, loses}
 use Rattle.turns.specs.Ways.{visit_of}
 use Rattle.machine.specs.declared.Machine.{Machine}
@@ -12,7 +10,7 @@ use Rattle.machine.specs.Machine.{visited}
 use Rattle.tallying.specs.declared.Seen.{Seen}
 use Rattle.tallying.specs.Counts.{bumped, code_of, visited_code, flown, occurs, Kept, Balanced, Counts, Room}
 use Rattle.tallying.specs.Tally.{seen_at}
-use Rattle.tallying.proofs.Counting.{length-bumped, length-flown, bump-for, bump-beside}
+use Rattle.tallying.proofs.Counting.{length-bumped, bump-for, bump-beside}
 
 -- ---- the visit that is asked for
 

@@ -1,8 +1,8 @@
 -- What an accepted run with counts adds to them, and what comes back of it. The counts are words of 64 bits, four for each entry of the
 -- table: its visits as a strategy, successes, failures, and visits in flight at a cut-off.
-use Rattle.std.specs.Prelude.{◌≡◌, ℕ, zero, suc, ◌+◌, ◌-◌, ◌*◌, ◌/◌, ◌%◌, ◌<◌, ◌≤◌, Bool, List, [], ◌∷◌}
+use Rattle.std.specs.Prelude.{ℕ, zero, suc, ◌+◌, ◌-◌, ◌/◌, ◌%◌, Bool, List, [], ◌∷◌}
 use Rattle.checks.specs.Kinds.{ours}
-use Rattle.meaning.specs.Derivation.{What, Event, history, nowhere}
+use Rattle.meaning.specs.Derivation.{Event, history, nowhere}
 use Rattle.meaning.specs.Tallies.{is_entry, any_pattern, is_pair, counted, begins, wins, loses}
 use Rattle.meaning.specs.Limits.{ended, lost, cut}
 use Rattle.meaning.specs.Mapped.{renoted}

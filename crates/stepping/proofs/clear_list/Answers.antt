@@ -1,5 +1,4 @@
 -- `clear_list` meets its contract. Assumes nothing.
-use Rattle.std.proofs.Common.{rules}
 use Rattle.stepping.proofs.clear_list.Goals as goal
 
 pub returns : goal.returns

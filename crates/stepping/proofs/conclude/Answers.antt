@@ -1,16 +1,7 @@
 -- `conclude` meets its contract. Assumes nothing.
-use Rattle.std.proofs.Common.{◌≡◌, ℕ, ◌+◌, ◌-◌, ◌*◌, ◌<◌, ◌≤◌, ◌⊎◌, sym, refl, ap, ◌∙◌, subst, inl, inr, ⊎_elim, arith, rules}
-use Rattle.words.specs.Words.{word_at}
-use Rattle.stepping.specs.Stepping.{numbers, own_row}
-use Rattle.stepping.specs.Ended.{Saved, Paused, Went, deepest, used-up, paused, done, failed, full, stuck}
+use Rattle.std.proofs.Common.{refl, arith, rules}
+use Rattle.stepping.specs.Ended.{deepest, used-up, paused, done, failed, full, stuck}
 use Rattle.stepping.proofs.Concluding.{past-six, paused-with}
-use Rattle.stepping.proofs.conclude.Reads as reads
-use Rattle.stepping.proofs.conclude.Lts as lts
-use Rattle.std.proofs.num.wrapping_sub_u32.Reads as wrapping-sub-u32-reads
-use Rattle.stepping.proofs.end_run.Reads as end-run-reads
-use Rattle.stepping.proofs.finish.Reads as finish-reads
-use Rattle.stepping.proofs.own.given.Reads as given-reads
-use Rattle.stepping.proofs.own.save.Reads as save-reads
 use Rattle.stepping.proofs.conclude.Goals as goal
 
 pub returns-then-m-stop : goal.returns-then-m-stop

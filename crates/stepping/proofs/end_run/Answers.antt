@@ -1,11 +1,6 @@
 -- `end_run` meets its contract. Assumes nothing.
-use Rattle.std.proofs.Common.{◌≡◌, ℕ, ◌+◌, ◌-◌, ◌*◌, ◌/◌, ◌%◌, ◌^◌, ◌<◌, ◌≤◌, min, ◌⊎◌, sym, refl, ap, ◌∙◌, subst, inl, inr, ⊎_elim, arith, rules}
+use Rattle.std.proofs.Common.{ℕ, ◌*◌, ap, ◌∙◌, rules}
 use Rattle.words.specs.Words.{cleared_from}
-use Rattle.stepping.proofs.end_run.Reads as reads
-use Rattle.stepping.proofs.end_run.Lts as lts
-use Rattle.std.proofs.num.wrapping_sub_u32.Reads as wrapping-sub-u32-reads
-use Rattle.stepping.proofs.own.given.Reads as given-reads
-use Rattle.words.proofs.clear_from.Reads as clear-from-reads
 use Rattle.stepping.proofs.end_run.Goals as goal
 
 pub returns : goal.returns

@@ -1,13 +1,8 @@
 -- `start_lent` meets its contract. Assumes nothing.
-use Rattle.std.proofs.Common.{◌≡◌, ℕ, ◌+◌, ◌-◌, ◌*◌, ◌<◌, ◌≤◌, sym, refl, ap, ◌∙◌, subst, arith, rules}
+use Rattle.std.proofs.Common.{arith}
 use Rattle.calls.specs.Refused.{lent_if}
 use Rattle.calls.specs.Run.{input}
 use Rattle.stepping.proofs.Starting.{too_short, refused-by, passes, begun-with}
-use Rattle.stepping.proofs.start_lent.Reads as reads
-use Rattle.stepping.proofs.start_lent.Lts as lts
-use Rattle.refusals.proofs.refusal.Reads as refusal-reads
-use Rattle.stepping.proofs.own.load_bindings.Reads as load-bindings-reads
-use Rattle.stepping.proofs.own.save.Reads as save-reads
 use Rattle.stepping.proofs.start_lent.Goals as goal
 
 pub returns-then-work-lt-WORK : goal.returns-then-work-lt-WORK

@@ -1,21 +1,13 @@
 -- `step_run` meets its contract. Assumes nothing.
-use Rattle.std.proofs.Common.{◌≡◌, ℕ, ◌+◌, ◌-◌, ◌*◌, ◌<◌, ◌≤◌, ◌⊎◌, sym, refl, ap, ◌∙◌, subst, inl, inr, ⊎_elim, true≢false, arith, rules}
-use borrow.Author.Tests.{not-true, not-false}
-use Rattle.stepping.specs.Stepping.{lists, lengths_fit, bad-length, nothing-begun, machine_in}
+use Rattle.std.proofs.Common.{◌≡◌, sym, refl, ◌∙◌, true≢false, arith}
+use Rattle.stepping.specs.Stepping.{lists, bad-length, nothing-begun}
 use Rattle.stepping.proofs.Concluding.{lengths-hold, lengths-lent, level-low, stop_at, stop-then, stop-else, stop-few, went-listed, step-goes}
-use Rattle.stepping.proofs.step_run.Reads as reads
-use Rattle.stepping.proofs.step_run.Lts as lts
-use Rattle.machine.proofs.go.Reads as go-reads
-use Rattle.stepping.proofs.conclude.Reads as conclude-reads
-use Rattle.stepping.proofs.lengths_fit.Reads as lengths-fit-reads
-use Rattle.stepping.proofs.own.saved.Reads as saved-reads
-use Rattle.words.proofs.word.Reads as word-reads
 use Rattle.stepping.proofs.step_run.Goals as goal
 use Rattle.stepping.proofs.step_run.Goals.{else-visits-a, then-visits-a}
 
 pub returns-then-not-lengths_fit : goal.returns-then-not-lengths_fit
 returns-then-not-lengths_fit c =
-    let no = sym c.lengths_fit.ensures ∙ not-true _ c.if-not-lengths_fit.true-raw in
+    let no = sym c.lengths_fit.ensures ∙ c.if-not-lengths_fit.true in
     record {
       lengths = λ _. (refl, refl);
       zero = λ h. absurd (true≢false (sym h ∙ no));
@@ -25,7 +17,7 @@ returns-then-not-lengths_fit c =
 
 pub returns-then-word-eq0 : goal.returns-then-word-eq0
 returns-then-word-eq0 c =
-    let yes = sym c.lengths_fit.ensures ∙ not-false _ c.if-not-lengths_fit.false-raw in
+    let yes = sym c.lengths_fit.ensures ∙ c.if-not-lengths_fit.false in
     record {
       lengths = λ h. absurd (true≢false (sym yes ∙ h));
       zero = λ _ _. (refl, refl);
@@ -43,14 +35,14 @@ go-m-requires c =
           (omega (arith, w.if-visits-a.false))
     ] in
     let z = lengths-lent c.args.table.now (lists c.args.store.now c.args.bindings.now c.args.work.now)
-    (sym c.lengths_fit.ensures ∙ not-false _ c.if-not-lengths_fit.false-raw) in
+    (sym c.lengths_fit.ensures ∙ c.if-not-lengths_fit.false) in
     let l = level-low c.args.work.now _ c.saved-a.ensures in
     (l.0, l.1, stop-few _ _ _ stopped, z.0)
 
 pub conclude-requires : goal.conclude-requires
 conclude-requires c =
     let z = lengths-lent c.args.table.now (lists c.args.store.now c.args.bindings.now c.args.work.now)
-    (sym c.lengths_fit.ensures ∙ not-false _ c.if-not-lengths_fit.false-raw) in
+    (sym c.lengths_fit.ensures ∙ c.if-not-lengths_fit.false) in
     (z.1, (c.go-m.ensures.on refl).lent.frames)
 
 pub returns : goal.returns
@@ -62,7 +54,7 @@ returns c =
       | else-visits-a w ↦ w.stop-is ∙ stop-else c.saved-a.result.fuel c.args.visits
           (omega (arith, w.if-visits-a.false))
     ] in
-    let yes = sym c.lengths_fit.ensures ∙ not-false _ c.if-not-lengths_fit.false-raw in
+    let yes = sym c.lengths_fit.ensures ∙ c.if-not-lengths_fit.false in
     record {
       lengths = λ h. absurd (true≢false (sym yes ∙ h));
       zero = λ _ z. absurd (c.if-word-eq0.false (c.word.ensures ∙ z));

@@ -1,9 +1,6 @@
 -- `add` meets its contract. Assumes nothing.
-use Rattle.std.proofs.Common.{◌≡◌, ℕ, ◌+◌, ◌-◌, ◌*◌, ◌<◌, ◌≤◌, set, sym, refl, ap, ◌∙◌, arith, rules}
+use Rattle.std.proofs.Common.{ℕ, ◌+◌, ◌*◌, set, ap, ◌∙◌, arith}
 use Rattle.tallying.proofs.Counting.{bump-inside, bump-outside}
-use Rattle.tallying.proofs.add.Reads as reads
-use Rattle.tallying.proofs.add.Lts as lts
-use Rattle.std.proofs.num.wrapping_add_u64.Reads as wrapping-add-u64-reads
 use Rattle.tallying.proofs.add.Goals as goal
 
 pub returns-then-i-counts : goal.returns-then-i-counts

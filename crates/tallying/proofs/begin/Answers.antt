@@ -1,10 +1,7 @@
 -- `begin` meets its contract. Assumes nothing.
-use Rattle.std.proofs.Common.{◌≡◌, ℕ, ◌+◌, ◌-◌, ◌*◌, ◌<◌, ◌≤◌, set, sym, refl, ap, ◌∙◌, ⊎_elim, arith, rules}
+use Rattle.std.proofs.Common.{◌≡◌, ℕ, set, ap, ◌∙◌}
 use Rattle.tallying.specs.Counts.{bumped, visited_code}
 use Rattle.tallying.proofs.Counting.{code-applied, code_other}
-use Rattle.tallying.proofs.begin.Reads as reads
-use Rattle.tallying.proofs.begin.Lts as lts
-use Rattle.tallying.proofs.add.Reads as add_reads
 use Rattle.tallying.proofs.begin.Goals as goal
 use Rattle.tallying.proofs.begin.Goals.{else-m-eq-APPLY, then-m-eq-APPLY}
 

@@ -1,15 +1,5 @@
-use Rattle.std.proofs.Common.{◌≡◌, ℕ, ◌+◌, ◌-◌, ◌*◌, ◌<◌, ◌≤◌, ◌⊎◌, sym, refl, ap, ◌∙◌, subst, inl, inr, ⊎_elim, arith, rules}
-use Rattle.words.proofs.Tests.{below-or-from}
-use Rattle.machine.proofs.Going.{rank}
+use Rattle.std.proofs.Common.{sym, refl, ◌∙◌, inl, inr, arith, rules}
 use Rattle.tallying.proofs.Onward.{Comes, comes-visit, comes-end, counted_none, nearer, further}
-use Rattle.tallying.specs.Counts.{Room}
-use Rattle.tallying.specs.Tally.{CountedOn}
-use Rattle.tallying.proofs.count_on.Reads as reads
-use Rattle.tallying.proofs.count_on.Lts as lts
-use Rattle.tallying.proofs.begin.Reads as begin-reads
-use Rattle.tallying.proofs.end.Reads as end_reads
-use Rattle.tallying.proofs.see.Reads as see-reads
-use Rattle.machine.proofs.go.Reads as go-reads
 use Rattle.tallying.proofs.count_on.Goals as goal
 use Rattle.tallying.proofs.count_on.Goals.{else-m-lt4+else-m-gt5+else-m-eq0-2, then-m-lt4+else-m-eq0+else-m-gt4095}
 

@@ -1,17 +1,9 @@
 -- `count_on` meets its contract: what is counted so far is kept from turn to turn. A turn that is no visit comes nearer to the root, and a
 -- visit is one of those that are left. Assumes nothing.
-use Rattle.std.proofs.Common.{◌≡◌, ℕ, ◌+◌, ◌-◌, ◌*◌, ◌<◌, ◌≤◌, ◌⊎◌, sym, refl, ap, ◌∙◌, subst, inl, inr, ⊎_elim, arith, rules}
-use Rattle.words.proofs.Tests.{below-or-from}
+use Rattle.std.proofs.Common.{◌+◌, ◌*◌, ◌<◌}
 use Rattle.machine.proofs.Going.{rank}
-use Rattle.tallying.proofs.Onward.{Comes, comes-visit, comes-end, counted_none, nearer, further}
 use Rattle.tallying.specs.Counts.{Room}
 use Rattle.tallying.specs.Tally.{CountedOn}
-use Rattle.tallying.proofs.count_on.Reads as reads
-use Rattle.tallying.proofs.count_on.Lts as lts
-use Rattle.tallying.proofs.begin.Reads as begin-reads
-use Rattle.tallying.proofs.end.Reads as end_reads
-use Rattle.tallying.proofs.see.Reads as see-reads
-use Rattle.machine.proofs.go.Reads as go-reads
 use Rattle.tallying.proofs.count_on.Given as goal
 
 abbrev pub invariant-loop-m : goal.invariant-loop-m

@@ -1,10 +1,6 @@
 -- `count_rest` meets its contract. Assumes nothing.
-use Rattle.std.proofs.Common.{◌≡◌, ℕ, ◌+◌, ◌<◌, ◌≤◌, sym, refl, ◌∙◌, arith, rules}
+use Rattle.std.proofs.Common.{◌∙◌, arith}
 use Rattle.tallying.proofs.Counting.{rest-asked, rest_ended, rest-cut}
-use Rattle.tallying.proofs.count_rest.Reads as reads
-use Rattle.tallying.proofs.count_rest.Lts as lts
-use Rattle.tallying.proofs.end.Reads as end_reads
-use Rattle.tallying.proofs.fly.Reads as fly-reads
 use Rattle.tallying.proofs.count_rest.Goals as goal
 
 pub returns-then-m-lt-SUCCEEDED : goal.returns-then-m-lt-SUCCEEDED

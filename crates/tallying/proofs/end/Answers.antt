@@ -1,9 +1,6 @@
 -- `end` meets its contract. Assumes nothing.
-use Rattle.std.proofs.Common.{◌≡◌, ℕ, ◌+◌, ◌-◌, ◌*◌, ◌<◌, ◌≤◌, sym, refl, ap, ◌∙◌, arith, rules}
+use Rattle.std.proofs.Common.{◌∙◌}
 use Rattle.tallying.proofs.Counting.{won-is, lost-is}
-use Rattle.tallying.proofs.end.Reads as reads
-use Rattle.tallying.proofs.end.Lts as lts
-use Rattle.tallying.proofs.add.Reads as add_reads
 use Rattle.tallying.proofs.end.Goals as goal
 
 pub returns-then-m-eq-SUCCEEDED : goal.returns-then-m-eq-SUCCEEDED

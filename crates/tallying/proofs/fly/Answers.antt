@@ -1,9 +1,6 @@
-use Rattle.std.proofs.Common.{◌≡◌, ℕ, ◌+◌, ◌-◌, ◌*◌, ◌<◌, ◌≤◌, length, get_or, sym, refl, ap, ◌∙◌, add-one, arith, rules}
+use Rattle.std.proofs.Common.{length, get_or, refl, ap, ◌∙◌, add-one, arith}
 use Rattle.tallying.specs.Counts.{bumped, flown}
 use Rattle.tallying.proofs.Counting.{length-flown}
-use Rattle.tallying.proofs.fly.Reads as reads
-use Rattle.tallying.proofs.fly.Lts as lts
-use Rattle.tallying.proofs.add.Reads as add_reads
 use Rattle.tallying.proofs.fly.Goals as goal
 
 pub loop-l-init : goal.loop-l-init

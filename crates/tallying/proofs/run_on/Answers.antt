@@ -1,17 +1,10 @@
 -- `run_on` meets its contract. Assumes nothing.
-use Rattle.std.proofs.Common.{◌≡◌, ℕ, ◌+◌, ◌*◌, ◌<◌, ◌≤◌, length, sym, refl, ap, ◌∙◌, subst, le_refl, arith, lit<}
+use Rattle.std.proofs.Common.{◌≡◌, ℕ, ◌≤◌, length, sym, refl, ap, ◌∙◌, le_refl, arith, lit<}
 use Rattle.words.specs.Words.{rows}
 use Rattle.meaning.specs.Store.{Input}
 use Rattle.calls.specs.Run.{input}
 use Rattle.tallying.specs.Added.{counted_at_return}
 use Rattle.tallying.proofs.Accepted.{accepted-lent, all-counted}
-use Rattle.tallying.proofs.run_on.Reads as reads
-use Rattle.tallying.proofs.run_on.Lts as lts
-use Rattle.tallying.proofs.count_on.Reads as count-on-reads
-use Rattle.tallying.proofs.count_rest.Reads as count-rest-reads
-use Rattle.stepping.proofs.conclude.Reads as conclude-reads
-use Rattle.stepping.proofs.own.load_bindings.Reads as load-bindings-reads
-use Rattle.stepping.proofs.own.save.Reads as save-reads
 use Rattle.tallying.proofs.run_on.Goals as goal
 
 -- ---- the lengths of the two lists of its own: a list of so many zeros is long to compute, so it is done once for each place

@@ -1,6 +1,5 @@
 -- `see` meets its contract. Assumes nothing.
 use Rattle.tallying.proofs.Tallying.{seen_entry, seen-pair, seen-pattern}
-use Rattle.std.proofs.Common.{rules}
 use Rattle.tallying.proofs.see.Goals as goal
 
 pub returns-then-mode-eq-APPLY : goal.returns-then-mode-eq-APPLY

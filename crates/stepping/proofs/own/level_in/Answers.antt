@@ -1,7 +1,5 @@
 -- `own::level_in` meets its contract. Assumes nothing.
-use Rattle.std.proofs.Common.{◌≡◌, ℕ, ◌+◌, ◌-◌, ◌*◌, ◌/◌, ◌%◌, ◌^◌, ◌<◌, ◌≤◌, min, ◌⊎◌, sym, refl, ap, ◌∙◌, subst, inl, inr, ⊎_elim, arith, le-ltb, lt-ltb}
-use Rattle.stepping.proofs.own.level_in.Reads as reads
-use Rattle.stepping.proofs.own.level_in.Lts as lts
+use Rattle.std.proofs.Common.{arith, le-ltb, lt-ltb}
 use Rattle.stepping.proofs.own.level_in.Goals as goal
 
 pub returns-then-level-lt4096 : goal.returns-then-level-lt4096

@@ -1,8 +1,6 @@
-use Rattle.std.proofs.Common.{◌≡◌, ℕ, ◌+◌, ◌-◌, ◌*◌, ◌/◌, ◌%◌, ◌^◌, ◌<◌, ◌≤◌, min, ◌⊎◌, get_or, sym, refl, ap, ◌∙◌, subst, inl, inr, ⊎_elim, arith}
+use Rattle.std.proofs.Common.{◌≤◌, get_or, refl, ⊎_elim, arith}
 use Rattle.words.proofs.Tests.{below-or-from}
-use Rattle.stepping.proofs.Loading.{SoFar, none_yet, loaded-bound, loaded-unbound, all-loaded}
-use Rattle.stepping.proofs.own.load_bindings.Reads as reads
-use Rattle.stepping.proofs.own.load_bindings.Lts as lts
+use Rattle.stepping.proofs.Loading.{none_yet, loaded-bound, loaded-unbound, all-loaded}
 use Rattle.stepping.proofs.own.load_bindings.Goals as goal
 use Rattle.stepping.proofs.own.load_bindings.Goals.{else-w-ne0, then-w-ne0}
 

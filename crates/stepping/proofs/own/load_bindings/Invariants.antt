@@ -1,9 +1,6 @@
 -- `own::load_bindings` meets its contract. Assumes nothing.
-use Rattle.std.proofs.Common.{◌≡◌, ℕ, ◌+◌, ◌-◌, ◌*◌, ◌/◌, ◌%◌, ◌^◌, ◌<◌, ◌≤◌, min, ◌⊎◌, get_or, sym, refl, ap, ◌∙◌, subst, inl, inr, ⊎_elim, arith}
-use Rattle.words.proofs.Tests.{below-or-from}
-use Rattle.stepping.proofs.Loading.{SoFar, none_yet, loaded-bound, loaded-unbound, all-loaded}
-use Rattle.stepping.proofs.own.load_bindings.Reads as reads
-use Rattle.stepping.proofs.own.load_bindings.Lts as lts
+use Rattle.std.proofs.Common.{◌-◌}
+use Rattle.stepping.proofs.Loading.{SoFar}
 use Rattle.stepping.proofs.own.load_bindings.Given as goal
 
 abbrev pub invariant-loop-v : goal.invariant-loop-v

@@ -1,10 +1,6 @@
-use Rattle.std.proofs.Common.{◌≡◌, ℕ, ◌+◌, ◌-◌, ◌*◌, ◌/◌, ◌%◌, ◌^◌, ◌<◌, ◌≤◌, min, ◌⊎◌, sym, refl, ap, ◌∙◌, subst, inl, inr, ⊎_elim, arith, rules}
-use Rattle.meaning.specs.Bindings.{has}
+use Rattle.std.proofs.Common.{sym, refl, ◌∙◌, arith}
 use Rattle.meaning.proofs.Bits.{bit-has, no-bit-has}
-use Rattle.stepping.proofs.Loading.{Written, none_written, one_written, all-written}
-use Rattle.stepping.proofs.own.put_bindings.Reads as reads
-use Rattle.stepping.proofs.own.put_bindings.Lts as lts
-use Rattle.std.proofs.num.wrapping_add_u32.Reads as wrapping-add-u32-reads
+use Rattle.stepping.proofs.Loading.{none_written, one_written, all-written}
 use Rattle.stepping.proofs.own.put_bindings.Goals as goal
 use Rattle.stepping.proofs.own.put_bindings.Goals.{else-mask-v-eq1, then-mask-v-eq1}
 

@@ -1,9 +1,5 @@
 -- `own::save` meets its contract. Assumes nothing.
-use Rattle.std.proofs.Common.{◌≡◌, ℕ, ◌+◌, ◌-◌, ◌*◌, ◌/◌, ◌%◌, ◌^◌, ◌<◌, ◌≤◌, min, ◌⊎◌, sym, refl, ap, ◌∙◌, subst, inl, inr, ⊎_elim, arith, rules}
 use Rattle.stepping.proofs.Saving.{saved_rows}
-use Rattle.stepping.proofs.own.save.Reads as reads
-use Rattle.stepping.proofs.own.save.Lts as lts
-use Rattle.words.proofs.put_row.Reads as put-row-reads
 use Rattle.stepping.proofs.own.save.Goals as goal
 
 pub returns : goal.returns
