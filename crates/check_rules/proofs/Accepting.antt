@@ -1,28 +1,25 @@
 -- The text that is accepted is that of rules which may all be added; and two outcomes agree. Assumes nothing.
 use mathlib.Core.Path.{◌≡◌, refl, ap, sym, ◌∙◌, subst}
-use mathlib.Core.Logic.{◌↔◌}
-use mathlib.Core.Bool.{Bool, true, false, ◌&&◌}
+use mathlib.Core.Bool.{Bool, true, false}
 use mathlib.Core.List.{List, [], ◌∷◌}
-use Prim.Native.Nat.{ℕ, suc, ◌+◌, ◌≤◌, ◌<◌}
+use Prim.Native.Nat.{ℕ, suc, ◌+◌, ◌≤◌}
 use native.Mathlib.Omega.{arith}
 use lib.Dec.{eqb, ltb}
-use lib.ListN.{length}
-use borrow.Author.Tests.{eqb-true, eqb-false, ltb-true, ltb-false, le-ltb, eq-eqb, ne_eqb}
+use borrow.Author.Tests.{eqb-true, eqb-false, ltb-false, le-ltb, eq-eqb}
 use Rattle.words.specs.Tests.{if◌then◌else◌}
 use Rattle.words.specs.Words.{rows}
 use Rattle.words.proofs.Tests.{and-true}
 use Rattle.meaning.proofs.Tests.{impossible, decided}
 use Rattle.text.specs.Text.{parts}
 use Rattle.rules.specs.Rule.{Condition, Rule, rule_variables, bound}
-use Rattle.rules.specs.Text.{rules_text, PlainRules, ReadRule, rule, bad_field, rule_of, Meant, rules, bad_at, before, or_bad_at, unended, last_part, read_lines, meant}
+use Rattle.rules.specs.Text.{ReadRule, rule, bad_field, rule_of, rules, before, or_bad_at, unended, last_part, read_lines, meant}
 use Rattle.rules.specs.Shape.{rule_size}
 use Rattle.check_rules.specs.Bound.{all_below, variables_answer}
 use Rattle.check_rules.specs.Line.{all_calls, rule_answer, line_of}
 use Rattle.check_rules.specs.Check.{told, refusal, by_line, last_line, text_checked}
-use Rattle.check_rules.specs.Answer.{used_checked, ClosedRec, Callable, RulesChecked, entries, lines}
+use Rattle.check_rules.specs.Answer.{used_checked, Callable, RulesChecked, entries, lines}
 use Rattle.rules.specs.Promises.{Among, here, there}
 use Rattle.check_rules.specs.Promises.{Allowed, AllAllowed, none_left, and-more, entries_of, Accepted, Accepts, AcceptsNumbers, Agree}
-use Rattle.check_rules.specs.declared.line.Line.{Line}
 use Rattle.check_rules.specs.declared.check.Translated.{Translated}
 use Rattle.rules.proofs.Texts.{before-rules, text-is-rules}
 use Rattle.check_rules.proofs.Answering.{used-sizes}

@@ -1,29 +1,26 @@
 -- The entries in use as a table of their own, and the masks of their free variables. Assumes nothing.
-use mathlib.Core.Path.{◌≡◌, refl, ap, sym, ◌∙◌, subst}
-use mathlib.Core.Logic.{◌↔◌}
+use mathlib.Core.Path.{◌≡◌, refl, ap, sym, ◌∙◌}
 use mathlib.Core.Bool.{Bool, true, false, ◌&&◌, false≢true}
 use mathlib.Core.List.{List}
 use Prim.Native.Nat.{ℕ, ◌+◌, ◌*◌, ◌/◌, ◌%◌, ◌^◌, ◌≤◌, ◌<◌}
 use native.Mathlib.Omega.{arith}
 use lib.Dec.{eqb, leb, ltb}
-use lib.ListN.{length, get_or, take}
+use lib.ListN.{length, get_or}
 use lib.Seq.{length-take-le, get_or-take}
 use borrow.Author.Tests.{eq-eqb, ne_eqb, eqb-true, lt-ltb, ltb-true, le-leb, lt-leb, leb-true}
 use Rattle.words.specs.Tests.{if◌then◌else◌}
-use Rattle.words.specs.Words.{word_at, rows}
+use Rattle.words.specs.Words.{rows}
 use Rattle.words.proofs.Tests.{and-true}
 use Rattle.checks.specs.declared.Checked.{Checked}
-use Rattle.checks.specs.declared.kinds.Sort.TheVariants.{Strategy}
 use Rattle.checks.specs.Kinds.{ours, variables, sort_of}
-use Rattle.checks.specs.Good.{kind_of, good_entry}
-use Rattle.checks.specs.Plain.{TableLength}
+use Rattle.checks.specs.Good.{kind_of}
 use Rattle.checks.specs.Checked.{checked, table_length_fits, table_checked}
 use Rattle.checks.proofs.Promises.{table_passes}
 use Rattle.meaning.specs.Bindings.{has}
 use Rattle.meaning.specs.Table.{table}
-use Rattle.meaning.specs.Free.{Free, Closed}
+use Rattle.meaning.specs.Free.{Closed}
 use Rattle.meaning.proofs.Bits.{has-nothing, same-mask}
-use Rattle.meaning.proofs.Tests.{impossible, decided}
+use Rattle.meaning.proofs.Tests.{decided}
 use Rattle.free.specs.Answered.{MaskOfBy}
 use Rattle.free.specs.Passes.{BitsMeant, Settled}
 use Rattle.free.specs.Promises.{GoodTableBy, StrategyOf}

@@ -1,36 +1,26 @@
 -- The variables of a line's fields as bits of a window, and the order in which a rule binds and uses them. Assumes nothing.
-use mathlib.Core.Path.{◌≡◌, refl, ap, sym, ◌∙◌, subst}
-use mathlib.Core.Logic.{⊎_elim, ◌⊎◌, inl, inr}
-use mathlib.Core.Bool.{Bool, true, false, not, ◌&&◌, ◌||◌}
-use mathlib.Core.Option.{Option, none, some}
-use mathlib.Core.List.{List, [], ◌∷◌, ◌++◌, append_assoc, append-nil}
-use Prim.Native.Nat.{ℕ, zero, suc, ◌+◌, ◌-◌, ◌*◌, ◌%◌, ◌^◌, ◌≤◌, ◌<◌}
+use mathlib.Core.Path.{◌≡◌, refl, ap, sym, ◌∙◌}
+use mathlib.Core.Bool.{Bool, true, false, ◌||◌}
+use mathlib.Core.List.{List, [], ◌∷◌, ◌++◌, append_assoc}
+use Prim.Native.Nat.{ℕ, ◌+◌, ◌-◌, ◌*◌, ◌%◌, ◌^◌, ◌≤◌, ◌<◌}
 use native.Mathlib.Omega.{arith}
 use lib.Dec.{leb, ltb, eqb}
-use lib.Bits.{bit_and, bit_or}
+use lib.Bits.{bit_or}
 use lib.ListN.{length, take, drop}
-use borrow.Author.Tests.{lt-ltb, le-ltb, ltb-true, ltb-false, le-leb, lt-leb, leb-true, leb-false, eqb-true, eqb-false, eq-eqb, ne_eqb}
-use Rattle.words.specs.Tests.{if◌then◌else◌}
-use Rattle.checks.specs.Kinds.{variables as most}
+use borrow.Author.Tests.{lt-ltb, le-ltb, ltb-false, le-leb, lt-leb, leb-true, leb-false, eqb-true, eqb-false, eq-eqb, ne_eqb}
 use Rattle.meaning.specs.Bindings.{has}
-use Rattle.meaning.proofs.Bits.{has-nothing, has-and, has-or, has_one, has_above, same-mask, bit-shift}
-use Rattle.meaning.proofs.Tests.{impossible, decided}
-use Rattle.text.specs.Text.{up_to, one_word, number_of, decimal}
+use Rattle.meaning.proofs.Bits.{has-nothing, has-or, has_one, bit-shift}
+use Rattle.meaning.proofs.Tests.{decided}
+use Rattle.text.specs.Text.{up_to, decimal}
 use Rattle.text.proofs.Put.{for-one}
 use Rattle.text.proofs.Decimal.{number-decimal}
-use Rattle.rules.specs.Rule.{Pat, Pats, var, con, none as no-pats, more as more-pats, Condition, Rule, count, variables, variables_all, member, rule_variables}
-use Rattle.rules.specs.Text.{Fields, pat_fields, pats_fields, conditions_fields, rule_fields, Plain, plain-var, plain-con, Plains, plain-none, plain_more, PlainConditions, plain_end}
-use Rattle.rules.specs.Text.{plain-next, PlainRule, Head, variable, constructor, neither, variable_head, constructor_head, head_of, Read, got, bad, later, condition_of, read, rule}
-use Rattle.rules.specs.Text.{rule_from, rule_of}
+use Rattle.rules.specs.Rule.{Pat, Pats, var, con, none as no-pats, more as more-pats, count, variables, variables_all, member}
+use Rattle.rules.specs.Text.{Fields, pat_fields, pats_fields, Plain, plain-var, plain-con, Plains, plain_more}
+use Rattle.rules.specs.Text.{Head, variable, constructor, neither, head_of}
 use Rattle.rules.specs.Scan.{width, fields_from}
-use Rattle.rules.specs.Condition.{start_at, outcome_at, after_it, found_at, ConditionAt, condition, none as no-condition}
-use Rattle.rules.specs.Shape.{right_at, conditions_at}
-use Rattle.check_rules.specs.Bound.{window, late_from, late, marked_by, marks_from, RuleLine, Late, one, no}
-use Rattle.rules.specs.declared.condition.Found.{Found}
-use Rattle.rules.proofs.Reading.{Wrote, read-wrote, count_none, two-read, conditions-read, rule-read, head-variable, head-constructor}
-use Rattle.rules.proofs.Terms.{width-append, width-from, width-most, fields-along}
-use Rattle.rules.proofs.Scanning.{fields-here, field-length, end-within, fields-past}
-use Rattle.rules.proofs.Shaping.{conditions-bad, whole-line}
+use Rattle.check_rules.specs.Bound.{window, marked_by, marks_from}
+use Rattle.rules.proofs.Reading.{head-variable, head-constructor}
+use Rattle.rules.proofs.Scanning.{fields-here, field-length, fields-past}
 
 -- ---- one variable's bit
 

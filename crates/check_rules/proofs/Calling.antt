@@ -1,15 +1,14 @@
 -- The loop over a rule's conditions that looks at the numbers of their entries; and the answer to a line. Assumes nothing.
-use mathlib.Core.Path.{◌≡◌, refl, ap, sym, ◌∙◌, subst}
-use mathlib.Core.Bool.{Bool, true, false, ◌&&◌}
+use mathlib.Core.Path.{◌≡◌, refl, ap, sym, ◌∙◌}
+use mathlib.Core.Bool.{Bool, true, false}
 use mathlib.Core.List.{List, [], ◌∷◌}
-use Prim.Native.Nat.{ℕ, suc, ◌+◌, ◌/◌, ◌≤◌, ◌<◌}
+use Prim.Native.Nat.{ℕ, ◌+◌, ◌≤◌, ◌<◌}
 use native.Mathlib.Omega.{arith}
-use lib.Dec.{eqb, ltb}
+use lib.Dec.{eqb}
 use lib.ListN.{length, get_or, get_or-eq_default}
 use borrow.Author.Tests.{lt-ltb, le-ltb, eq-eqb, ne_eqb}
-use Rattle.words.specs.Tests.{if◌then◌else◌}
 use Rattle.checks.specs.Good.{kind_of}
-use Rattle.meaning.proofs.Tests.{impossible, decided}
+use Rattle.meaning.proofs.Tests.{impossible}
 use Rattle.rules.specs.Rule.{Condition, Rule}
 use Rattle.text.specs.Text.{parts}
 use Rattle.rules.specs.Text.{conditions_fields, PlainConditions, read, ReadRule, rule, bad_field, rule_of}

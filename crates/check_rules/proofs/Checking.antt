@@ -2,25 +2,22 @@
 use mathlib.Core.Path.{◌≡◌, refl, ap, sym, ◌∙◌, subst}
 use mathlib.Core.Bool.{Bool, true, false}
 use mathlib.Core.List.{List, [], ◌∷◌}
-use Prim.Native.Nat.{ℕ, suc, ◌+◌, ◌-◌, ◌≤◌, ◌<◌}
+use Prim.Native.Nat.{ℕ, ◌+◌, ◌-◌, ◌≤◌, ◌<◌}
 use native.Mathlib.Omega.{arith}
-use lib.Dec.{ltb, eqb}
-use lib.ListN.{length, take, drop, length-drop, drop_of_length-le}
+use lib.Dec.{ltb}
+use lib.ListN.{length, take, drop, drop_of_length-le}
 use borrow.Author.Tests.{lt-ltb, le-ltb, ltb-true, ltb-false, eq-eqb, ne_eqb}
-use Rattle.words.specs.Tests.{if◌then◌else◌}
-use Rattle.meaning.proofs.Tests.{impossible}
 use Rattle.text.specs.Text.{parts, up_to}
 use Rattle.text.specs.Lines.{line_end, bounds_at}
 use Rattle.text.specs.declared.line.Bounds.{Bounds}
 use Rattle.text.proofs.Parts.{parts_first}
-use Rattle.text.proofs.Lines.{line-inside, line-bytes, line-next, line-last, bounds-fed, bounds-unfed, Fed, bounds-apart, bounds-met}
+use Rattle.text.proofs.Lines.{line-inside, line-bytes, line-next, line-last, bounds-unfed, Fed, bounds-apart, bounds-met}
 use Rattle.rules.specs.Rule.{Rule}
 use Rattle.rules.specs.Text.{ReadRule, rule, bad_field, rule_of}
 use Rattle.rules.specs.Entries.{code_size, rule_code}
 use Rattle.check_rules.specs.Line.{line_of}
 use Rattle.check_rules.specs.Check.{told, refusal, by_line, last_line, text_checked}
 use Rattle.check_rules.specs.declared.line.Line.{Line}
-use Rattle.check_rules.specs.declared.check.Translated.{Translated}
 
 -- Line n begins at a place, and e entries are in use before it.
 pub record Checks (f : ℕ → Bool) (room used : ℕ) (s : List ℕ) (e n at : ℕ) : Type 0 where

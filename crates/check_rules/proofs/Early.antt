@@ -2,7 +2,7 @@
 use mathlib.Core.Path.{◌≡◌, refl, ap, sym, ◌∙◌, subst}
 use mathlib.Core.Logic.{⊎_elim, ◌⊎◌, inl, inr}
 use mathlib.Core.Bool.{Bool, true, false, not, ◌&&◌, ◌||◌}
-use mathlib.Core.List.{List, [], ◌∷◌, ◌++◌, append_assoc, append-nil}
+use mathlib.Core.List.{List, [], ◌∷◌, ◌++◌, append_assoc}
 use Prim.Native.Nat.{ℕ, zero, suc, ◌+◌, ◌-◌, ◌^◌, ◌≤◌, ◌<◌}
 use native.Mathlib.Omega.{arith}
 use lib.Dec.{eqb, ltb}
@@ -15,12 +15,11 @@ use Rattle.meaning.proofs.Tests.{impossible, decided}
 use Rattle.text.specs.Text.{decimal}
 use Rattle.text.proofs.Put.{for-one}
 use Rattle.text.proofs.Decimal.{number-decimal}
-use Rattle.rules.specs.Rule.{Pat, Pats, Condition, Rule, variables, member, none as no-pats, more as more-pats}
-use Rattle.rules.specs.Text.{Fields, pat_fields, pats_fields, conditions_fields, rule_fields, Plain, PlainConditions, plain_end, plain-next, PlainRule, Read, got, bad, later}
+use Rattle.rules.specs.Rule.{Pat, Pats, Condition, Rule, variables, member, none as no-pats}
+use Rattle.rules.specs.Text.{Fields, pat_fields, pats_fields, conditions_fields, rule_fields, Plain, PlainConditions, plain-next, Read, got, bad, later}
 use Rattle.rules.specs.Text.{condition_of, read, rule, rule_from, rule_of}
 use Rattle.rules.specs.Scan.{width, fields_from}
 use Rattle.rules.specs.Condition.{start_at, outcome_at, after_it, found_at, ConditionAt, condition, none as no-condition}
-use Rattle.rules.specs.Shape.{right_at, conditions_at}
 use Rattle.check_rules.specs.Bound.{window, late_from, late, marks_from, RuleLine, Late, one, no, LateIn}
 use Rattle.rules.specs.declared.condition.Found.{Found}
 use Rattle.rules.proofs.Reading.{Wrote, read-wrote, count_none, two-read, conditions-read, rule-read}

@@ -3,7 +3,7 @@ use mathlib.Core.Path.{◌≡◌, refl, ap, sym, ◌∙◌, subst}
 use mathlib.Core.Bool.{Bool, true, false, not, ◌&&◌, ◌||◌}
 use mathlib.Core.Option.{some}
 use mathlib.Core.List.{List, [], ◌∷◌, ◌++◌}
-use Prim.Native.Nat.{ℕ, ◌+◌, ◌-◌}
+use Prim.Native.Nat.{ℕ}
 use lib.Dec.{eqb, ltb, leb}
 use borrow.Author.Tests.{eqb-true, eq-eqb}
 use Rattle.words.specs.Tests.{if◌then◌else◌}
@@ -13,8 +13,8 @@ use Rattle.text.specs.Text.{one_word, number_of, decimal}
 use Rattle.text.proofs.Put.{for-one}
 use Rattle.text.proofs.Decimal.{number-decimal}
 use Rattle.rules.specs.Rule.{Pat, Condition, Rule, variables, member, all_inside, conditions_variables, rule_variables, bound_from, bound}
-use Rattle.rules.specs.Text.{pat_fields, conditions_fields, rule_fields, PlainConditions, plain_end, plain-next, PlainRule, variable, constructor, neither, head_of}
-use Rattle.rules.specs.Text.{rule, rule_of}
+use Rattle.rules.specs.Text.{pat_fields, conditions_fields, rule_fields, PlainConditions, plain_end, plain-next, PlainRule, constructor, neither, head_of}
+use Rattle.rules.specs.Text.{rule_of}
 use Rattle.check_rules.specs.Bound.{late_from, late, all_below, variables_answer, RuleLine, Late, one, no, LateIn, answers_variables}
 use Rattle.rules.proofs.Reading.{number-plain}
 use Rattle.check_rules.proofs.Binding.{head_variables, variables_in, in-append, member-append, in-pat}

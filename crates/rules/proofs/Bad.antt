@@ -1,8 +1,7 @@
 -- The first bad field of a line.
 use mathlib.Core.Path.{◌≡◌, refl, ap, sym, ◌∙◌, subst}
-use mathlib.Core.Bool.{Bool, true, false}
 use mathlib.Core.Option.{Option, none, some}
-use mathlib.Core.List.{List, [], ◌∷◌, ◌++◌, append-nil}
+use mathlib.Core.List.{List, [], ◌∷◌, ◌++◌}
 use Prim.Native.Nat.{ℕ, zero, suc, ◌+◌, ◌≤◌, ◌<◌}
 use native.Mathlib.Omega.{arith}
 use lib.ListN.{length, take}
@@ -11,9 +10,9 @@ use Rattle.text.specs.Text.{one_word, number_of, decimal}
 use Rattle.text.proofs.Put.{for-one}
 use Rattle.text.proofs.Decimal.{number-decimal}
 use Rattle.rules.specs.Rule.{Pat, Pats, var, con, none as no-pats, more as more-pats, Condition, Rule, count}
-use Rattle.rules.specs.Text.{Fields, pat_fields, pats_fields, rule_fields, Plains, plain-none, plain_more, plain-con, PlainRule, Head, variable, constructor, neither, head_of, up_to_six}
-use Rattle.rules.specs.Text.{Read, got, bad, later, first_of, others_of, in_front, parent, condition_of, or_bad, on_head, read, counted, ReadRule, rule, bad_field, rule_from}
-use Rattle.rules.specs.Promises.{FirstBad, BadField}
+use Rattle.rules.specs.Text.{Fields, pats_fields, rule_fields, Plains, plain-none, plain_more, plain-con, PlainRule, Head, variable, constructor, neither, head_of, up_to_six}
+use Rattle.rules.specs.Text.{Read, got, bad, later, first_of, others_of, in_front, parent, condition_of, or_bad, on_head, read, counted, bad_field, rule_from}
+use Rattle.rules.specs.Promises.{BadField}
 use Rattle.rules.proofs.Reading.{ahead, joined, pats-read, rule-read, Wrote, read-wrote, two-wrote}
 
 -- something is read

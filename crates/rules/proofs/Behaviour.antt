@@ -1,6 +1,6 @@
 -- A rule's entries do what the rule does.
-use mathlib.Core.Path.{◌≡◌, refl, ap, sym, ◌∙◌, subst, fun_ext}
-use mathlib.Core.Bool.{Bool, true, false, ◌&&◌, ◌||◌}
+use mathlib.Core.Path.{◌≡◌, refl, sym, ◌∙◌, subst, fun_ext}
+use mathlib.Core.Bool.{Bool, true, false}
 use mathlib.Core.Option.{Option, none, some}
 use mathlib.Core.List.{List, [], ◌∷◌, ◌++◌}
 use Prim.Native.Nat.{ℕ}
@@ -8,23 +8,22 @@ use Rattle.words.specs.Tests.{if◌then◌else◌}
 use Rattle.words.proofs.Tests.{and-true}
 use Rattle.meaning.specs.Term.{Term}
 use Rattle.meaning.specs.Bindings.{has, unbound, masked}
-use Rattle.meaning.specs.Table.{Table, SCOPE}
+use Rattle.meaning.specs.Table.{Table}
 use Rattle.meaning.specs.Plan.{Keep, keep, ret, fail, stuck, ask}
-use Rattle.meaning.specs.Rules.{Visit, apply, Do, does, strategy}
+use Rattle.meaning.specs.Rules.{Visit, apply, Do, does}
 use Rattle.meaning.specs.Derivation.{Out, done, failed, terms, Der, d-ret, d-fail, d-yes, d-no}
-use Rattle.meaning.specs.System.{Env, ◌⊢◌⇒◌}
-use Rattle.meaning.specs.Beginning.{Begun, at-unbound, b-unbound, b-in, b-yes, b-no}
+use Rattle.meaning.specs.System.{Env}
+use Rattle.meaning.specs.Beginning.{Begun, at-unbound, b-in, b-yes, b-no}
 use Rattle.meaning.specs.Free.{Closed}
-use Rattle.meaning.proofs.Tests.{impossible, decided}
 use Rattle.meaning.proofs.Demands.{closed-keeps}
 use Rattle.meaning.proofs.Inversion.{ret_inv, fail-inv}
 use Rattle.rules.specs.Rule.{Pat, Condition, Rule, variables, member, all_inside, conditions_variables, rule_variables, bound_from, bound}
 use Rattle.rules.specs.Meaning.{matched, Built, yes, lacks, built, on_match, on_built, conditions_do, without, rule_do}
-use Rattle.rules.specs.Entries.{mask_of, condition_code, conditions_code, rule_code, code_entries, rule_entries, Has}
+use Rattle.rules.specs.Entries.{mask_of, condition_code, conditions_code, rule_code, rule_entries, Has}
 use Rattle.rules.specs.Promises.{Among, here, there, ClosedCalls, RuleDerives, RuleUnbound, RuleKeeps, Inside, RuleBound}
-use Rattle.rules.proofs.Plans.{End, out, lack, Gives, gives, meets, Alike, alike_refl, alike-trans, alike-ask, not-both, to-plan, to-rule}
+use Rattle.rules.proofs.Plans.{out, lack, Gives, gives, meets, Alike, alike_refl, alike-trans, alike-ask, not-both, to-plan, to-rule}
 use Rattle.rules.proofs.Codes.{code_do, code_alike}
-use Rattle.rules.proofs.Scopes.{has-mask, or-none, member-append, matched-keeps, Bound, BoundAll, in_either, matched-binds, all_in, built-yes}
+use Rattle.rules.proofs.Scopes.{has-mask, or-none, member-append, matched-keeps, BoundAll, in_either, matched-binds, all_in, built-yes}
 
 -- outside vs the bindings b' are b
 abbrev Outside : List ℕ → Env → Env → Type 0

@@ -1,18 +1,14 @@
 -- Where the table has a tree's entries, a visit of it ends as the tree does on values.
-use mathlib.Core.Path.{◌≡◌, refl, ap, sym, ◌∙◌, subst}
+use mathlib.Core.Path.{subst}
 use mathlib.Core.Option.{Option, none, some}
-use mathlib.Core.List.{List, [], ◌∷◌, ◌++◌}
 use Prim.Native.Nat.{ℕ, suc, ◌+◌}
-use native.Mathlib.Omega.{arith}
-use lib.ListN.{length, length-append}
 use Rattle.meaning.specs.Term.{Term}
 use Rattle.meaning.specs.Bindings.{unbound, masked}
 use Rattle.meaning.specs.Table.{Table, Strategy, SEQ, CALL, MATCH, BUILD, SCOPE, WHERE}
-use Rattle.meaning.specs.Plan.{keep, ret, fail, ask}
+use Rattle.meaning.specs.Plan.{keep, ask}
 use Rattle.meaning.specs.Rules.{apply, match, build, Do, strategy, does}
 use Rattle.meaning.specs.System.{Env, ◌∶◌is◌, ◌⊢◌⇒◌}
-use Rattle.rules.specs.Rule.{Pat}
-use Rattle.rules.specs.Meaning.{matched, Built, yes, lacks, built, on_match, on_built}
+use Rattle.rules.specs.Meaning.{matched, Built, built, on_match, on_built}
 use Rattle.rules.specs.Entries
 use Rattle.rules.specs.Entries.{Code, scope, seq, where-of, call, pat_entries, code_size, code_entries, Has}
 use Rattle.rules.proofs.Plans.{then, Alike, alike_refl, alike-trans, alike-ask, ask-done, ask-failed, ask-lacks, inline, to-plan}

@@ -1,9 +1,9 @@
 -- A condition of a line where it stands, from its number and its two terms. Assumes nothing.
-use mathlib.Core.Path.{◌≡◌, refl, ap, sym, ◌∙◌, subst}
+use mathlib.Core.Path.{◌≡◌, ap, sym, ◌∙◌, subst}
 use mathlib.Core.Bool.{true, false}
-use mathlib.Core.Option.{Option, none, some}
+use mathlib.Core.Option.{none, some}
 use mathlib.Core.List.{List, [], ◌∷◌, ◌++◌, append_assoc, append-nil}
-use Prim.Native.Nat.{ℕ, zero, suc, ◌+◌, ◌-◌, ◌≤◌, ◌<◌}
+use Prim.Native.Nat.{ℕ, suc, ◌+◌, ◌-◌, ◌≤◌}
 use native.Mathlib.Omega.{arith}
 use lib.ListN.{length, drop, take}
 use Rattle.meaning.proofs.Tests.{impossible}
@@ -11,10 +11,9 @@ use Rattle.text.specs.Text.{up_to, one_word, number_of, decimal}
 use Rattle.text.proofs.Put.{for-one}
 use Rattle.text.proofs.Decimal.{number-text}
 use Rattle.rules.specs.Rule.{Pat, Condition, none as no-pats, more as more-pats}
-use Rattle.rules.specs.Text.{Fields, pat_fields, conditions_fields, Plain, plain_end, plain-next, Read, got, bad, later, condition_of, or_bad, read}
-use Rattle.rules.specs.Entries.{size}
-use Rattle.rules.specs.Scan.{width, fields_from, finished}
-use Rattle.rules.specs.Condition.{after_it, found_at, lost_after, ConditionAt, condition, none as no-condition}
+use Rattle.rules.specs.Text.{Fields, pat_fields, conditions_fields, plain_end, plain-next, Read, bad, later, condition_of, read}
+use Rattle.rules.specs.Scan.{width, fields_from}
+use Rattle.rules.specs.Condition.{after_it, lost_after, ConditionAt, condition, none as no-condition}
 use Rattle.rules.specs.declared.condition.Found.{Found}
 use Rattle.rules.specs.declared.term.Term.{Term}
 use Rattle.rules.proofs.Reading.{ahead, pat-read}

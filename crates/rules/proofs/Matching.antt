@@ -1,20 +1,18 @@
 -- Where the table has a pattern's entries, matching and building it end as the definitions on values say.
-use mathlib.Core.Path.{◌≡◌, refl, ap, sym, ◌∙◌, subst}
+use mathlib.Core.Path.{◌≡◌, refl, ap, sym, ◌∙◌}
 use mathlib.Core.Bool.{Bool, true, false, ◌&&◌}
 use mathlib.Core.Option.{Option, none, some}
 use mathlib.Core.List.{List, [], ◌∷◌, ◌++◌, map}
 use Prim.Native.Nat.{ℕ, suc, ◌+◌}
 use native.Mathlib.Omega.{arith}
 use lib.Dec.{eqb}
-use lib.ListN.{length, length-append}
+use lib.ListN.{length}
 use borrow.Author.Tests.{eqb-true, eq-eqb}
 use Rattle.words.specs.Tests.{if◌then◌else◌}
 use Rattle.words.proofs.Tests.{and-true}
-use Rattle.meaning.specs.Term.{Term, Terms, node, none as no-terms, more as more-terms, list, unlist, con as conOf, kids, mk}
-use Rattle.meaning.specs.Bindings.{bind}
+use Rattle.meaning.specs.Term.{Term, Terms, node, none as no-terms, more as more-terms, list, con as conOf, kids, mk}
 use Rattle.meaning.specs.Compare.{same}
 use Rattle.meaning.specs.Table.{Table, PVAR, PCON}
-use Rattle.meaning.specs.Plan.{stuck}
 use Rattle.meaning.specs.Rules.{match, build, compare, zip, walk, needed, building, does, Do}
 use Rattle.meaning.specs.Derivation.{Out, done, failed}
 use Rattle.meaning.specs.System.{Env, Task, Agree, ◌∶◌reads◌, ◌⊢◌⇒◌, match-new, match-same, match-differs, match-con, match-failed, match-other, build-bound, build-con, Each, each_none}
@@ -25,7 +23,7 @@ use Rattle.meaning.proofs.Terms.{unlist-list}
 use Rattle.meaning.proofs.Compare.{verdict, compare-ends}
 use Rattle.rules.specs.Rule.{Pat, Pats, var, con, none as no-pats, more as more-pats, count}
 use Rattle.rules.specs.Meaning.{meets, and_then, matched, matched_all, Built, yes, lacks, found, both, under, built, built_all}
-use Rattle.rules.specs.Entries.{Entry, size, sizes, places, pat_entries, pats_entries, Has}
+use Rattle.rules.specs.Entries.{Entry, size, places, pat_entries, pats_entries, Has}
 use Rattle.rules.proofs.Sizes.{length-pat, length-places}
 
 -- how a match ends, by the bindings with which it matches

@@ -1,24 +1,22 @@
 -- What is written of rules is read as it was, and what is read is what was written.
-use mathlib.Core.Path.{◌≡◌, refl, ap, sym, ◌∙◌, subst}
-use mathlib.Core.Logic.{◌↔◌}
-use mathlib.Core.Bool.{Bool, true, false, ◌&&◌}
+use mathlib.Core.Path.{◌≡◌, refl, ap, sym, ◌∙◌}
+use mathlib.Core.Bool.{false}
 use mathlib.Core.Option.{Option, none, some}
 use mathlib.Core.List.{List, [], ◌∷◌, ◌++◌, append_assoc, append-nil}
-use Prim.Native.Nat.{ℕ, zero, suc, ◌+◌, ◌≤◌, ◌<◌}
+use Prim.Native.Nat.{ℕ, zero, suc, ◌+◌, ◌≤◌}
 use native.Mathlib.Omega.{arith}
 use lib.Dec.{eqb, leb}
-use lib.ListN.{length, get_or, length-append}
-use borrow.Author.Tests.{eqb-true, eq-eqb, ne_eqb, leb-true, le-leb}
-use Rattle.words.specs.Tests.{if◌then◌else◌}
+use lib.ListN.{length, length-append}
+use borrow.Author.Tests.{eqb-true, leb-true, le-leb}
 use Rattle.meaning.proofs.Tests.{impossible, decided}
-use Rattle.text.specs.Text.{one_word, number_of, valued, zero_alone, decimal, digits}
+use Rattle.text.specs.Text.{one_word, number_of, valued, decimal}
 use Rattle.text.proofs.Put.{for-one}
 use Rattle.text.proofs.Decimal.{number-decimal}
 use Rattle.text.proofs.Decimal.{number-text}
 use Rattle.rules.specs.Rule.{Pat, Pats, var, con, none as no-pats, more as more-pats, Condition, Rule, count}
 use Rattle.rules.specs.Text.{Fields, pat_fields, pats_fields, conditions_fields, rule_fields, Plain, plain-var, plain-con, Plains, plain-none, plain_more, PlainConditions, plain_end}
 use Rattle.rules.specs.Text.{plain-next, PlainRule, Head, variable, constructor, neither, variable_head, constructor_head, head_of, up_to_six, Read, got, bad, later, first_of, others_of}
-use Rattle.rules.specs.Text.{in_front, parent, condition_of, or_bad, on_head, read, counted, ReadRule, rule, bad_field, rule_from}
+use Rattle.rules.specs.Text.{in_front, parent, condition_of, or_bad, on_head, read, counted, rule, rule_from}
 
 -- ---- terms one after the other
 

@@ -1,23 +1,21 @@
 -- A line's fields from a place on, and what the code's loop over them does.
-use mathlib.Core.Path.{◌≡◌, refl, ap, sym, ◌∙◌, subst}
+use mathlib.Core.Path.{◌≡◌, refl, ap, sym, ◌∙◌}
 use mathlib.Core.Bool.{Bool, true, false}
 use mathlib.Core.Option.{Option, none, some}
 use mathlib.Core.List.{List, [], ◌∷◌, tail}
 use Prim.Native.Nat.{ℕ, zero, suc, ◌+◌, ◌-◌, ◌≤◌, ◌<◌}
 use native.Mathlib.Omega.{arith}
-use native.Mathlib.Numerals.{add-one}
-use lib.Dec.{leb, ltb, eqb}
-use lib.ListN.{length, drop, take, get_or, length-drop, length-take}
+use lib.Dec.{leb, ltb}
+use lib.ListN.{length, drop, take, get_or, length-drop}
 use lib.Seq.{drop-drop, get_or-drop, length-take-le, take_all}
-use borrow.Author.Tests.{eqb-true, eq-eqb, ne_eqb, leb-true, le-leb, lt-leb, ltb-true, ltb-false}
+use borrow.Author.Tests.{eq-eqb, ne_eqb, leb-true, le-leb, lt-leb, ltb-true, ltb-false}
 use Rattle.words.specs.Tests.{if◌then◌else◌}
 use Rattle.meaning.proofs.Tests.{impossible, decided}
 use Rattle.text.specs.Text.{parts, up_to, one_word, number_of}
 use Rattle.text.proofs.Parts.{parts_first, parts-on, parts-end, up_to-take, length-up_to, up_to-stops}
-use Rattle.rules.specs.Text.{Fields, Head, variable, constructor, neither, variable_head, constructor_head, head_of, up_to_six}
+use Rattle.rules.specs.Text.{Fields, variable, constructor, neither, variable_head, constructor_head, head_of, up_to_six}
 use Rattle.rules.specs.Held.{count_held}
-use Rattle.rules.specs.Scan.{fields_from, stopped, finished, by_head, by_own_count, scanned, scanned_count}
-use Rattle.rules.specs.declared.term.Term.{Term}
+use Rattle.rules.specs.Scan.{fields_from, stopped, finished, by_own_count, scanned, scanned_count}
 
 -- ---- what a field is
 

@@ -2,9 +2,9 @@
 use mathlib.Core.Path.{◌≡◌, refl, ap, sym, ◌∙◌, subst}
 use mathlib.Core.Bool.{Bool, true, false}
 use mathlib.Core.List.{List, [], ◌∷◌, ◌++◌, append_assoc, append-nil}
-use Prim.Native.Nat.{ℕ, zero, suc, ◌+◌, ◌*◌, ◌-◌, ◌/◌, ◌%◌, ◌≤◌, ◌<◌}
+use Prim.Native.Nat.{ℕ, suc, ◌+◌, ◌*◌, ◌/◌, ◌%◌, ◌≤◌, ◌<◌}
 use native.Mathlib.Omega.{arith}
-use lib.Dec.{ltb, leb}
+use lib.Dec.{ltb}
 use lib.ListN.{length, length-append}
 use borrow.Author.Tests.{le-leb}
 use Rattle.words.specs.Tests.{if◌then◌else◌}
@@ -12,21 +12,19 @@ use Rattle.meaning.proofs.Tests.{impossible}
 use Rattle.text.specs.Text.{parts, digits, decimal}
 use Rattle.text.proofs.Put.{for-one}
 use Rattle.text.proofs.Decimal.{number-decimal}
-use Rattle.rules.specs.Rule.{Pat, Pats, var, con, Condition, Rule, count, none as no-pats, more as more-pats}
-use Rattle.rules.specs.Text.{Fields, pat_fields, pats_fields, conditions_fields, rule_fields, Plain, PlainConditions, plain_end, plain-next, PlainRule, Read, got, bad, later}
-use Rattle.rules.specs.Text.{condition_of, read, ReadRule, rule, bad_field, rule_from, rule_of}
-use Rattle.rules.specs.Entries
+use Rattle.rules.specs.Rule.{Pat, Pats, var, con, Condition, Rule, none as no-pats, more as more-pats}
+use Rattle.rules.specs.Text.{Fields, pat_fields, pats_fields, conditions_fields, rule_fields, Plain, PlainConditions, plain_end, plain-next, PlainRule, Read, bad, later}
+use Rattle.rules.specs.Text.{condition_of, read, rule, bad_field, rule_from, rule_of}
 use Rattle.rules.specs.Entries.{size, sizes, code_size, condition_code, conditions_code, rule_code}
-use Rattle.rules.specs.Scan.{width, fields_from, finished}
-use Rattle.rules.specs.Condition.{after_it, found_at, lost_after, ConditionAt, condition, none as no-condition}
+use Rattle.rules.specs.Scan.{width, fields_from}
+use Rattle.rules.specs.Condition.{after_it, found_at, ConditionAt, condition, none as no-condition}
 use Rattle.rules.specs.Shape.{right_at, conditions_at, rule_size, shape_of}
 use Rattle.rules.specs.declared.condition.Found.{Found}
-use Rattle.rules.specs.declared.shape.Shape.{Shape}
 use Rattle.rules.specs.declared.term.Term.{Term}
 use Rattle.rules.proofs.Reading.{ahead, pat-read, rule-read}
 use Rattle.rules.proofs.Bad.{read-within}
 use Rattle.rules.proofs.Scanning.{fields-past}
-use Rattle.rules.proofs.Terms.{TermFound, term-good, term-bad, width-append, length-width, size-most, width-most}
+use Rattle.rules.proofs.Terms.{TermFound, term-good, term-bad, width-append, length-width, width-most}
 use Rattle.rules.proofs.Conditions.{good-bad}
 
 -- ---- conditions, one after the other

@@ -1,19 +1,19 @@
 -- One term of a line where it stands: the term that its fields are, and the fields after it; or the first bad field.
 -- Assumes nothing.
-use mathlib.Core.Path.{◌≡◌, refl, ap, sym, ◌∙◌, subst}
+use mathlib.Core.Path.{◌≡◌, refl, ap, sym, ◌∙◌}
 use mathlib.Core.Bool.{Bool, true, false}
 use mathlib.Core.Option.{Option, none, some}
-use mathlib.Core.List.{List, [], ◌∷◌, ◌++◌, append_assoc, append-nil}
-use Prim.Native.Nat.{ℕ, zero, suc, ◌+◌, ◌-◌, ◌≤◌, ◌<◌}
+use mathlib.Core.List.{List, [], ◌∷◌, ◌++◌, append-nil}
+use Prim.Native.Nat.{ℕ, zero, suc, ◌+◌, ◌-◌, ◌≤◌}
 use native.Mathlib.Omega.{arith}
-use lib.Dec.{leb, ltb, eqb}
+use lib.Dec.{leb, eqb}
 use lib.ListN.{length, drop, take, length-append, length-drop}
-use borrow.Author.Tests.{leb-true, leb-false, le-leb, lt-leb}
+use borrow.Author.Tests.{leb-true, leb-false, le-leb}
 use Rattle.words.specs.Tests.{if◌then◌else◌}
 use Rattle.meaning.proofs.Tests.{impossible, decided}
 use Rattle.text.specs.Text.{parts, grown, up_to, one_word, number_of}
 use Rattle.rules.specs.Rule.{Pat, Pats, var, con, none as no-pats, more as more-pats, count}
-use Rattle.rules.specs.Text.{Fields, pat_fields, pats_fields, Plain, Plains, plain_more, Head, variable, constructor, neither, head_of, up_to_six, Read, bad, read}
+use Rattle.rules.specs.Text.{Fields, pat_fields, pats_fields, Plain, Plains, plain_more, Head, variable, constructor, neither, head_of, up_to_six, bad, read}
 use Rattle.rules.specs.Entries.{size, sizes}
 use Rattle.rules.specs.Scan.{width, fields_from, scanned, scanned_count, by_head, by_own_count, finished, stopped}
 use Rattle.rules.specs.declared.term.Term.{Term}

@@ -1,14 +1,11 @@
 -- The text of rules is read as the rules, and a text that is read is the rules' own.
-use mathlib.Core.Path.{◌≡◌, refl, ap, sym, ◌∙◌, subst}
-use mathlib.Core.Logic.{◌↔◌}
-use mathlib.Core.Bool.{Bool, true, false, ◌&&◌}
-use mathlib.Core.Option.{Option, none, some}
+use mathlib.Core.Path.{◌≡◌, refl, ap, sym, ◌∙◌}
 use mathlib.Core.List.{List, [], ◌∷◌, ◌++◌, append_assoc, append-nil}
-use Prim.Native.Nat.{ℕ, zero, suc, ◌+◌, ◌≤◌, ◌<◌}
+use Prim.Native.Nat.{ℕ, suc, ◌<◌}
 use native.Mathlib.Omega.{arith}
 use lib.ListN.{length}
 use Rattle.meaning.proofs.Tests.{impossible}
-use Rattle.text.specs.Text.{parts, joined, joined_after, up_to, decimal}
+use Rattle.text.specs.Text.{parts, joined, joined_after}
 use Rattle.text.proofs.Parts.{parts_first}
 use Rattle.text.proofs.Separators.{Clear, nil, one, clear-append, parts-clear, parts_cut, joined-parts}
 use Rattle.text.proofs.Decimal.{digits-clear}
@@ -16,7 +13,7 @@ use Rattle.rules.specs.Rule.{Pat, Pats, var, con, none as no-pats, more as more-
 use Rattle.rules.specs.Text.{Fields, pat_fields, pats_fields, conditions_fields, rule_fields, tabbed, fields_text, rule_text, rules_text, PlainRule, PlainRules, no-rules, next-rule, Read}
 use Rattle.rules.specs.Text.{got, bad, read, ReadRule, rule, bad_field, rule_from, rule_of, Meant, rules, bad_at, before, or_bad_at, unended, last_part, read_lines, meant}
 use Rattle.rules.specs.Promises.{TextIsRules, OneReading}
-use Rattle.rules.proofs.Reading.{rule-read, Wrote, read-wrote, two-wrote}
+use Rattle.rules.proofs.Reading.{rule-read, read-wrote, two-wrote}
 
 -- no byte of the fields is c
 data AllClear (c : ℕ) : Fields → Type 0 where

@@ -1,20 +1,17 @@
 -- What the code's loop over a term's fields says of the grammar: it goes through terms as they are written, or stops at the
 -- first field that no reading passes.
-use mathlib.Core.Path.{◌≡◌, refl, ap, sym, ◌∙◌, subst}
-use mathlib.Core.Bool.{Bool, true, false}
+use mathlib.Core.Path.{◌≡◌, refl, ap, sym, ◌∙◌}
 use mathlib.Core.Option.{Option, none, some}
-use mathlib.Core.List.{List, [], ◌∷◌, ◌++◌, append_assoc}
-use Prim.Native.Nat.{ℕ, zero, suc, ◌+◌, ◌≤◌, ◌<◌}
+use mathlib.Core.List.{List, [], ◌∷◌, ◌++◌}
+use Prim.Native.Nat.{ℕ, zero, suc, ◌+◌, ◌≤◌}
 use native.Mathlib.Omega.{arith}
-use lib.ListN.{length, length-append}
-use Rattle.meaning.proofs.Tests.{impossible}
+use lib.ListN.{length}
 use Rattle.text.specs.Text.{one_word, number_of, decimal}
 use Rattle.rules.specs.Rule.{Pat, Pats, var, con, none as no-pats, more as more-pats, count}
-use Rattle.rules.specs.Text.{Fields, pat_fields, pats_fields, Plain, plain-var, plain-con, Plains, plain-none, plain_more, Head, variable, constructor, neither, head_of, up_to_six, Read}
-use Rattle.rules.specs.Text.{got, bad, later, first_of, others_of, in_front, parent, or_bad, on_head, read, counted}
+use Rattle.rules.specs.Text.{Fields, pat_fields, pats_fields, plain-var, plain-con, Plains, plain-none, plain_more, Head, variable, constructor, neither, head_of, up_to_six, Read}
+use Rattle.rules.specs.Text.{bad, later, first_of, others_of, in_front, parent, read, counted}
 use Rattle.rules.specs.Entries.{size, sizes}
-use Rattle.rules.specs.Scan.{width, stopped, finished, by_head, by_own_count, scanned, scanned_count}
-use Rattle.rules.specs.declared.term.Term.{Term}
+use Rattle.rules.specs.Scan.{width, stopped, finished, scanned, scanned_count}
 use Rattle.rules.proofs.Reading.{head-var-text, head-con-text, count-text, count-first, count-others, fields-apart, plain-first, plain-others}
 use Rattle.rules.proofs.Scanning.{scan-end}
 

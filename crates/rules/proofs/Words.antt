@@ -1,15 +1,14 @@
 -- Words that are a rule's entries, and the table that they are; entries are those of one rule.
 use mathlib.Core.Path.{◌≡◌, refl, ap, sym, ◌∙◌, subst}
 use mathlib.Core.List.{List, [], ◌∷◌, ◌++◌, append_assoc, append-nil}
-use Prim.Native.Nat.{ℕ, zero, suc, ◌+◌, ◌-◌, ◌≤◌, ◌<◌, ◌*◌, ◌/◌, ◌%◌}
+use Prim.Native.Nat.{ℕ, suc, ◌+◌, ◌≤◌, ◌*◌, ◌/◌, ◌%◌}
 use native.Mathlib.Omega.{arith}
-use lib.ListN.{length, get_or, take, replicate, length-append}
-use Rattle.words.specs.Words.{word_at}
+use lib.ListN.{length}
 use Rattle.checks.specs.Good.{number}
-use Rattle.meaning.specs.Table.{Strategy, SEQ, CALL, MATCH, BUILD, SCOPE, WHERE, Pattern, PVAR, PCON, Table, by_kind, table_by, table}
+use Rattle.meaning.specs.Table.{SEQ, CALL, MATCH, BUILD, SCOPE, WHERE, PVAR, PCON, by_kind, table_by, table}
 use Rattle.meaning.proofs.Tests.{impossible}
-use Rattle.rules.specs.Rule.{Pat, Pats, var, con, none, more, Condition, Rule, count}
-use Rattle.rules.specs.Text.{Plain, plain-var, plain-con, Plains, plain-none, plain_more, PlainConditions, plain_end, plain-next, PlainRule}
+use Rattle.rules.specs.Rule.{Pat, Pats, var, con, none, more, Condition, count}
+use Rattle.rules.specs.Text.{Plain, plain-con, Plains, plain_more, PlainConditions, plain_end, plain-next}
 use Rattle.rules.specs.Entries
 use Rattle.rules.specs.Entries.{Code, scope, seq, where-of, call, mask_of, condition_code, conditions_code, rule_code, Entry, strategy, pattern, size, sizes, places, pat_entries}
 use Rattle.rules.specs.Entries.{pats_entries, code_size, code_entries, rule_entries, Is, Has, row_of, Row, Rows}

@@ -2,7 +2,7 @@
 use Rattle.std.specs.Prelude.{◌≡◌, true, false, List, [], ◌∷◌, ◌++◌, ℕ, ◌+◌, length}
 use Rattle.text.specs.Text.{decimal}
 use Rattle.rules.specs.Rule.{Condition}
-use Rattle.rules.specs.Text.{Fields, pat_fields, conditions_fields, PlainConditions, bad, read}
+use Rattle.rules.specs.Text.{pat_fields, conditions_fields, PlainConditions, bad, read}
 use Rattle.rules.specs.Entries.{size}
 use Rattle.rules.specs.Scan.{width, fields_from}
 use Rattle.rules.specs.declared.condition.Found.{Found}

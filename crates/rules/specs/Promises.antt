@@ -1,5 +1,5 @@
 -- What is promised of a rule's entries, and of the text of rules.
-use Rattle.std.specs.Prelude.{◌≡◌, true, ◌↔◌, List, [], ◌∷◌, ◌++◌, ℕ, suc, ◌≤◌, ◌<◌, length, take}
+use Rattle.std.specs.Prelude.{◌≡◌, true, ◌↔◌, List, ◌∷◌, ◌++◌, ℕ, suc, ◌≤◌, ◌<◌, length, take}
 use Rattle.meaning.specs.Term.{Term}
 use Rattle.meaning.specs.Table.{Table, table, MATCH, BUILD, SCOPE, PCON}
 use Rattle.meaning.specs.System.{Env, ◌∶◌is◌, ◌∶◌reads◌, ◌⊢◌⇒◌}

@@ -1,6 +1,6 @@
 -- One term of a line's fields, as the code goes through them: w terms are wanted, the next field begins at `at`, n fields
 -- were good and s entries are made.
-use Rattle.std.specs.Prelude.{Bool, true, false, List, [], ◌∷◌, ℕ, zero, suc, ◌+◌, leb, length, drop}
+use Rattle.std.specs.Prelude.{true, false, List, [], ◌∷◌, ℕ, zero, suc, ◌+◌, leb, length, drop}
 use Rattle.std.proofs.Math.Option.{Option, none, some}
 use Rattle.words.specs.Tests.{if◌then◌else◌}
 use Rattle.text.specs.Text.{parts, one_word, number_of}

@@ -19,7 +19,7 @@ use Rattle.check_rules.proofs.Early.{its-rule}
 use Rattle.translate.specs.Added.{put_entries, Placed, LineFits, LineIn}
 use Rattle.translate.specs.Bare.{scope_put, bare_body, Fits, PlacedIn}
 use Rattle.translate.specs.Links.{steps_table}
-use Rattle.translate.proofs.Written.{length-put, put-rows, put-over}
+use Rattle.translate.proofs.Written.{put-rows, put-over}
 use Rattle.translate.proofs.Linking.{body_code}
 use Rattle.translate.proofs.Placing.{placed-more}
 use Rattle.translate.proofs.Preorder.{body-eights, bare-eights, body-long, body-linked}

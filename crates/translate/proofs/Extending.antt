@@ -4,13 +4,12 @@ use mathlib.Core.Bool.{true, false}
 use mathlib.Core.List.{List, [], ◌∷◌}
 use Prim.Native.Nat.{ℕ, ◌+◌, ◌-◌, ◌≤◌, ◌<◌}
 use native.Mathlib.Omega.{arith}
-use lib.ListN.{length, get_or, get_or-eq_default}
+use lib.ListN.{get_or-eq_default}
 use Rattle.words.specs.Words.{word_at, rows}
 use Rattle.checks.specs.Kinds.{ours}
-use Rattle.checks.specs.Good.{kind_of, operand_count, argument_of, number, mask_by}
+use Rattle.checks.specs.Good.{kind_of, argument_of, number, mask_by}
 use Rattle.checks.specs.Plain.{Entry}
-use Rattle.meaning.specs.Table.{Strategy, FAIL, MATCH, BUILD, SCOPE, Pattern, PVAR, PCON, Table, table, table_by, by_kind, operands, six}
-use Rattle.meaning.specs.System.{◌∶◌is◌, ◌∶◌reads◌}
+use Rattle.meaning.specs.Table.{Strategy, FAIL, MATCH, BUILD, SCOPE, PVAR, PCON, table, table_by, by_kind, operands}
 use Rattle.meaning.specs.Free.{In, here, there, operands_of}
 use Rattle.meaning.proofs.Tests.{impossible}
 use Rattle.free.proofs.Entries.{plain, Shape, is_plain, is-match, is-build, is-scope, is-variable, is-con, shape}

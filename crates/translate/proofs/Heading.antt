@@ -2,16 +2,15 @@
 -- what was put is all. Assumes nothing.
 use mathlib.Core.Path.{◌≡◌, refl, ap, sym, ◌∙◌, subst}
 use mathlib.Core.List.{List, [], ◌∷◌, ◌++◌}
-use Prim.Native.Nat.{ℕ, suc, ◌+◌, ◌≤◌, ◌<◌}
+use Prim.Native.Nat.{ℕ, ◌+◌, ◌≤◌, ◌<◌}
 use native.Mathlib.Omega.{arith}
 use lib.ListN.{length, length-append}
 use Rattle.words.specs.Words.{rows}
-use Rattle.rules.specs.Rule.{Pat, Condition, Rule}
-use Rattle.rules.specs.Text.{pat_fields, conditions_fields, rule_fields, PlainConditions, ReadRule, rule, bad_field, rule_of}
+use Rattle.rules.specs.Rule.{Condition, Rule}
+use Rattle.rules.specs.Text.{pat_fields, conditions_fields, rule_fields, PlainConditions, rule, rule_of}
 use Rattle.rules.specs.Entries.{Entry}
 use Rattle.rules.specs.Scan.{fields_from}
 use Rattle.rules.specs.Condition.{after_it, ConditionAt}
-use Rattle.check_rules.specs.Bound.{RuleLine}
 use Rattle.rules.specs.declared.condition.Found.{Found}
 use Rattle.rules.proofs.Scanning.{fields-past}
 use Rattle.check_rules.proofs.Early.{First, first_of, no-conditions, its-rule, right-text, conditions-text, conditions-inside}

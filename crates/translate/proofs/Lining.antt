@@ -1,7 +1,7 @@
 -- The loop that puts the rules of a text: what is left to put after what was put is all. Assumes nothing.
 use mathlib.Core.Path.{◌≡◌, refl, ap, sym, ◌∙◌, subst}
 use mathlib.Core.Logic.{⊎_elim}
-use mathlib.Core.List.{List, [], ◌∷◌, ◌++◌}
+use mathlib.Core.List.{List, [], ◌∷◌}
 use Prim.Native.Nat.{ℕ, suc, ◌+◌, ◌-◌, ◌≤◌, ◌<◌}
 use native.Mathlib.Omega.{arith}
 use lib.ListN.{length, take, drop, drop_of_length-le}
@@ -14,10 +14,10 @@ use Rattle.text.specs.declared.line.Bounds.{Bounds}
 use Rattle.text.proofs.Parts.{parts_first}
 use Rattle.text.proofs.Lines.{Fed, line-next, line-last, line-bytes, bounds-apart, bounds-met}
 use Rattle.rules.specs.Rule.{Rule}
-use Rattle.rules.specs.Text.{ReadRule, rule, bad_field, rule_of, Meant, rules, bad_at, before, or_bad_at, unended, last_part, read_lines, meant}
-use Rattle.rules.specs.Entries.{Entry, rule_entries}
+use Rattle.rules.specs.Text.{ReadRule, rule, bad_field, rule_of, rules, before, or_bad_at, unended, last_part, read_lines, meant}
+use Rattle.rules.specs.Entries.{rule_entries}
 use Rattle.rules.specs.Shape.{rule_size}
-use Rattle.check_rules.specs.Promises.{Allowed, AllAllowed, none_left, and-more, entries_of, Accepted}
+use Rattle.check_rules.specs.Promises.{Allowed, AllAllowed, and-more, entries_of, Accepted}
 use Rattle.rules.proofs.Sizes.{length-code}
 use Rattle.rules.proofs.Texts.{before-rules, text-is-rules}
 use Rattle.translate.specs.Added.{put_entries, rules_entries, with_rules, Placed, LineFits, LineIn}

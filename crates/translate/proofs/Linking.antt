@@ -8,7 +8,7 @@ use Rattle.meaning.specs.Table.{SEQ, CALL, MATCH, BUILD, SCOPE, WHERE, PVAR, PCO
 use Rattle.rules.specs.Rule.{Pat, Pats, var, con, none as no-pats, more as more-pats, count, Condition, Rule}
 use Rattle.rules.specs.Entries
 use Rattle.rules.specs.Entries.{Code, scope, seq, where-of, call, condition_code, conditions_code, Entry, strategy, pattern, size, sizes, places, pat_entries, pats_entries, code_size, code_entries}
-use Rattle.translate.specs.Bare.{bare_pat, bare_pats, body_opened, build_put, bare_condition, bare_conditions, bare_body}
+use Rattle.translate.specs.Bare.{bare_pat, bare_pats, build_put, bare_condition, bare_conditions, bare_body}
 
 mutual
   pub data Tree : Type 0 where

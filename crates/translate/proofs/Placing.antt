@@ -1,17 +1,17 @@
 -- Entries put one after the other, and the bare entries of a rule's line. Assumes nothing.
 use mathlib.Core.Path.{◌≡◌, refl, ap, sym, ◌∙◌, subst}
 use mathlib.Core.List.{List, [], ◌∷◌, ◌++◌, append_assoc, append-nil}
-use Prim.Native.Nat.{ℕ, zero, suc, ◌+◌, ◌-◌, ◌/◌, ◌%◌, ◌≤◌, ◌<◌}
+use Prim.Native.Nat.{ℕ, suc, ◌+◌, ◌/◌, ◌%◌, ◌≤◌}
 use native.Mathlib.Omega.{arith}
-use lib.ListN.{length, replicate, length-append}
+use lib.ListN.{length, length-append}
 use Rattle.words.specs.Words.{put_row}
-use Rattle.meaning.specs.Table.{SEQ, CALL, MATCH, BUILD, SCOPE, WHERE, PVAR, PCON}
-use Rattle.text.specs.Text.{one_word, number_of, decimal}
+use Rattle.meaning.specs.Table.{SEQ, CALL, MATCH, BUILD, SCOPE, WHERE}
+use Rattle.text.specs.Text.{decimal}
 use Rattle.text.proofs.Put.{for-one}
 use Rattle.text.proofs.Decimal.{number-decimal}
-use Rattle.rules.specs.Rule.{Pat, Pats, var, con, none as no-pats, more as more-pats, Condition, Rule, count}
-use Rattle.rules.specs.Text.{Fields, pat_fields, pats_fields, Plain, plain-var, plain-con, Plains, plain-none, plain_more, head_of, up_to_six}
-use Rattle.rules.specs.Entries.{Entry, strategy, pattern, row_of}
+use Rattle.rules.specs.Rule.{Pat, Pats, var, con, none as no-pats, more as more-pats, Condition, count}
+use Rattle.rules.specs.Text.{Fields, pat_fields, pats_fields, Plain, plain-var, plain-con, Plains, plain_more}
+use Rattle.rules.specs.Entries.{Entry, strategy, row_of}
 use Rattle.rules.specs.Scan.{fields_from}
 use Rattle.translate.specs.Added.{put_entries, Placed}
 use Rattle.translate.specs.Bare.{scope_put, bare_pat, bare_pats, bare_of, bare_count, condition_opened, call_put, bare_condition, bare_found}

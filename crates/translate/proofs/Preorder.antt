@@ -1,24 +1,23 @@
 -- Bare entries of a tree, linked from the last back, are its entries in preorder: an entry's first operand is the next entry, and
 -- each further one begins where the one before it ends. Assumes nothing.
 use mathlib.Core.Path.{◌≡◌, refl, ap, sym, ◌∙◌, subst}
-use mathlib.Core.List.{List, [], ◌∷◌, ◌++◌, append-nil}
+use mathlib.Core.List.{List, [], ◌∷◌, ◌++◌}
 use Prim.Native.Nat.{ℕ, zero, suc, ◌+◌, ◌-◌, ◌*◌, ◌≤◌, ◌<◌}
 use native.Mathlib.Omega.{arith}
 use lib.ListN.{length, get_or, set, replicate, length-set, length-append, length-replicate}
 use lib.Seq.{ext_get_or, sets, get_or-set_same, get_or-set_other}
 use Rattle.words.specs.Words.{word_at, rows, put_row}
 use Rattle.meaning.specs.Table.{SEQ, CALL, MATCH, BUILD, WHERE, PVAR, PCON}
-use Rattle.rules.specs.Rule.{Pat, Pats, var, con, none as no-pats, more as more-pats, count, Condition, Rule}
+use Rattle.rules.specs.Rule.{Pat, Pats, Condition, Rule}
 use Rattle.rules.specs.Text.{Plain, plain-var, plain-con, Plains, plain-none, plain_more, PlainConditions, plain_end, plain-next, PlainRule}
-use Rattle.rules.specs.Entries
 use Rattle.rules.specs.Entries.{condition_code, conditions_code, Entry, strategy, pattern, code_size, code_entries, row_of, Row, Rows}
 use Rattle.rules.proofs.Words.{rows_append}
 use Rattle.translate.specs.Added.{put_entries}
 use Rattle.translate.specs.Bare.{bare_body}
 use Rattle.translate.specs.Links.{inner_of, filled, row_at, row_linked, steps_table, steps_ends}
 use Rattle.translate.specs.declared.link.Linked.{Linked}
-use Rattle.translate.proofs.Written.{Eights, no-entry, next-entry, eights-append, length-put, put_other, put-rows, row-swap, put-swap}
-use Rattle.translate.proofs.Linking.{Tree, Trees, tree, none, more, many, size_t, sizes_t, places_t, entries_t, entries_ts, bare_t, bare_ts, length-bare, length-bares, length-entries}
+use Rattle.translate.proofs.Written.{Eights, no-entry, next-entry, eights-append, length-put, put_other, row-swap, put-swap}
+use Rattle.translate.proofs.Linking.{Tree, Trees, tree, none, more, many, size_t, sizes_t, places_t, entries_t, entries_ts, bare_t, bare_ts, length-bare, length-entries}
 use Rattle.translate.proofs.Linking.{length-all, length-places_t, pat_tree, pat_trees, code_tree, size-code, entries-code, many-pats, body_code, body-tree}
 use Rattle.translate.proofs.Links.{steps-table, steps-ends}
 use Rattle.translate.proofs.Placing.{put-append}

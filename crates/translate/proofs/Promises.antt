@@ -1,35 +1,32 @@
 -- What is promised of a translation. Assumes nothing.
 use mathlib.Core.Path.{◌≡◌, refl, ap, sym, ◌∙◌, subst}
-use mathlib.Core.Logic.{◌↔◌, ⊎_elim}
+use mathlib.Core.Logic.{⊎_elim}
 use mathlib.Core.Bool.{Bool, true, false, ◌&&◌}
-use mathlib.Core.List.{List, [], ◌∷◌, ◌++◌}
+use mathlib.Core.List.{List, [], ◌∷◌}
 use Prim.Native.Nat.{ℕ, zero, suc, ◌+◌, ◌*◌, ◌/◌, ◌%◌, ◌≤◌, ◌<◌}
 use native.Mathlib.Omega.{arith}
 use lib.Dec.{eqb, leb}
-use lib.ListN.{length, get_or, take, length-append}
+use lib.ListN.{length, get_or, length-append}
 use lib.Seq.{length-take-le, get_or-take}
-use borrow.Author.Tests.{eqb-true, eqb-false, eq-eqb, ne_eqb, le-leb, leb-true}
+use borrow.Author.Tests.{eqb-true, eqb-false, le-leb, leb-true}
 use Rattle.words.specs.Tests.{if◌then◌else◌, every}
 use Rattle.words.specs.Words.{word_at, rows}
 use Rattle.words.proofs.Tests.{below-or-from}
 use Rattle.checks.specs.Kinds.{ours, lowest, highest_by, argument_words_by, operands_from_by, lines, line_of, kind, sort_of, takes}
 use Rattle.checks.specs.Good.{kind_of, operand_count, number, argument_by, operand_by}
 use Rattle.checks.proofs.Tables.{at_each}
-use Rattle.checks.specs.Plain.{TableLength, Entry as Good}
+use Rattle.checks.specs.Plain.{Entry as Good}
 use Rattle.checks.specs.Checked.{checked, table_length_fits, table_checked}
-use Rattle.checks.proofs.Good.{operand_count-six}
 use Rattle.checks.proofs.Promises.{table_passes, entry_plain}
 use Rattle.meaning.specs.Table.{table}
-use Rattle.meaning.specs.Free.{Closed}
-use Rattle.meaning.proofs.Tests.{impossible, decided}
+use Rattle.meaning.proofs.Tests.{decided}
 use Rattle.rules.specs.Rule.{Condition, Rule}
-use Rattle.rules.specs.Text.{PlainRule, PlainRules, no-rules, next-rule, Meant, rules, bad_at, meant}
-use Rattle.rules.specs.Entries.{Entry, code_size, code_entries, rule_code, rule_entries, row_of, Rows}
+use Rattle.rules.specs.Text.{PlainRule, PlainRules, no-rules, next-rule, Meant, rules, meant}
+use Rattle.rules.specs.Entries.{code_entries, rule_code, rule_entries, row_of, Rows}
 use Rattle.rules.specs.Shape.{rule_size}
-use Rattle.check_rules.specs.Check.{told}
-use Rattle.check_rules.specs.Answer.{in_use, used_checked, RulesChecked}
-use Rattle.rules.specs.Promises.{Among, ClosedCalls, Extends}
-use Rattle.check_rules.specs.Promises.{Allowed, AllAllowed, none_left, and-more, entries_of, Accepted}
+use Rattle.check_rules.specs.Answer.{in_use, used_checked}
+use Rattle.rules.specs.Promises.{Among, ClosedCalls}
+use Rattle.check_rules.specs.Promises.{Allowed, AllAllowed, and-more, entries_of, Accepted}
 use Rattle.check_rules.specs.declared.check.Translated.{Translated}
 use Rattle.rules.proofs.Sizes.{length-code}
 use Rattle.rules.proofs.Words.{rows_append, rows-has}
@@ -42,7 +39,6 @@ use Rattle.check_rules.proofs.Accepting.{accepts, accepts_numbers}
 use Rattle.translate.specs.Added.{put_entries, rules_entries, with_rules, Translating}
 use Rattle.translate.specs.Promises.{Agree, Kept, Keeps, Faultless, Begins, first, later, Behaves, RulesBehave}
 use Rattle.translate.proofs.Written.{Eights, no-entry, next-entry, eights-append, length-put, put_other, put-rows}
-use Rattle.translate.proofs.Linking.{body_code}
 use Rattle.translate.proofs.Preorder.{body-eights, rows_same}
 use Rattle.translate.proofs.Sound.{rule-good}
 use Rattle.translate.proofs.Extending.{extends}

@@ -1,19 +1,19 @@
 -- The loop that puts the bare entries of a term: what is left to put after what was put is all. Assumes nothing.
-use mathlib.Core.Path.{◌≡◌, refl, ap, sym, ◌∙◌, subst}
+use mathlib.Core.Path.{◌≡◌, refl, ap, sym, ◌∙◌}
 use mathlib.Core.Option.{Option, none, some}
-use mathlib.Core.List.{List, [], ◌∷◌, ◌++◌}
-use Prim.Native.Nat.{ℕ, zero, suc, ◌+◌, ◌-◌, ◌*◌, ◌/◌, ◌≤◌, ◌<◌}
+use mathlib.Core.List.{List, [], ◌∷◌}
+use Prim.Native.Nat.{ℕ, zero, suc, ◌+◌, ◌-◌, ◌*◌, ◌≤◌, ◌<◌}
 use native.Mathlib.Omega.{arith}
 use lib.ListN.{length, take, drop, replicate}
 use Rattle.words.specs.Words.{rows, put_row}
 use Rattle.meaning.specs.Table.{PVAR, PCON}
 use Rattle.text.specs.Text.{up_to, one_word, number_of}
-use Rattle.rules.specs.Text.{Fields, Head, variable, constructor, neither, head_of, up_to_six}
+use Rattle.rules.specs.Text.{Fields, variable, constructor, neither, head_of, up_to_six}
 use Rattle.rules.specs.Held.{count_held}
 use Rattle.rules.specs.Entries.{Entry, pattern, row_of}
 use Rattle.rules.specs.Scan.{fields_from}
 use Rattle.translate.specs.Added.{put_entries, Placed}
-use Rattle.translate.specs.Bare.{on_head, on_count, bare_of, bare_count}
+use Rattle.translate.specs.Bare.{on_count, bare_of, bare_count}
 use Rattle.rules.proofs.Scanning.{SixMost, six-most, fields-here, fields-past}
 
 -- ---- rows

@@ -1,12 +1,12 @@
 -- The entries of a rule have no fault, in any table that has them and the RECs that they call. Assumes nothing.
 use mathlib.Core.Path.{◌≡◌, refl, ap, sym, ◌∙◌, subst}
 use mathlib.Core.Logic.{◌≢◌, ⊎_elim}
-use mathlib.Core.Bool.{Bool, true, false, ◌&&◌}
+use mathlib.Core.Bool.{true}
 use mathlib.Core.List.{List, [], ◌∷◌, ◌++◌}
 use Prim.Native.Nat.{ℕ, zero, suc, ◌+◌, ◌-◌, ◌*◌, ◌/◌, ◌%◌, ◌^◌, ◌≤◌, ◌<◌}
 use native.Mathlib.Omega.{arith}
-use lib.Dec.{eqb, ltb}
-use lib.ListN.{length, get_or, replicate, length-append, get_or-replicate, get_or-append, get_or-eq_default, length-replicate}
+use lib.Dec.{ltb}
+use lib.ListN.{length, get_or, replicate, get_or-replicate, get_or-append, get_or-eq_default}
 use lib.Seq.{get_or-append-add}
 use borrow.Author.Tests.{ltb-true}
 use Rattle.words.specs.Words.{word_at, rows}
@@ -17,14 +17,14 @@ use Rattle.checks.specs.Good.{kind_of, operand_count, number, argument_by, opera
 use Rattle.checks.specs.Plain.{Counted, ArguedBy, Entry as Good}
 use Rattle.checks.proofs.Good.{argument-word, operands-word, operand-word, operand-scope}
 use Rattle.meaning.specs.Table.{SEQ, CALL, MATCH, BUILD, SCOPE, WHERE, PVAR, PCON}
-use Rattle.rules.specs.Rule.{Pat, Pats, var, con, none, more, Condition, Rule, count, variables, variables_all, conditions_variables, rule_variables}
+use Rattle.rules.specs.Rule.{Pat, Pats, var, con, none, more, Condition, Rule, variables, variables_all, conditions_variables, rule_variables}
 use Rattle.rules.specs.Text.{Plain, plain-var, plain-con, Plains, plain-none, plain_more, PlainConditions, plain_end, plain-next, PlainRule}
 use Rattle.check_rules.specs.Bound.{all_below}
 use Rattle.rules.specs.Entries
 use Rattle.rules.specs.Entries.{Code, scope, seq, where-of, call, mask_of, condition_code, conditions_code, rule_code, Entry, strategy, pattern, size, sizes, places, pat_entries, pats_entries}
 use Rattle.rules.specs.Entries.{code_size, code_entries, rule_entries, eight, row_of, Row, Rows}
 use Rattle.rules.specs.Promises.{Among, here, there}
-use Rattle.rules.proofs.Sizes.{length-pat, length-pats, length-code, length-places}
+use Rattle.rules.proofs.Sizes.{length-pat, length-code, length-places}
 use Rattle.rules.proofs.Words.{rows_append}
 use Rattle.translate.proofs.Masking.{mask_below}
 use Rattle.translate.proofs.Preorder.{rows-first}

@@ -1,5 +1,5 @@
 -- What the writer answers: the line that was made is that of the rule, or there is none. Assumes nothing.
-use mathlib.Core.Path.{◌≡◌, refl, ap, sym, ◌∙◌, subst}
+use mathlib.Core.Path.{◌≡◌, refl, ap, sym, ◌∙◌}
 use mathlib.Core.Bool.{Bool, true, false}
 use mathlib.Core.List.{List, [], ◌∷◌, ◌++◌, append_assoc}
 use Prim.Native.Nat.{ℕ, zero, suc, ◌+◌, ◌-◌, ◌≤◌, ◌<◌}
@@ -9,7 +9,7 @@ use lib.Seq.{take_at, take-take, length-take-le}
 use Rattle.meaning.proofs.Tests.{impossible}
 use Rattle.text.specs.Text.{joined, joined_after}
 use Rattle.rules.specs.Rule.{Rule}
-use Rattle.rules.specs.Text.{Fields, rule_fields, fields_text, rule_text, rule, rule_of}
+use Rattle.rules.specs.Text.{Fields, rule_fields, rule_text, rule, rule_of}
 use Rattle.checks.specs.declared.Checked.{Checked}
 use Rattle.check_rules.specs.Answer.{used_checked}
 use Rattle.check_rules.proofs.Answering.{used-sizes}

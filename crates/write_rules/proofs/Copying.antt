@@ -2,15 +2,12 @@
 use mathlib.Core.Path.{◌≡◌, refl, ap, sym, ◌∙◌, subst}
 use mathlib.Core.Logic.{⊎_elim}
 use mathlib.Core.Bool.{true, false}
-use mathlib.Core.List.{List, [], ◌∷◌, ◌++◌}
+use mathlib.Core.List.{List, ◌∷◌, ◌++◌}
 use Prim.Native.Nat.{ℕ, suc, ◌+◌, ◌≤◌, ◌<◌}
 use native.Mathlib.Omega.{arith}
-use lib.ListN.{length, get_or, set, take, drop, get_or-eq_default}
-use lib.Seq.{paste, paste-zero, paste-suc, length-paste, set_at, drop-cons, take_all}
-use lib.Dec.{eqb}
-use borrow.Author.Tests.{eqb-true, eqb-false}
+use lib.ListN.{length, get_or, set, drop, get_or-eq_default}
+use lib.Seq.{paste, paste-zero, paste-suc, set_at, drop-cons, take_all}
 use Rattle.words.proofs.Tests.{below-or-from}
-use Rattle.meaning.proofs.Tests.{decided}
 use Rattle.write_rules.specs.Lines.{SameWords, same, differ}
 
 pub outside : (l : List ℕ) (i : ℕ) → length l ≤ i → 0 ≡ get_or l i 0

@@ -2,8 +2,8 @@
 -- the words are compared. Assumes nothing.
 use mathlib.Core.Path.{◌≡◌, refl, ap, sym, ◌∙◌, subst}
 use mathlib.Core.Logic.{⊎_elim}
-use mathlib.Core.Bool.{Bool, true, false}
-use mathlib.Core.List.{List, [], ◌∷◌, ◌++◌}
+use mathlib.Core.Bool.{Bool, false}
+use mathlib.Core.List.{List, [], ◌∷◌}
 use Prim.Native.Nat.{ℕ, suc, ◌+◌, ◌-◌, ◌*◌, ◌/◌, ◌%◌, ◌≤◌, ◌<◌}
 use native.Mathlib.Omega.{arith}
 use lib.Dec.{eqb}
@@ -14,7 +14,7 @@ use Rattle.words.proofs.Tests.{below-or-from}
 use Rattle.meaning.proofs.Tests.{decided}
 use Rattle.rules.specs.Rule.{Rule}
 use Rattle.rules.specs.Text.{PlainRule, ReadRule, rule, bad_field, rule_of}
-use Rattle.rules.specs.Entries.{Entry, code_size, rule_code, rule_entries, row_of, Rows}
+use Rattle.rules.specs.Entries.{Entry, code_size, rule_code, rule_entries, Rows}
 use Rattle.rules.specs.Shape.{rule_size}
 use Rattle.check_rules.specs.Line.{callable, rule_answer, line_of}
 use Rattle.check_rules.specs.Answer.{used_checked, Callable, MasksOf}
@@ -24,11 +24,10 @@ use Rattle.rules.proofs.Sizes.{length-code}
 use Rattle.rules.proofs.Texts.{line_wrote}
 use Rattle.check_rules.proofs.Answering.{used-sizes, masks-callable}
 use Rattle.check_rules.proofs.Accepting.{answer-allowed, allowed-answer}
-use Rattle.translate.specs.Added.{put_entries, Placed, LineFits, LineIn}
+use Rattle.translate.specs.Added.{Placed, LineFits, LineIn}
 use Rattle.translate.proofs.Written.{put-rows}
-use Rattle.translate.proofs.Preorder.{rows-first, rows_same}
+use Rattle.translate.proofs.Preorder.{rows_same}
 use Rattle.translate.proofs.Promises.{rule-eights}
-use Rattle.write_rules.specs.Written.{RuleAt}
 use Rattle.write_rules.specs.Lines.{SameWords, same, differ, IsRule, yes, no}
 
 pub length-rule : (e : ℕ) (r : Rule) → length (rule_entries e r) ≡ rule_size r

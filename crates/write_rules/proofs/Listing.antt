@@ -1,15 +1,14 @@
 -- The line of a rule's entries, part by part. Assumes nothing.
 use mathlib.Core.Path.{◌≡◌, refl, ap, sym, ◌∙◌, subst}
 use mathlib.Core.List.{List, [], ◌∷◌, ◌++◌, append_assoc, append-nil}
-use Prim.Native.Nat.{ℕ, suc, ◌+◌, ◌-◌, ◌*◌, ◌/◌, ◌≤◌, ◌<◌}
+use Prim.Native.Nat.{ℕ, suc, ◌+◌, ◌-◌, ◌*◌, ◌≤◌, ◌<◌}
 use native.Mathlib.Omega.{arith}
 use lib.ListN.{length, take, length-append}
-use lib.Seq.{take-take}
 use Rattle.words.specs.Words.{word_at}
 use Rattle.checks.specs.Good.{kind_of}
-use Rattle.meaning.specs.Table.{SEQ, CALL, MATCH, BUILD, SCOPE, WHERE}
+use Rattle.meaning.specs.Table.{SEQ, CALL, BUILD}
 use Rattle.text.specs.Text.{decimal}
-use Rattle.rules.specs.Rule.{Pat, Pats, var, con, none, more, count, Condition, Rule, rule_variables}
+use Rattle.rules.specs.Rule.{Pat, Pats, var, con, none, more, count, Condition, Rule}
 use Rattle.rules.specs.Text.{Fields, pat_fields, pats_fields, conditions_fields, rule_fields, Plain, plain-var, plain-con, Plains, plain-none, plain_more, PlainConditions, plain_end}
 use Rattle.rules.specs.Text.{plain-next, PlainRule}
 use Rattle.rules.specs.Entries

@@ -2,33 +2,27 @@
 use mathlib.Core.Path.{◌≡◌, refl, ap, sym, ◌∙◌, subst}
 use mathlib.Core.Logic.{⊎_elim}
 use mathlib.Core.List.{List, [], ◌∷◌, ◌++◌, append-nil}
-use Prim.Native.Nat.{ℕ, suc, ◌+◌, ◌*◌, ◌/◌, ◌%◌, ◌≤◌, ◌<◌}
+use Prim.Native.Nat.{ℕ, suc, ◌+◌, ◌≤◌, ◌<◌}
 use native.Mathlib.Omega.{arith}
-use lib.ListN.{length, get_or, take, drop}
+use lib.ListN.{length, take, drop}
 use lib.Seq.{take_at}
 use Rattle.words.specs.Words.{word_at, rows}
 use Rattle.words.proofs.Tests.{below-or-from}
-use Rattle.checks.specs.Good.{kind_of}
-use Rattle.meaning.specs.Table.{PVAR, PCON}
-use Rattle.meaning.proofs.Tests.{impossible}
 use Rattle.rules.specs.Rule.{Pat, Pats, var, con, none as no-pats, more as more-pats, count, Condition, Rule}
-use Rattle.rules.specs.Text.{rule_text, rules_text, Plain, plain-var, plain-con, Plains, plain-none, plain_more, PlainRules, no-rules, next-rule, Meant, rules, meant}
-use Rattle.rules.specs.Entries.{Entry, pattern, size, sizes, places, pat_entries, pats_entries, rule_entries, Rows}
-use Rattle.rules.specs.Shape.{rule_size}
+use Rattle.rules.specs.Text.{rule_text, rules_text, Plain, plain-con, Plains, plain_more, no-rules, next-rule, Meant, rules, meant}
+use Rattle.rules.specs.Entries.{Entry, size, places, pat_entries, pats_entries, rule_entries, Rows}
 use Rattle.check_rules.specs.Answer.{used_checked}
-use Rattle.check_rules.specs.declared.check.Translated.{Translated}
 use Rattle.rules.proofs.Sizes.{length-pat, length-places}
 use Rattle.rules.proofs.Words.{rows_append}
 use Rattle.check_rules.proofs.Answering.{used-sizes}
 use Rattle.rules.proofs.Texts.{text-is-rules}
-use Rattle.translate.specs.Added.{put_entries, rules_entries, with_rules, Translating}
-use Rattle.translate.specs.Promises.{Begins}
+use Rattle.translate.specs.Added.{put_entries, rules_entries, with_rules}
 use Rattle.translate.proofs.Written.{Eights, same-words, length-put, put_other, put-rows}
 use Rattle.translate.proofs.Preorder.{rows-first}
 use Rattle.translate.proofs.Promises.{rule-eights, all-stand, faultless}
 use Rattle.write_rules.specs.Written.{RuleAt, wrote, RuleWritten, entries, none, short, line}
 use Rattle.write_rules.specs.Lines.{TermAt, ConditionHere, condition_size, conditions_size, ConditionsAt}
-use Rattle.write_rules.specs.Promises.{Agree, OneRuleThere, SameBytes, TranslatedThenWritten, SameEntries, WrittenThenTranslated}
+use Rattle.write_rules.specs.Promises.{Agree, OneRuleThere, SameBytes, TranslatedThenWritten, WrittenThenTranslated}
 use Rattle.write_rules.specs.declared.rule.Written.{Written}
 use Rattle.write_rules.proofs.Walking.{variable-words, constructor-words}
 use Rattle.write_rules.proofs.Listing.{opened, at-build, last-term, rule-parts}

@@ -2,20 +2,19 @@
 -- Assumes nothing.
 use mathlib.Core.Path.{◌≡◌, refl, ap, sym, ◌∙◌, subst}
 use mathlib.Core.List.{List, [], ◌∷◌, ◌++◌, append_assoc, append-nil}
-use Prim.Native.Nat.{ℕ, zero, suc, ◌+◌, ◌-◌, ◌*◌, ◌/◌, ◌%◌, ◌≤◌, ◌<◌}
+use Prim.Native.Nat.{ℕ, suc, ◌+◌, ◌-◌, ◌*◌, ◌≤◌, ◌<◌}
 use native.Mathlib.Omega.{arith}
-use lib.ListN.{length, get_or, take, length-append}
+use lib.ListN.{length, length-append}
 use Rattle.words.specs.Words.{word_at}
 use Rattle.checks.specs.Good.{kind_of, operand_count}
 use Rattle.meaning.specs.Table.{PVAR, PCON}
 use Rattle.text.specs.Text.{decimal}
 use Rattle.rules.specs.Rule.{Pat, Pats, var, con, none, more, count}
-use Rattle.rules.specs.Text.{Fields, pat_fields, pats_fields, Plain, plain-var, plain-con, Plains, plain-none, plain_more}
-use Rattle.rules.specs.Entries.{Entry, pattern, size, sizes, places, pat_entries, pats_entries, row_of, Row, Rows}
+use Rattle.rules.specs.Text.{Fields, pat_fields, pats_fields, plain-var, plain-con, Plains, plain-none, plain_more}
+use Rattle.rules.specs.Entries.{pattern, size, sizes, places, pat_entries, pats_entries, row_of, Row, Rows}
 use Rattle.rules.specs.Scan.{width}
-use Rattle.rules.proofs.Sizes.{length-pat, length-pats, length-places}
+use Rattle.rules.proofs.Sizes.{length-places}
 use Rattle.rules.proofs.Terms.{width-append}
-use Rattle.rules.proofs.Words.{rows_append}
 use Rattle.translate.proofs.Preorder.{rows-first}
 use Rattle.write_rules.specs.Lines.{ended, Wrote, entry_text, TermAt, Leaves, WritesTerm}
 use Rattle.write_rules.specs.declared.term.Passed.{Passed}

@@ -1,11 +1,11 @@
 -- Texts written one after the other, and the fields of a term's entries. Assumes nothing.
-use mathlib.Core.Path.{◌≡◌, refl, ap, sym, ◌∙◌, subst}
+use mathlib.Core.Path.{◌≡◌, ap, sym, ◌∙◌, subst}
 use mathlib.Core.Bool.{Bool, true, false}
 use mathlib.Core.List.{List, [], ◌∷◌, ◌++◌, append_assoc, append-nil}
-use Prim.Native.Nat.{ℕ, zero, suc, ◌+◌, ◌-◌, ◌*◌, ◌/◌, ◌%◌, ◌≤◌, ◌<◌}
+use Prim.Native.Nat.{ℕ, ◌+◌, ◌≤◌}
 use native.Mathlib.Omega.{arith}
 use lib.Dec.{eqb}
-use lib.ListN.{length, get_or, take, drop, length-append}
+use lib.ListN.{length, take, drop, length-append}
 use lib.Seq.{take_at, take-take, length-take-le}
 use borrow.Author.Tests.{eq-eqb, ne_eqb}
 use Rattle.words.specs.Tests.{if◌then◌else◌}
@@ -13,7 +13,7 @@ use Rattle.words.specs.Words.{word_at}
 use Rattle.checks.specs.Good.{kind_of, operand_count}
 use Rattle.text.specs.Text.{decimal}
 use Rattle.text.specs.Written.{put_text, Put}
-use Rattle.text.proofs.Put.{length_digits, put-more}
+use Rattle.text.proofs.Put.{length_digits}
 use Rattle.write_rules.specs.Lines.{Wrote, entry_text}
 
 pub wrote-put : {b s b' : List ℕ} {at r : ℕ} → at + length s ≤ length b → Put b at s b' r → Wrote b at s b' r

@@ -1,13 +1,13 @@
 -- How a line is found: entries of a rule give its fields, each with a tab after it. Of other entries nothing is said but where they
 -- are left, so that the line is checked afterwards.
-use Rattle.std.specs.Prelude.{◌≡◌, Bool, true, false, List, [], ◌∷◌, ◌++◌, ℕ, ◌+◌, ◌*◌, ◌≤◌, ◌<◌, eqb, length, get_or, take}
+use Rattle.std.specs.Prelude.{◌≡◌, Bool, true, false, List, [], ◌∷◌, ◌++◌, ℕ, ◌+◌, ◌≤◌, ◌<◌, eqb, length, get_or, take}
 use Rattle.words.specs.Tests.{if◌then◌else◌}
 use Rattle.words.specs.Words.{word_at}
 use Rattle.checks.specs.Good.{kind_of, operand_count}
 use Rattle.text.specs.Text.{decimal}
 use Rattle.rules.specs.Rule.{Pat, Condition, Rule}
-use Rattle.rules.specs.Text.{Fields, pat_fields, conditions_fields, rule_fields, Plain, PlainConditions, PlainRule, rule, rule_of}
-use Rattle.rules.specs.Entries.{pat_entries, size, conditions_code, code_size, code_entries, rule_entries, Rows}
+use Rattle.rules.specs.Text.{Fields, pat_fields, conditions_fields, rule_fields, Plain, PlainConditions, rule, rule_of}
+use Rattle.rules.specs.Entries.{pat_entries, size, conditions_code, code_size, code_entries, Rows}
 use Rattle.rules.specs.Scan.{width}
 use Rattle.write_rules.specs.declared.term.Passed.{Passed}
 use Rattle.write_rules.specs.Written.{RuleAt}

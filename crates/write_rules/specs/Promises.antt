@@ -1,7 +1,7 @@
 -- What is promised of the writer, and of the writer and the translator together.
 use Rattle.std.specs.Prelude.{◌≡◌, List, [], ◌∷◌, ℕ, ◌≤◌, length, take}
 use Rattle.rules.specs.Rule.{Rule}
-use Rattle.rules.specs.Text.{rule_text, rules_text, rules, meant}
+use Rattle.rules.specs.Text.{rule_text, rules, meant}
 use Rattle.check_rules.specs.declared.check.Translated.{Translated}
 use Rattle.translate.specs.Added.{with_rules, Translating}
 use Rattle.translate.specs.Promises.{Begins}

@@ -4,7 +4,6 @@ use Rattle.check_rules.specs.Answer.{entries, lines}
 use Rattle.check_rules.specs.Check.{told}
 use Rattle.checks.specs.declared.Checked.{Checked}
 use mathlib.Core.Path.{refl, sym, ◌∙◌, ap}
-use borrow.Author.Rules.{rules}
 use Rattle.check_rules.proofs.answer.check_rules.Goals as goal
 
 pub returns-then-entries-ne0 : goal.returns-then-entries-ne0

@@ -2,7 +2,6 @@
 use Rattle.check_rules.proofs.Answering.{used-length, used-more, used-none, used-some, used-words}
 use borrow.Author.Tests.{not-true, not-false}
 use mathlib.Core.Path.{sym, ◌∙◌}
-use borrow.Author.Rules.{rules}
 use Rattle.check_rules.proofs.answer.check_used.Goals as goal
 
 pub returns-then-not-table_length_fits : goal.returns-then-not-table_length_fits

@@ -4,7 +4,6 @@ use Rattle.free.proofs.Smallest.{zeros-sound}
 use lib.ListN.{length}
 use native.Mathlib.Omega.{arith}
 use mathlib.Core.Path.{ap}
-use borrow.Author.Rules.{rules}
 use Rattle.check_rules.proofs.answer.fill_masks.Goals as goal
 
 pub slice_bounds-settle-end : goal.slice_bounds-settle-end

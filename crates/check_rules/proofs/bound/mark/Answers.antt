@@ -2,7 +2,6 @@
 use Rattle.check_rules.specs.Bound.{marked_by}
 use Rattle.rules.specs.Held.{head_held}
 use mathlib.Core.Path.{sym, ◌∙◌, ap}
-use borrow.Author.Rules.{rules}
 use Rattle.check_rules.proofs.bound.mark.Goals as goal
 
 pub returns-in-Variable : goal.returns-in-Variable

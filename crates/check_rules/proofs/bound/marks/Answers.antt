@@ -2,11 +2,9 @@ use Rattle.check_rules.proofs.Binding.{marks-past, marks-end, marks-on}
 use Rattle.rules.proofs.Scanning.{end-within}
 use Rattle.check_rules.specs.Bound.{marks_from}
 use Rattle.rules.specs.Scan.{fields_from}
-use borrow.Author.Rules.{rules}
-use lib.ListN.{length}
 use native.Mathlib.Omega.{arith}
-use Prim.Native.Nat.{◌+◌, ◌-◌}
-use mathlib.Core.Path.{◌≡◌, refl, ◌∙◌, ap}
+use Prim.Native.Nat.{◌+◌}
+use mathlib.Core.Path.{refl, ◌∙◌, ap}
 use Rattle.check_rules.proofs.bound.marks.Goals as goal
 
 pub loop-at-init : goal.loop-at-init

@@ -1,13 +1,9 @@
 -- `check_rules::bound::marks` meets its contract. The loop's invariant: what the fields from the place on add to the mask is what all add. Assumes nothing.
-use Rattle.check_rules.proofs.Binding.{marks-past, marks-end, marks-on}
-use Rattle.rules.proofs.Scanning.{end-within}
 use Rattle.check_rules.specs.Bound.{marks_from}
 use Rattle.rules.specs.Scan.{fields_from}
-use borrow.Author.Rules.{rules}
 use lib.ListN.{length}
-use native.Mathlib.Omega.{arith}
 use Prim.Native.Nat.{◌+◌, ◌-◌}
-use mathlib.Core.Path.{◌≡◌, refl, ◌∙◌, ap}
+use mathlib.Core.Path.{◌≡◌}
 use Rattle.check_rules.proofs.bound.marks.Given as goal
 
 abbrev pub invariant-loop-at : goal.invariant-loop-at

@@ -1,8 +1,5 @@
-use Rattle.check_rules.proofs.Early.{Binds, binds-begin, binds-early, binds-on, binds-further, binds-end}
-use borrow.Author.Rules.{rules}
-use lib.ListN.{length}
+use Rattle.check_rules.proofs.Early.{binds-begin, binds-early, binds-on, binds-further, binds-end}
 use native.Mathlib.Omega.{arith}
-use Prim.Native.Nat.{◌+◌, ◌-◌}
 use mathlib.Core.Path.{refl}
 use Rattle.check_rules.proofs.bound.unbound.Goals as goal
 

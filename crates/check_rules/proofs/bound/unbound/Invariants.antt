@@ -1,10 +1,7 @@
 -- `check_rules::bound::unbound` meets its contract. The loop's invariant: what was bound and the rest of the conditions decide. Assumes nothing.
-use Rattle.check_rules.proofs.Early.{Binds, binds-begin, binds-early, binds-on, binds-further, binds-end}
-use borrow.Author.Rules.{rules}
+use Rattle.check_rules.proofs.Early.{Binds}
 use lib.ListN.{length}
-use native.Mathlib.Omega.{arith}
 use Prim.Native.Nat.{◌+◌, ◌-◌}
-use mathlib.Core.Path.{refl}
 use Rattle.check_rules.proofs.bound.unbound.Given as goal
 
 abbrev pub invariant-loop-at : goal.invariant-loop-at

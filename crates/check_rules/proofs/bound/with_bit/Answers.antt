@@ -1,6 +1,5 @@
 -- `check_rules::bound::with_bit` meets its contract, test by test. Assumes nothing.
 use Rattle.check_rules.proofs.Binding.{bit-outside, bit-inside, bit-beyond}
-use borrow.Author.Rules.{rules}
 use Rattle.check_rules.proofs.bound.with_bit.Goals as goal
 
 pub returns-then-v-base : goal.returns-then-v-base

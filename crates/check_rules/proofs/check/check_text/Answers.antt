@@ -1,12 +1,7 @@
-use Rattle.check_rules.proofs.Checking.{Checks, checks-begin, bounds-within, checks-unfed, checks-refused, checks-full, checks-on}
+use Rattle.check_rules.proofs.Checking.{checks-begin, bounds-within, checks-unfed, checks-refused, checks-full, checks-on}
 use Rattle.check_rules.proofs.Checking.{checks-further, checks-end}
-use Rattle.check_rules.specs.Line.{callable}
-use Rattle.words.specs.Words.{rows}
-use borrow.Author.Rules.{rules}
-use lib.ListN.{length}
 use native.Mathlib.Omega.{arith}
-use Prim.Native.Nat.{◌-◌}
-use mathlib.Core.Path.{◌≡◌, refl, ◌∙◌}
+use mathlib.Core.Path.{refl, ◌∙◌}
 use Rattle.check_rules.proofs.check.check_text.Goals as goal
 
 pub loop-at-init : goal.loop-at-init

@@ -3,7 +3,6 @@ use Rattle.check_rules.specs.Check.{told, refusal}
 use borrow.Author.Tests.{eq-eqb, ne_eqb}
 use Prim.Native.Nat.{ℕ}
 use mathlib.Core.Path.{sym, ◌∙◌, ap}
-use borrow.Author.Rules.{rules}
 use Rattle.check_rules.proofs.check.refusal.Goals as goal
 
 pub returns-then-got-eq18 : goal.returns-then-got-eq18

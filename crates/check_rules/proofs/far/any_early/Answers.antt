@@ -1,9 +1,6 @@
-use Rattle.check_rules.proofs.Passing.{Using, using-begin, using-past, using-end, using-early, using-on}
+use Rattle.check_rules.proofs.Passing.{using-begin, using-past, using-end, using-early, using-on}
 use Rattle.rules.proofs.Scanning.{end-within}
-use lib.ListN.{length}
-use Prim.Native.Nat.{◌+◌, ◌-◌}
 use native.Mathlib.Omega.{arith}
-use borrow.Author.Rules.{rules}
 use Rattle.check_rules.proofs.far.any_early.Goals as goal
 
 pub loop-at-init : goal.loop-at-init

@@ -1,10 +1,7 @@
 -- `check_rules::far::any_early` meets its contract. The loop's invariant: the fields done are fine. Assumes nothing.
-use Rattle.check_rules.proofs.Passing.{Using, using-begin, using-past, using-end, using-early, using-on}
-use Rattle.rules.proofs.Scanning.{end-within}
+use Rattle.check_rules.proofs.Passing.{Using}
 use lib.ListN.{length}
 use Prim.Native.Nat.{◌+◌, ◌-◌}
-use native.Mathlib.Omega.{arith}
-use borrow.Author.Rules.{rules}
 use Rattle.check_rules.proofs.far.any_early.Given as goal
 
 abbrev pub invariant-loop-at : goal.invariant-loop-at

@@ -4,7 +4,6 @@ use Rattle.rules.specs.Text.{head_of}
 use Rattle.rules.specs.Held.{head_held}
 use mathlib.Core.Path.{sym, ◌∙◌, ap}
 use native.Mathlib.Omega.{arith}
-use borrow.Author.Rules.{rules}
 use Rattle.check_rules.proofs.far.bind.Goals as goal
 
 pub returns-then-v-low : goal.returns-then-v-low

@@ -1,10 +1,7 @@
-use Rattle.check_rules.proofs.Passing.{Binding, binding-begin, binding-on}
+use Rattle.check_rules.proofs.Passing.{binding-begin, binding-on}
 use Rattle.rules.proofs.Scanning.{end-within}
-use mathlib.Core.Path.{◌≡◌, refl}
-use lib.ListN.{length}
-use Prim.Native.Nat.{◌+◌, ◌-◌}
+use mathlib.Core.Path.{refl}
 use native.Mathlib.Omega.{arith}
-use borrow.Author.Rules.{rules}
 use Rattle.check_rules.proofs.far.bind_all.Goals as goal
 
 pub loop-at-init : goal.loop-at-init

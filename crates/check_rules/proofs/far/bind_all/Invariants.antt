@@ -1,11 +1,8 @@
 -- `check_rules::far::bind_all` meets its contract. The loop's invariant: every new key is a variable of the fields. Assumes nothing.
-use Rattle.check_rules.proofs.Passing.{Binding, binding-begin, binding-on}
-use Rattle.rules.proofs.Scanning.{end-within}
-use mathlib.Core.Path.{◌≡◌, refl}
+use Rattle.check_rules.proofs.Passing.{Binding}
+use mathlib.Core.Path.{◌≡◌}
 use lib.ListN.{length}
 use Prim.Native.Nat.{◌+◌, ◌-◌}
-use native.Mathlib.Omega.{arith}
-use borrow.Author.Rules.{rules}
 use Rattle.check_rules.proofs.far.bind_all.Given as goal
 
 abbrev pub invariant-loop-at : goal.invariant-loop-at

@@ -3,7 +3,6 @@ use Rattle.check_rules.proofs.Passing.{early-low, early-beyond, early-found, ear
 use Rattle.rules.specs.Text.{head_of}
 use Rattle.rules.specs.Held.{head_held}
 use mathlib.Core.Path.{sym, ◌∙◌, ap}
-use borrow.Author.Rules.{rules}
 use Rattle.check_rules.proofs.far.early.Goals as goal
 
 pub returns-then-v-low : goal.returns-then-v-low

@@ -1,7 +1,5 @@
-use Rattle.check_rules.proofs.Ranging.{Ranging, far-begin, far-early, far-asked, far-on, far-one, far-end}
-use Prim.Native.Nat.{◌-◌}
+use Rattle.check_rules.proofs.Ranging.{far-begin, far-early, far-asked, far-on, far-one, far-end}
 use native.Mathlib.Omega.{arith}
-use borrow.Author.Rules.{rules}
 use Rattle.check_rules.proofs.far.far_answer.Goals as goal
 
 pub pass-first-requires : goal.pass-first-requires

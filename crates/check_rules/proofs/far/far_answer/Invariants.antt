@@ -1,8 +1,6 @@
 -- `check_rules::far::far_answer` meets its contract. The loop's invariant: no variable below a number is used too early. Assumes nothing.
-use Rattle.check_rules.proofs.Ranging.{Ranging, far-begin, far-early, far-asked, far-on, far-one, far-end}
+use Rattle.check_rules.proofs.Ranging.{Ranging}
 use Prim.Native.Nat.{◌-◌}
-use native.Mathlib.Omega.{arith}
-use borrow.Author.Rules.{rules}
 use Rattle.check_rules.proofs.far.far_answer.Given as goal
 
 abbrev pub invariant-loop-low : goal.invariant-loop-low

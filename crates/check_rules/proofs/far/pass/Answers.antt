@@ -1,9 +1,6 @@
-use Rattle.check_rules.proofs.Passing.{Passing, passing-begin, passing-early, passing-on, passing-further, passing-end}
-use mathlib.Core.Path.{◌≡◌, sym}
-use lib.ListN.{length}
-use Prim.Native.Nat.{◌+◌, ◌-◌}
+use Rattle.check_rules.proofs.Passing.{passing-begin, passing-early, passing-on, passing-further, passing-end}
+use mathlib.Core.Path.{sym}
 use native.Mathlib.Omega.{arith}
-use borrow.Author.Rules.{rules}
 use Rattle.check_rules.proofs.far.pass.Goals as goal
 
 pub loop-at-init : goal.loop-at-init

@@ -1,10 +1,8 @@
 -- `check_rules::far::pass` meets its contract. The loop's invariant: what is bound so far and the rest of the conditions decide. Assumes nothing.
-use Rattle.check_rules.proofs.Passing.{Passing, passing-begin, passing-early, passing-on, passing-further, passing-end}
-use mathlib.Core.Path.{◌≡◌, sym}
+use Rattle.check_rules.proofs.Passing.{Passing}
+use mathlib.Core.Path.{◌≡◌}
 use lib.ListN.{length}
 use Prim.Native.Nat.{◌+◌, ◌-◌}
-use native.Mathlib.Omega.{arith}
-use borrow.Author.Rules.{rules}
 use Rattle.check_rules.proofs.far.pass.Given as goal
 
 abbrev pub invariant-loop-at : goal.invariant-loop-at

@@ -1,6 +1,5 @@
 -- `check_rules::line::callable` meets its contract, test by test. Assumes nothing.
 use Rattle.check_rules.proofs.Calling.{not-used, not-rec, by_mask, no-mask}
-use borrow.Author.Rules.{rules}
 use Rattle.check_rules.proofs.line.callable.Goals as goal
 
 pub returns-then-used-x : goal.returns-then-used-x

@@ -1,10 +1,6 @@
-use Rattle.check_rules.proofs.Calling.{Calls, calls-begin, calls-not, calls-on, calls-further, calls-end}
-use Rattle.check_rules.specs.Line.{callable}
+use Rattle.check_rules.proofs.Calling.{calls-begin, calls-not, calls-on, calls-further, calls-end}
 use borrow.Author.Tests.{not-true, not-false}
-use borrow.Author.Rules.{rules}
-use lib.ListN.{length}
 use native.Mathlib.Omega.{arith}
-use Prim.Native.Nat.{◌+◌, ◌-◌}
 use Rattle.check_rules.proofs.line.calls.Goals as goal
 
 pub loop-at-init : goal.loop-at-init

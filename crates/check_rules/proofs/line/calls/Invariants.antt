@@ -1,10 +1,7 @@
 -- `check_rules::line::calls` meets its contract. The loop's invariant: the rest of the conditions decides. Assumes nothing.
-use Rattle.check_rules.proofs.Calling.{Calls, calls-begin, calls-not, calls-on, calls-further, calls-end}
+use Rattle.check_rules.proofs.Calling.{Calls}
 use Rattle.check_rules.specs.Line.{callable}
-use borrow.Author.Tests.{not-true, not-false}
-use borrow.Author.Rules.{rules}
 use lib.ListN.{length}
-use native.Mathlib.Omega.{arith}
 use Prim.Native.Nat.{◌+◌, ◌-◌}
 use Rattle.check_rules.proofs.line.calls.Given as goal
 

@@ -2,7 +2,6 @@
 use Rattle.check_rules.proofs.Calling.{rule-line, line-bad, line-variables, line-calls, line-called}
 use Rattle.check_rules.specs.Line.{callable}
 use borrow.Author.Tests.{not-true, not-false}
-use borrow.Author.Rules.{rules}
 use Rattle.check_rules.proofs.line.check_line.Goals as goal
 
 pub returns-then-not-s : goal.returns-then-not-s

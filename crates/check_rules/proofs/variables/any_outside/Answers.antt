@@ -1,12 +1,7 @@
 use Rattle.check_rules.proofs.Ranging.{outside-first, outside-rest, outside-none}
 use Rattle.rules.proofs.Scanning.{end-within}
-use Rattle.check_rules.specs.Far.{any_outside}
-use Rattle.rules.specs.Scan.{fields_from}
-use mathlib.Core.Path.{◌≡◌, refl, ◌∙◌}
-use lib.ListN.{length}
-use Prim.Native.Nat.{◌+◌, ◌-◌}
+use mathlib.Core.Path.{refl, ◌∙◌}
 use native.Mathlib.Omega.{arith}
-use borrow.Author.Rules.{rules}
 use Rattle.check_rules.proofs.variables.any_outside.Goals as goal
 
 pub loop-at-init : goal.loop-at-init

@@ -1,13 +1,9 @@
 -- `check_rules::variables::any_outside` meets its contract. The loop's invariant: the rest of the fields decides. Assumes nothing.
-use Rattle.check_rules.proofs.Ranging.{outside-first, outside-rest, outside-none}
-use Rattle.rules.proofs.Scanning.{end-within}
 use Rattle.check_rules.specs.Far.{any_outside}
 use Rattle.rules.specs.Scan.{fields_from}
-use mathlib.Core.Path.{◌≡◌, refl, ◌∙◌}
+use mathlib.Core.Path.{◌≡◌}
 use lib.ListN.{length}
 use Prim.Native.Nat.{◌+◌, ◌-◌}
-use native.Mathlib.Omega.{arith}
-use borrow.Author.Rules.{rules}
 use Rattle.check_rules.proofs.variables.any_outside.Given as goal
 
 abbrev pub invariant-loop-at : goal.invariant-loop-at

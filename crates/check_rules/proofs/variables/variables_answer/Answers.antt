@@ -1,5 +1,4 @@
 -- `check_rules::variables::variables_answer` meets its contract: by the variables in range, and by all where one is not. Assumes nothing.
-use borrow.Author.Rules.{rules}
 use Rattle.check_rules.proofs.Judging.{answered-early}
 use Rattle.check_rules.proofs.Ranging.{answer-far, answer-near}
 use Rattle.check_rules.proofs.variables.variables_answer.Goals as goal

@@ -2,7 +2,6 @@
 use mathlib.Core.Path.{ap, sym, ◌∙◌}
 use Rattle.text.specs.Held.{value_of}
 use Rattle.rules.proofs.Scanning.{count_none, count-some, count-over}
-use borrow.Author.Rules.{rules}
 use Rattle.rules.proofs.field.children.Goals as goal
 
 -- src/field.rt:45:9

@@ -1,10 +1,7 @@
 -- `rules::field::head_of` meets its contract, by the field's first byte and its number. Assumes nothing.
-use mathlib.Core.Path.{◌≡◌, refl, ap, sym, ◌∙◌}
-use Prim.Native.Nat.{◌-◌}
-use lib.ListN.{length, take, drop}
+use mathlib.Core.Path.{ap, sym, ◌∙◌}
 use Rattle.text.specs.Held.{value_of}
 use Rattle.rules.proofs.Scanning.{head-empty, head-v, head-c, con-small, con-large, all_after}
-use borrow.Author.Rules.{rules}
 use Rattle.rules.proofs.field.head_of.Goals as goal
 
 -- src/field.rt:20:9

@@ -1,11 +1,8 @@
-use Rattle.rules.proofs.Shaping.{Shaping, left-bad, right-bad, shaping-begins, shaping-lost, shaping-on, shaping-end, condition-inside}
+use Rattle.rules.proofs.Shaping.{left-bad, right-bad, shaping-begins, shaping-lost, shaping-on, shaping-end, condition-inside}
 use Rattle.rules.proofs.Terms.{term_found, term-inside, term-goodly}
 use Rattle.rules.specs.Shape.{shape_of}
 use borrow.Author.Tests.{not-true, not-false}
-use borrow.Author.Rules.{rules}
-use lib.ListN.{length}
 use native.Mathlib.Omega.{arith}
-use Prim.Native.Nat.{◌+◌, ◌-◌}
 use mathlib.Core.Path.{sym, ◌∙◌, ap}
 use Rattle.rules.proofs.shape.shape_of.Goals as goal
 

@@ -1,8 +1,6 @@
 use mathlib.Core.Path.{◌≡◌, refl, ap, sym, ◌∙◌}
-use Prim.Native.Nat.{ℕ, ◌+◌, ◌-◌, ◌*◌, ◌≤◌, ◌<◌}
+use Prim.Native.Nat.{ℕ, ◌+◌, ◌-◌}
 use native.Mathlib.Omega.{arith}
-use borrow.Author.Rules.{rules}
-use lib.ListN.{length}
 use Rattle.rules.specs.Held.{head_held}
 use Rattle.rules.specs.Scan.{fields_from, scanned}
 use Rattle.rules.proofs.Scanning.{end-within, scan-end, scan-past, count_past, scan-neither, scan-variable, scan-constructor}

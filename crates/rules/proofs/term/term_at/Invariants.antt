@@ -1,14 +1,9 @@
 -- `rules::term::term_at` meets its contract. The loop's invariant: what is left to go through gives what the whole gives;
 -- places and counts are bounded by the place. Assumes nothing.
-use mathlib.Core.Path.{◌≡◌, refl, ap, sym, ◌∙◌}
-use Prim.Native.Nat.{ℕ, ◌+◌, ◌-◌, ◌*◌, ◌≤◌, ◌<◌}
-use native.Mathlib.Omega.{arith}
-use borrow.Author.Rules.{rules}
+use mathlib.Core.Path.{◌≡◌}
+use Prim.Native.Nat.{◌+◌, ◌-◌, ◌*◌, ◌≤◌}
 use lib.ListN.{length}
-use Rattle.rules.specs.Held.{head_held}
 use Rattle.rules.specs.Scan.{fields_from, scanned}
-use Rattle.rules.proofs.Scanning.{end-within, scan-end, scan-past, count_past, scan-neither, scan-variable, scan-constructor}
-use Rattle.rules.proofs.Scanning.{scan-bad-count, scan-count, constructor-long}
 use Rattle.rules.proofs.term.term_at.Given as goal
 
 abbrev pub invariant-loop-wanted : goal.invariant-loop-wanted

@@ -1,6 +1,5 @@
 -- `translate::heads::open_body` meets its contract, row by row. Assumes nothing.
 use Rattle.translate.proofs.Placing.{placed_one, placed_on, seq-row, match-row}
-use borrow.Author.Rules.{rules}
 use Rattle.translate.proofs.heads.open_body.Goals as goal
 
 pub returns : goal.returns

@@ -1,6 +1,5 @@
 -- `translate::heads::open_condition` meets its contract, row by row. Assumes nothing.
 use Rattle.translate.proofs.Placing.{placed_one, placed_on, seq-row, where-row, build-row}
-use borrow.Author.Rules.{rules}
 use Rattle.translate.proofs.heads.open_condition.Goals as goal
 
 pub returns : goal.returns

@@ -1,7 +1,6 @@
 -- `translate::heads::put_body` meets its contract, part by part. Assumes nothing.
 use Rattle.translate.proofs.Heading.{room_open, room-left, room-conditions, room-build, room-right, body-placed}
 use native.Mathlib.Omega.{arith}
-use borrow.Author.Rules.{rules}
 use Rattle.translate.proofs.heads.put_body.Goals as goal
 
 pub open_body-left-requires : goal.open_body-left-requires

@@ -1,6 +1,5 @@
 -- `translate::heads::put_build` meets its contract. Assumes nothing.
 use Rattle.translate.proofs.Placing.{placed_one, build-row}
-use borrow.Author.Rules.{rules}
 use Rattle.translate.proofs.heads.put_build.Goals as goal
 
 pub returns : goal.returns

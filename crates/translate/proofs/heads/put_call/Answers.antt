@@ -1,6 +1,5 @@
 -- `translate::heads::put_call` meets its contract, row by row. Assumes nothing.
 use Rattle.translate.proofs.Placing.{placed_one, placed_on, seq-row, call-row, match-row}
-use borrow.Author.Rules.{rules}
 use Rattle.translate.proofs.heads.put_call.Goals as goal
 
 pub returns : goal.returns

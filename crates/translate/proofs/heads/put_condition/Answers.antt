@@ -1,7 +1,6 @@
 -- `translate::heads::put_condition` meets its contract, part by part. Assumes nothing.
 use Rattle.translate.proofs.Placing.{found-long, placed-found}
 use native.Mathlib.Omega.{arith}
-use borrow.Author.Rules.{rules}
 use Rattle.translate.proofs.heads.put_condition.Goals as goal
 
 pub open_condition-start-requires : goal.open_condition-start-requires

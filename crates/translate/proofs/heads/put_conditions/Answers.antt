@@ -1,7 +1,4 @@
-use Rattle.translate.proofs.Heading.{Heading, heading-begin, room-condition, heading-on, heading-further, heading-end}
-use borrow.Author.Rules.{rules}
-use Prim.Native.Nat.{◌+◌, ◌-◌}
-use lib.ListN.{length}
+use Rattle.translate.proofs.Heading.{heading-begin, room-condition, heading-on, heading-further, heading-end}
 use native.Mathlib.Omega.{arith}
 use Rattle.translate.proofs.heads.put_conditions.Goals as goal
 

@@ -1,9 +1,7 @@
 -- `translate::heads::put_conditions` meets its contract. The loop's invariant: what is left to put after what was put is all. Assumes nothing.
-use Rattle.translate.proofs.Heading.{Heading, heading-begin, room-condition, heading-on, heading-further, heading-end}
-use borrow.Author.Rules.{rules}
+use Rattle.translate.proofs.Heading.{Heading}
 use Prim.Native.Nat.{◌+◌, ◌-◌}
 use lib.ListN.{length}
-use native.Mathlib.Omega.{arith}
 use Rattle.translate.proofs.heads.put_conditions.Given as goal
 
 abbrev pub invariant-loop-at : goal.invariant-loop-at

@@ -1,6 +1,5 @@
 -- `translate::heads::put_scope` meets its contract. Assumes nothing.
 use Rattle.translate.proofs.Placing.{scope-placed}
-use borrow.Author.Rules.{rules}
 use Rattle.translate.proofs.heads.put_scope.Goals as goal
 
 pub returns : goal.returns

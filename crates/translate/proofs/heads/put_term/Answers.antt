@@ -1,11 +1,9 @@
-use Rattle.translate.proofs.Putting.{Puts, variable-row, constructor-row, bare-none, bare-past, count_past, bare-neither, bare-variable, bare-constructor, count-bad, count-some}
+use Rattle.translate.proofs.Putting.{variable-row, constructor-row, bare-none, bare-past, count_past, bare-neither, bare-variable, bare-constructor, count-bad, count-some}
 use Rattle.translate.proofs.Putting.{puts-end, puts-room, puts-below, puts-on}
 use Rattle.rules.proofs.Scanning.{end-within, constructor-long}
 use Rattle.rules.specs.Held.{head_held}
-use borrow.Author.Rules.{rules}
-use lib.ListN.{length}
 use native.Mathlib.Omega.{arith}
-use Prim.Native.Nat.{◌+◌, ◌-◌, ◌≤◌}
+use Prim.Native.Nat.{◌+◌, ◌-◌}
 use mathlib.Core.Path.{refl, sym, ◌∙◌, ap}
 use Rattle.translate.proofs.heads.put_term.Goals as goal
 

@@ -1,7 +1,6 @@
 -- `translate::lines::put_line` meets its contract, part by part. Assumes nothing.
 use Rattle.translate.proofs.Adding.{scope-room, body-room, link-room, line-placed}
 use native.Mathlib.Omega.{arith}
-use borrow.Author.Rules.{rules}
 use Rattle.translate.proofs.lines.put_line.Goals as goal
 
 pub put_scope-body-requires : goal.put_scope-body-requires

@@ -1,8 +1,5 @@
-use Rattle.translate.proofs.Lining.{Lining, lining-begin, line-within, line-fits, lining-on, lining-further, next-inside, lining-end}
-use borrow.Author.Rules.{rules}
-use mathlib.Core.Path.{◌≡◌, refl, ◌∙◌}
-use Prim.Native.Nat.{◌-◌}
-use lib.ListN.{length}
+use Rattle.translate.proofs.Lining.{lining-begin, line-within, line-fits, lining-on, lining-further, next-inside, lining-end}
+use mathlib.Core.Path.{refl, ◌∙◌}
 use native.Mathlib.Omega.{arith}
 use Rattle.translate.proofs.lines.put_lines.Goals as goal
 

@@ -1,10 +1,8 @@
 -- `translate::lines::put_lines` meets its contract. The loop's invariant: what is left to put after what was put is all. Assumes nothing.
-use Rattle.translate.proofs.Lining.{Lining, lining-begin, line-within, line-fits, lining-on, lining-further, next-inside, lining-end}
-use borrow.Author.Rules.{rules}
-use mathlib.Core.Path.{◌≡◌, refl, ◌∙◌}
+use Rattle.translate.proofs.Lining.{Lining}
+use mathlib.Core.Path.{◌≡◌}
 use Prim.Native.Nat.{◌-◌}
 use lib.ListN.{length}
-use native.Mathlib.Omega.{arith}
 use Rattle.translate.proofs.lines.put_lines.Given as goal
 
 abbrev pub invariant-loop-at : goal.invariant-loop-at

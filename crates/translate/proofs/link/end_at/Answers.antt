@@ -1,6 +1,5 @@
 use mathlib.Core.Path.{sym}
 use lib.ListN.{get_or-eq_default}
-use borrow.Author.Rules.{rules}
 use Rattle.translate.proofs.link.end_at.Goals as goal
 
 -- src/link.rt:18:1

@@ -1,12 +1,9 @@
-use mathlib.Core.Path.{◌≡◌, refl, ap, sym, ◌∙◌}
-use mathlib.Core.List.{List}
-use Prim.Native.Nat.{ℕ, suc, ◌+◌, ◌-◌, ◌*◌, ◌≤◌, ◌<◌}
+use mathlib.Core.Path.{◌≡◌, refl, ap, ◌∙◌}
+use Prim.Native.Nat.{ℕ, ◌+◌, ◌-◌, ◌*◌, ◌≤◌}
 use native.Mathlib.Omega.{arith}
-use borrow.Author.Rules.{rules}
-use lib.ListN.{length, set, length-set}
-use Rattle.words.specs.Words.{put_row}
+use lib.ListN.{length, length-set}
 use Rattle.words.proofs.Rows.{length-put_row}
-use Rattle.translate.specs.Links.{row_linked, steps_table, steps_ends}
+use Rattle.translate.specs.Links.{steps_table, steps_ends}
 use Rattle.translate.specs.declared.link.Linked.{Linked}
 use Rattle.translate.proofs.Links.{link-step, steps-none, row-eight}
 use Rattle.translate.proofs.link.link.Goals as goal

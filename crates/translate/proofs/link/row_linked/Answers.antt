@@ -1,11 +1,10 @@
-use mathlib.Core.Path.{◌≡◌, refl, ap, sym, ◌∙◌}
-use Prim.Native.Nat.{ℕ, ◌+◌, ◌-◌, ◌≤◌, ◌<◌}
+use mathlib.Core.Path.{◌≡◌, refl, ap, ◌∙◌}
+use Prim.Native.Nat.{ℕ, ◌+◌, ◌-◌}
 use native.Mathlib.Omega.{arith}
-use borrow.Author.Rules.{rules}
 use mathlib.Core.List.{List, [], ◌∷◌}
-use lib.ListN.{length, set, length-set}
+use lib.ListN.{set, length-set}
 use Rattle.words.specs.Words.{word_at}
-use Rattle.translate.specs.Links.{filled, row_at, row_linked, inner_of}
+use Rattle.translate.specs.Links.{filled, row_at, inner_of}
 use Rattle.translate.proofs.Links.{inner-most, filled-end, filled_more, filled_none}
 use Rattle.translate.proofs.link.row_linked.Goals as goal
 

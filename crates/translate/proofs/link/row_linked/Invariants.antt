@@ -1,12 +1,7 @@
-use mathlib.Core.Path.{◌≡◌, refl, ap, sym, ◌∙◌}
-use Prim.Native.Nat.{ℕ, ◌+◌, ◌-◌, ◌≤◌, ◌<◌}
-use native.Mathlib.Omega.{arith}
-use borrow.Author.Rules.{rules}
-use mathlib.Core.List.{List, [], ◌∷◌}
-use lib.ListN.{length, set, length-set}
-use Rattle.words.specs.Words.{word_at}
-use Rattle.translate.specs.Links.{filled, row_at, row_linked, inner_of}
-use Rattle.translate.proofs.Links.{inner-most, filled-end, filled_more, filled_none}
+use mathlib.Core.Path.{◌≡◌}
+use Prim.Native.Nat.{◌+◌, ◌-◌, ◌≤◌}
+use lib.ListN.{length}
+use Rattle.translate.specs.Links.{filled, row_linked}
 use Rattle.translate.proofs.link.row_linked.Given as goal
 
 abbrev pub invariant-loop-i : goal.invariant-loop-i

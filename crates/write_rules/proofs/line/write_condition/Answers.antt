@@ -1,7 +1,6 @@
 -- `write_rules::line::write_condition` meets its contract, part by part. Assumes nothing.
 use Rattle.write_rules.proofs.Listing.{no_room, number-within, condition-written}
 use native.Mathlib.Omega.{arith}
-use borrow.Author.Rules.{rules}
 use Rattle.write_rules.proofs.line.write_condition.Goals as goal
 
 pub returns-then-line-from-lt24 : goal.returns-then-line-from-lt24

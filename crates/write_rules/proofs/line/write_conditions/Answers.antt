@@ -1,7 +1,5 @@
-use Rattle.write_rules.proofs.Listing.{Lists, lists-begin, lists-leaves, lists-stop, lists-end, lists-on, lists-further}
-use borrow.Author.Rules.{rules}
+use Rattle.write_rules.proofs.Listing.{lists-begin, lists-leaves, lists-stop, lists-end, lists-on, lists-further}
 use mathlib.Core.Path.{sym, ◌∙◌}
-use Prim.Native.Nat.{◌-◌}
 use native.Mathlib.Omega.{arith}
 use Rattle.write_rules.proofs.line.write_conditions.Goals as goal
 

@@ -1,9 +1,6 @@
 -- `write_rules::line::write_conditions` meets its contract. The loop's invariant: what is written and the fields of what is left are the conditions'. Assumes nothing.
-use Rattle.write_rules.proofs.Listing.{Lists, lists-begin, lists-leaves, lists-stop, lists-end, lists-on, lists-further}
-use borrow.Author.Rules.{rules}
-use mathlib.Core.Path.{sym, ◌∙◌}
+use Rattle.write_rules.proofs.Listing.{Lists}
 use Prim.Native.Nat.{◌-◌}
-use native.Mathlib.Omega.{arith}
 use Rattle.write_rules.proofs.line.write_conditions.Given as goal
 
 abbrev pub invariant-loop-entry : goal.invariant-loop-entry

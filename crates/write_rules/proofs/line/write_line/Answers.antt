@@ -1,7 +1,5 @@
 -- `write_rules::line::write_line` meets its contract, part by part. Assumes nothing.
 use Rattle.write_rules.proofs.Listing.{line-has}
-use native.Mathlib.Omega.{arith}
-use borrow.Author.Rules.{rules}
 use Rattle.write_rules.proofs.line.write_line.Goals as goal
 
 pub returns : goal.returns

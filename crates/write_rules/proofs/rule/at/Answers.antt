@@ -1,6 +1,5 @@
 -- `write_rules::rule::at` meets its contract. Assumes nothing.
 use Rattle.write_rules.proofs.Copying.{outside}
-use borrow.Author.Rules.{rules}
 use Rattle.write_rules.proofs.rule.at.Goals as goal
 
 pub returns-else-i-words : goal.returns-else-i-words

@@ -1,9 +1,6 @@
 use Rattle.write_rules.proofs.Copying.{copy_begin, copy-on, copy-end}
-use borrow.Author.Rules.{rules}
-use mathlib.Core.Path.{◌≡◌, refl, ◌∙◌}
-use lib.Seq.{paste}
-use lib.ListN.{length, length-set}
-use Prim.Native.Nat.{◌-◌, ◌≤◌}
+use mathlib.Core.Path.{refl, ◌∙◌}
+use lib.ListN.{length-set}
 use native.Mathlib.Omega.{arith}
 use Rattle.write_rules.proofs.rule.copy_line.Goals as goal
 

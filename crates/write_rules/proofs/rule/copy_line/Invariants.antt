@@ -1,11 +1,8 @@
 -- `write_rules::rule::copy_line` meets its contract. The loop's invariant: the line's bytes up to a place are copied. Assumes nothing.
-use Rattle.write_rules.proofs.Copying.{copy_begin, copy-on, copy-end}
-use borrow.Author.Rules.{rules}
-use mathlib.Core.Path.{◌≡◌, refl, ◌∙◌}
+use mathlib.Core.Path.{◌≡◌}
 use lib.Seq.{paste}
-use lib.ListN.{length, length-set}
+use lib.ListN.{length}
 use Prim.Native.Nat.{◌-◌, ◌≤◌}
-use native.Mathlib.Omega.{arith}
 use Rattle.write_rules.proofs.rule.copy_line.Given as goal
 
 abbrev pub invariant-loop-i : goal.invariant-loop-i

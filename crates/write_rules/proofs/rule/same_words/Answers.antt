@@ -1,7 +1,5 @@
-use Rattle.write_rules.proofs.Copying.{Compares, compares-begin, compares-on, compares-differ, compares-end}
-use borrow.Author.Rules.{rules}
+use Rattle.write_rules.proofs.Copying.{compares-begin, compares-on, compares-differ, compares-end}
 use mathlib.Core.Path.{sym, ◌∙◌}
-use Prim.Native.Nat.{◌-◌}
 use Rattle.write_rules.proofs.rule.same_words.Goals as goal
 
 pub loop-i-init : goal.loop-i-init

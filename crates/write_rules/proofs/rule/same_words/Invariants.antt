@@ -1,7 +1,5 @@
 -- `write_rules::rule::same_words` meets its contract. The loop's invariant: the words up to a place are the same. Assumes nothing.
-use Rattle.write_rules.proofs.Copying.{Compares, compares-begin, compares-on, compares-differ, compares-end}
-use borrow.Author.Rules.{rules}
-use mathlib.Core.Path.{sym, ◌∙◌}
+use Rattle.write_rules.proofs.Copying.{Compares}
 use Prim.Native.Nat.{◌-◌}
 use Rattle.write_rules.proofs.rule.same_words.Given as goal
 

@@ -3,7 +3,6 @@ use Rattle.write_rules.proofs.Answering.{part-words, part-long, nothing-made, no
 use borrow.Author.Tests.{not-true, not-false}
 use mathlib.Core.Path.{refl}
 use native.Mathlib.Omega.{arith}
-use borrow.Author.Rules.{rules}
 use Rattle.write_rules.proofs.rule.write_out.Goals as goal
 
 pub returns-then-n-eq0 : goal.returns-then-n-eq0

@@ -1,8 +1,7 @@
 -- `write_rules::term::write_entry` meets its contract, by the kind of the entry. Assumes nothing.
 use Rattle.write_rules.proofs.Writing.{wrote-put, wrote-more, wrote_as, field-long, variable-text, constructor-text}
-use Rattle.write_rules.proofs.Writing.{wrote-put, wrote-more, entry-variable, entry-constructor}
+use Rattle.write_rules.proofs.Writing.{wrote-put, wrote-more}
 use native.Mathlib.Omega.{arith}
-use borrow.Author.Rules.{rules}
 use Rattle.write_rules.proofs.term.write_entry.Goals as goal
 
 pub returns-then-kind_of-eq18 : goal.returns-then-kind_of-eq18

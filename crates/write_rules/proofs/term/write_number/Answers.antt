@@ -1,7 +1,6 @@
 -- `write_rules::term::write_number` meets its contract. Assumes nothing.
 use Rattle.write_rules.proofs.Writing.{wrote-put, wrote-more, number-long}
 use native.Mathlib.Omega.{arith}
-use borrow.Author.Rules.{rules}
 use Rattle.write_rules.proofs.term.write_number.Goals as goal
 
 pub put_digits-end-requires : goal.put_digits-end-requires

@@ -1,6 +1,4 @@
-use Rattle.write_rules.proofs.Walking.{Walks, walks-begin, walks-leaves, walks-end, stop-used, stop-kind, stop-room, walks-on}
-use borrow.Author.Rules.{rules}
-use Prim.Native.Nat.{◌-◌}
+use Rattle.write_rules.proofs.Walking.{walks-begin, walks-leaves, walks-end, stop-used, stop-kind, stop-room, walks-on}
 use native.Mathlib.Omega.{arith}
 use Rattle.write_rules.proofs.term.write_term.Goals as goal
 

@@ -1,8 +1,6 @@
 -- `write_rules::term::write_term` meets its contract. The loop's invariant: what is written and the fields of what is left are the term's. Assumes nothing.
-use Rattle.write_rules.proofs.Walking.{Walks, walks-begin, walks-leaves, walks-end, stop-used, stop-kind, stop-room, walks-on}
-use borrow.Author.Rules.{rules}
+use Rattle.write_rules.proofs.Walking.{Walks}
 use Prim.Native.Nat.{◌-◌}
-use native.Mathlib.Omega.{arith}
 use Rattle.write_rules.proofs.term.write_term.Given as goal
 
 abbrev pub invariant-loop-wanted : goal.invariant-loop-wanted
