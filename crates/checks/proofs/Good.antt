@@ -13,7 +13,7 @@ use borrow.Author.Tests.{leb-true, ltb-true, eqb-true, eqb-false, le-leb, lt-ltb
 use Rattle.words.specs.Tests.{if◌then◌else◌, every}
 use Rattle.words.specs.Words.{word_at, rows}
 use Rattle.words.proofs.Tests.{and-true, every_true, by_side, every-by-side}
-use Rattle.checks.specs.Kinds.{lines, line_of, kind, variables_by, argument_words_by, lowest, highest_by, operands_from_by, sort_of, takes, same}
+use Rattle.checks.specs.Kinds.{lines, line_of, kind, variables_by, argument_words_by, lowest, highest_by, operands_from_by, sort_of, takes}
 use Rattle.checks.specs.Good.{kind_of, operand_count, zeros_from, number, argument_by, operand_by, constructor_of, child_count, child, held_fits, good_node}
 use Rattle.checks.specs.Good.{count_fits, argument_fits_by, operand_placed_by, operand_sorted_by, operands_fault_by, unused_zero_by, fault_by, good_entry_by}
 use Rattle.checks.specs.Checked.{table_length_fits, store_length_fits}

@@ -1,22 +1,22 @@
 -- A signature that fits, an entry and a node that obey it are the plain facts of specs/Signature.antt, both ways; and what the two
 -- checks against it answer. Assumes nothing.
-use mathlib.Core.Path.{◌≡◌, refl, ap, sym, ◌∙◌}
-use mathlib.Core.Bool.{Bool, true, false, ◌&&◌, ◌||◌, true≢false, false≢true}
-use mathlib.Core.Logic.{◌≢◌, ◌↔◌, ◌⊎◌, inl, inr, ⊎_elim}
+use mathlib.Core.Path.{◌≡◌, refl, ap}
+use mathlib.Core.Bool.{Bool, true, false, ◌||◌}
+use mathlib.Core.Logic.{◌↔◌, inl, inr, ⊎_elim}
 use mathlib.Core.Option.{Option, none, some}
 use mathlib.Core.List.{List}
-use Prim.Native.Nat.{ℕ, ◌≤◌, ◌<◌}
+use Prim.Native.Nat.{ℕ, ◌<◌}
 use native.Mathlib.Omega.{arith}
 use lib.Dec.{leb, ltb, eqb}
 use lib.ListN.{length, get_or}
-use borrow.Author.Tests.{leb-true, ltb-true, eqb-true, eqb-false, le-leb, lt-ltb, eq-eqb, ne_eqb}
-use Rattle.words.specs.Tests.{if◌then◌else◌, every, rejected}
+use borrow.Author.Tests.{leb-true, ltb-true, eqb-true, eqb-false, le-leb, lt-ltb, eq-eqb}
+use Rattle.words.specs.Tests.{if◌then◌else◌, rejected}
 use Rattle.words.specs.Words.{rows}
 use Rattle.words.proofs.Tests.{and-true, every_true}
 use Rattle.checks.specs.Good.{kind_of, operand_count, argument_of, constructor_of, child_count}
 use Rattle.checks.specs.Checked.{checked, found}
 use Rattle.checks.specs.declared.Checked.{Checked}
-use Rattle.checks.specs.Signature.{signature_fits, declares, entry_obeys, node_obeys, entries_checked, nodes_checked, Signature, Declared, EntryObeys, NodeObeys}
+use Rattle.checks.specs.Signature.{signature_fits, declares, entry_obeys, node_obeys, entries_checked, nodes_checked, Declared, EntryObeys}
 use Rattle.checks.specs.Promises as promises
 use Rattle.checks.specs.Promises.{AllGood, Lowest}
 use Rattle.checks.proofs.Promises.{none-good, some-lowest}

@@ -6,7 +6,7 @@ use mathlib.Core.Bool.{Bool, true, false, ◌&&◌, true≢false, false≢true}
 use mathlib.Core.Logic.{◌≢◌, ◌↔◌}
 use mathlib.Core.List.{List}
 use mathlib.Core.Option.{Option, none, some}
-use Prim.Native.Nat.{ℕ, ◌≤◌, ◌<◌}
+use Prim.Native.Nat.{ℕ, ◌<◌}
 use native.Mathlib.Omega.{arith}
 use lib.Dec.{leb}
 use lib.ListN.{length}
@@ -16,7 +16,7 @@ use Rattle.words.specs.Words.{rows}
 use Rattle.words.proofs.Tests.{First, and-true, rejected-none, rejected-some}
 use Rattle.checks.specs.declared.Checked.{Checked}
 use Rattle.checks.specs.Good.{fault_by, good_entry_by, good_node}
-use Rattle.checks.specs.Plain.{TableLength, StoreLength, FaultyBy}
+use Rattle.checks.specs.Plain.{FaultyBy}
 use Rattle.checks.specs.Checked.{checked, found, faulted_by, table_length_fits, store_length_fits, table_checked_by, store_checked}
 use Rattle.checks.specs.Promises as promises
 use Rattle.checks.specs.Promises.{AllGood, Lowest, StoreFits, TableAnswer, passed, length-bad, entry-bad}

@@ -2,7 +2,7 @@
 use Rattle.std.specs.Prelude.{Bool, ◌&&◌, ◌||◌, List, ℕ, zero, suc, ◌+◌, ◌-◌, ◌*◌, ◌/◌, ◌%◌, leb, ltb, eqb}
 use Rattle.words.specs.Tests.{if◌then◌else◌, every}
 use Rattle.words.specs.Words.{word_at, rows}
-use Rattle.checks.specs.Kinds.{Line, ours, lowest, highest_by, argument_words_by, operands_from_by, kind, sort_of, takes, same}
+use Rattle.checks.specs.Kinds.{ours, lowest, highest_by, argument_words_by, operands_from_by, kind, sort_of, takes, same}
 
 -- the kind k is known, and the count n lies within its bounds
 abbrev pub count_of : (k n : ℕ) → Bool

@@ -1,6 +1,6 @@
 -- The chains: what the newest node is, what a search along a chain finds, and that link and unlink keep the index. Assumes nothing.
-use Rattle.std.proofs.Common.{◌≡◌, ℕ, zero, suc, ◌+◌, ◌-◌, ◌*◌, ◌<◌, ◌≤◌, Bool, true, false, eqb, ◌⊎◌, List, length, get_or, set, sym, refl, ap, ◌∙◌, subst, inl, inr, add-one, arith, length-set, get_or-set_other, get_or-set_same, eq-eqb, ne_eqb, eqb-true}
-use mathlib.Core.Option.{Option, none, some}
+use Rattle.std.proofs.Common.{◌≡◌, ℕ, zero, suc, ◌+◌, ◌-◌, ◌<◌, ◌≤◌, Bool, true, false, eqb, ◌⊎◌, List, length, get_or, set, sym, refl, ap, ◌∙◌, subst, inl, inr, add-one, arith, length-set, get_or-set_other, get_or-set_same, eq-eqb, ne_eqb, eqb-true}
+use mathlib.Core.Option.{none, some}
 use native.Mathlib.Decide.{ℕ_discrete}
 use borrow.Author.Tests.{eqb-false}
 use Rattle.words.specs.Tests.{if◌then◌else◌}
@@ -8,7 +8,7 @@ use Rattle.words.proofs.Tests.{below-or-from}
 use Rattle.meaning.specs.Shared.{eight, alike, node_with}
 use Rattle.index.specs.Key.{home, place}
 use Rattle.index.specs.Chains.{newest, Indexed, linked, unlinked}
-use Rattle.index.proofs.Keying.{home_below, alike-equal, differ}
+use Rattle.index.proofs.Keying.{home_below, differ}
 
 module _ (w : List ℕ) (n : ℕ) where
   newest-same : (p m : ℕ) → place w n m ≡ p → newest w n p (suc m) ≡ suc m

@@ -1,16 +1,16 @@
 -- One lent slice: writing the index does not touch the nodes, so the laws of the chains hold of it. Assumes nothing.
-use Rattle.std.proofs.Common.{◌≡◌, ℕ, zero, suc, ◌+◌, ◌-◌, ◌*◌, ◌/◌, ◌%◌, ◌<◌, ◌≤◌, Bool, true, false, leb, List, [], ◌∷◌, length, get_or, take, drop, set, sym, refl, ap, ◌∙◌, subst, add-one, arith, length-set, get_or-set_other, ext_get_or, le-leb}
-use mathlib.Core.Option.{Option, none, some}
+use Rattle.std.proofs.Common.{◌≡◌, ℕ, zero, suc, ◌+◌, ◌-◌, ◌*◌, ◌/◌, ◌%◌, ◌<◌, ◌≤◌, List, [], ◌∷◌, length, get_or, set, sym, refl, ap, ◌∙◌, subst, add-one, arith, length-set, ext_get_or, le-leb}
+use mathlib.Core.Option.{none, some}
 use borrow.Author.Tests.{lt-leb}
 use Rattle.words.specs.Tests.{if◌then◌else◌}
 use Rattle.words.specs.Words.{word_at, put_row, cleared_from}
 use Rattle.words.proofs.Rows.{length-put_row, word_at-put_row-same, word_at-put_row-other, length-cleared_from, get_or-cleared_from-from}
 use Rattle.meaning.specs.Shared.{eight, alike, node_with}
 use Rattle.index.specs.Key.{home, place}
-use Rattle.index.specs.Chains.{Indexed, linked, unlinked}
+use Rattle.index.specs.Chains.{linked, unlinked}
 use Rattle.index.specs.Lent.{Held, joined, parted, built, forgotten, made, Asked}
 use Rattle.index.specs.declared.lent.Node.TheVariants.{Stands, Made, Full}
-use Rattle.index.proofs.Keying.{home_below, eight-set, each_of}
+use Rattle.index.proofs.Keying.{eight-set, each_of}
 use Rattle.index.proofs.Chaining.{indexed-moves, indexed-none, indexed-linked, indexed-unlinked}
 
 -- what stands goes by the words of the nodes

@@ -1,6 +1,6 @@
 -- The run over the lent slice goes together with the run over the store's own words: the plain store's, or the variant's where there is
 -- an index, whose chains hold just the nodes below `top`. Assumes nothing.
-use Rattle.std.proofs.Common.{◌≡◌, ℕ, zero, suc, ◌+◌, ◌-◌, ◌*◌, ◌/◌, ◌%◌, ◌<◌, ◌≤◌, Bool, true, false, leb, List, [], ◌∷◌, length, get_or, take, sym, refl, ap, ◌∙◌, subst, arith, length-take, length-take-le, get_or-take, take-take, ext_get_or, leb-false, leb-true}
+use Rattle.std.proofs.Common.{◌≡◌, ℕ, zero, suc, ◌+◌, ◌-◌, ◌*◌, ◌/◌, ◌%◌, ◌<◌, ◌≤◌, Bool, true, false, leb, List, [], ◌∷◌, length, get_or, take, sym, refl, ap, ◌∙◌, subst, arith, length-take, length-take-le, get_or-take, take-take, ext_get_or, leb-false}
 use mathlib.Core.Path.{fun_ext}
 use mathlib.Core.Option.{Option, none, some}
 use native.Mathlib.Decide.{ℕ_discrete}
@@ -12,12 +12,12 @@ use Rattle.meaning.specs.Bindings.{Bindings}
 use Rattle.meaning.specs.Table.{Table}
 use Rattle.meaning.specs.Rules.{Visit, apply, build, does}
 use Rattle.meaning.specs.Derivation.{what, Notes}
-use Rattle.meaning.specs.Limits.{Store, ended, lost, cut, run}
-use Rattle.meaning.specs.Store.{children, row, State, on, Left, rest, stored, Ran, Kept, Sound, Leaves}
+use Rattle.meaning.specs.Limits.{Store, ended, run}
+use Rattle.meaning.specs.Store.{children, row, State, on, Left, rest, stored, Ran, Kept, Leaves}
 use Rattle.meaning.specs.Shared.{eight, node_with, full_for, number_for, state_for, shared}
 use Rattle.meaning.proofs.Alike.{Holdable, Makeable, Worlds, ORel, o-none, o-some, LRel, l_nil, l_cons, BRel, QRel, q-apply, q-match, q-build, q-compare}
 use Rattle.meaning.proofs.Checked.{Node, Filled, good-of-node}
-use Rattle.meaning.proofs.Words.{kept_refl, kept_trans, kept_word, same-node, kept-filled, Below, below_none, below_more, children-below, length-row, new-kept, new-filled}
+use Rattle.meaning.proofs.Words.{kept_refl, kept_trans, same-node, kept-filled, Below, below_none, below_more, children-below, length-row, new-kept, new-filled}
 use Rattle.meaning.proofs.Simulates.{Makes, both-make, both-full, Simulation, Ends, e-ended, e-lost, e-cut, e-early, e-room, simulates}
 use Rattle.meaning.proofs.NodeWith.{node_with-has, node_with-same}
 use Rattle.index.specs.Chains.{linked, unlinked}

@@ -1,12 +1,11 @@
 -- One lent slice: the words of n nodes and then the index.
 use Rattle.std.specs.Prelude.{◌≡◌, ℕ, zero, suc, ◌+◌, ◌-◌, ◌*◌, Bool, true, false, List, nat_le}
 use Rattle.std.proofs.Math.Option.{Option, none, some}
-use Rattle.words.specs.Tests.{if◌then◌else◌}
 use Rattle.words.specs.Words.{put_row}
 use Rattle.meaning.specs.Shared.{node_with}
 use Rattle.index.specs.declared.lent.Node.{Node}
 use Rattle.index.specs.declared.lent.Node.TheVariants.{Stands, Made, Full}
-use Rattle.index.specs.Key.{home, place}
+use Rattle.index.specs.Key.{place}
 use Rattle.index.specs.Chains.{Indexed, linked, unlinked}
 
 abbrev pub Held : List ℕ → ℕ → ℕ → Type 0

@@ -7,7 +7,7 @@ use Rattle.std.proofs.Math.Option.{Option}
 use Rattle.words.specs.Words.{rows, put_row}
 use Rattle.meaning.specs.Rules.{Visit}
 use Rattle.meaning.specs.Derivation.{Notes}
-use Rattle.meaning.specs.Limits.{Store, Res, ended, lost, cut}
+use Rattle.meaning.specs.Limits.{Store, ended, lost, cut}
 use Rattle.meaning.specs.Store.{State, on, Left, rest, row, stored, Ran}
 use Rattle.meaning.specs.Shared.{node_with, full_for, number_for, state_for}
 use Rattle.index.specs.Lent.{Held, made}

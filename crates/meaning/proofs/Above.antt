@@ -11,7 +11,7 @@ use lib.Dec.{leb}
 use lib.ListN.{length, get_or, take, drop, length-take, length-append}
 use lib.Seq.{take_at}
 use borrow.Author.Tests.{leb-false}
-use Rattle.words.specs.Words.{word_at, rows, put_row}
+use Rattle.words.specs.Words.{rows, put_row}
 use Rattle.words.proofs.Rows.{length-put_row}
 use Rattle.words.proofs.Tests.{below-or-from}
 use Rattle.checks.specs.Good.{kind_of, argument_of, operand_count, constructor_of, child_count}

@@ -1,6 +1,5 @@
 -- The units left never rise: of any store, by any rules, a run has at most those left that it was given.
 use mathlib.Core.Bool.{Bool, true, false}
-use mathlib.Core.List.{List}
 use Prim.Native.Nat.{ℕ, zero, suc, ◌≤◌}
 use native.Mathlib.Omega.{arith}
 use Rattle.meaning.specs.Plan.{Keep, Plan, ret, fail, miss, stuck, look, make, ask}

@@ -5,12 +5,12 @@ use mathlib.Core.Option.{Option, none, some}
 use mathlib.Core.List.{List}
 use Prim.Native.Nat.{ℕ, zero, suc}
 use Rattle.meaning.specs.Bindings.{Bindings}
-use Rattle.meaning.specs.Plan.{Keep, keep, drop, Plan, ret, fail, miss, stuck, look, make, ask}
+use Rattle.meaning.specs.Plan.{Keep, keep, drop, ret, fail, miss, stuck, look, make, ask}
 use Rattle.meaning.specs.Table.{table_by}
 use Rattle.meaning.specs.Rules.{Visit, apply, Do, does}
 use Rattle.meaning.specs.Derivation.{what, Notes}
-use Rattle.meaning.specs.Limits.{Store, Res, ended, lost, cut, room, room_for, settled, after, closed, run_plan, run}
-use Rattle.meaning.specs.Store.{Input, State, on, Left, rest, Ran, stored, row, bindings, deepest}
+use Rattle.meaning.specs.Limits.{Store, Res, ended, lost, cut, room_for, settled, after, closed, run_plan, run}
+use Rattle.meaning.specs.Store.{State, on, Left, rest, Ran, stored, row, bindings, deepest}
 use Rattle.meaning.specs.Shared.{state_for, finds, standing, ran_sharing}
 use Rattle.meaning.specs.Mapped.{renote, renote_left, renoted, NotesLess, Renoted, RenotedShared, RenotedSharing}
 use Rattle.meaning.proofs.Shared.{not-shared, all-shared}

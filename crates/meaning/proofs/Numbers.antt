@@ -1,16 +1,15 @@
 -- Where no two nodes have the same words, two terms are equal exactly when their numbers are. Assumes nothing.
-use mathlib.Core.Path.{◌≡◌, refl, ap, sym, ◌∙◌, subst}
+use mathlib.Core.Path.{◌≡◌, refl, ap, sym, ◌∙◌}
 use mathlib.Core.Logic.{⊎_elim}
-use mathlib.Core.List.{List, [], ◌∷◌, ◌++◌, map}
-use Prim.Native.Nat.{ℕ, zero, suc, ◌+◌, ◌-◌, ◌*◌, ◌≤◌, ◌<◌}
+use mathlib.Core.List.{List, ◌∷◌, ◌++◌, map}
+use Prim.Native.Nat.{ℕ, zero, suc, ◌+◌, ◌-◌, ◌≤◌, ◌<◌}
 use native.Mathlib.Nat.{eq-or-lt_of_le}
 use native.Mathlib.Omega.{arith}
-use lib.ListN.{length, get_or, take, replicate, length-take, length-append, length-replicate, get_or-replicate, get_or-append}
+use lib.ListN.{length, get_or, replicate, length-take, length-append, length-replicate, get_or-replicate, get_or-append}
 use lib.Seq.{ext_get_or, get_or-take, get_or-append-add}
-use Rattle.words.specs.Words.{word_at}
 use Rattle.words.proofs.Tests.{below-or-from}
 use Rattle.checks.specs.Good.{constructor_of, child_count, child}
-use Rattle.meaning.specs.Term.{Term, con, kids, mk}
+use Rattle.meaning.specs.Term.{con, kids, mk}
 use Rattle.meaning.specs.Table.{six}
 use Rattle.meaning.specs.Store.{children, row, term}
 use Rattle.meaning.proofs.Terms.{con-mk, kids-mk}

@@ -9,10 +9,10 @@ use Prim.Native.Nat.{ℕ, zero, suc, ◌<◌}
 use native.Mathlib.Omega.{arith}
 use Rattle.meaning.specs.Term.{Term, con, kids, mk}
 use Rattle.meaning.specs.Table.{Strategy, ID, FAIL, TEST, NOT, SEQ, CHOICE, LEFT, REC, CALL, PATH, CONG, ALL, ONE, SOME, MATCH, BUILD, SCOPE, WHERE, Pattern, PVAR, PCON, Table}
-use Rattle.meaning.specs.Plan.{Keep, keep, drop, ret, fail, miss, stuck, look, make, ask}
+use Rattle.meaning.specs.Plan.{keep, ret, fail, miss, stuck, look, make, ask}
 use Rattle.meaning.specs.Rules.{Visit, apply, match, build, compare, Do, nth, put, zip, agree, when, given, again, walk, one_of}
 use Rattle.meaning.specs.Rules.{some_of, strategy, variable, when_at, matching, needed, building, comparing, does}
-use Rattle.meaning.specs.Derivation.{Out, done, failed, What, entry, pattern, pair, what, Fate, stays, goes, fails, fate, Trace}
+use Rattle.meaning.specs.Derivation.{Out, done, failed, What, entry, pair, what, Fate, stays, fails, fate, Trace}
 use Rattle.meaning.specs.Derivation.{over, missed, node, visit, terms, Der, d-ret, d-fail, d-miss, d-look, d-make, d-yes, d-no}
 use Rattle.meaning.specs.Derivation.{trace as traceDer}
 use Rattle.meaning.specs.System

@@ -1,48 +1,40 @@
 -- The store variant beside the plain store, and beside itself over another store with the same nodes. Each promise of specs/Shared.antt
 -- stands here under its name in small letters. Assumes nothing.
 use mathlib.Core.Path.{◌≡◌, refl, ap, sym, ◌∙◌, subst, fun_ext}
-use mathlib.Core.Bool.{Bool, true, false, true≢false}
+use mathlib.Core.Bool.{Bool, true, false}
 use mathlib.Core.Option.{Option, none, some}
-use mathlib.Core.List.{List, [], ◌∷◌, map}
-use Prim.Native.Nat.{ℕ, zero, suc, ◌+◌, ◌-◌, ◌*◌, ◌/◌, ◌≤◌, ◌<◌, max}
-use native.Mathlib.Decide.{ℕ_discrete}
+use mathlib.Core.List.{List, map}
+use Prim.Native.Nat.{ℕ, zero, suc, ◌≤◌, ◌<◌, max}
 use native.Mathlib.Omega.{arith}
-use native.Mathlib.Numerals.{add-one}
-use lib.Dec.{eqb, leb}
-use lib.ListN.{length, get_or, take, drop as dropList, replicate, length-take}
-use lib.Seq.{take_at, ext_get_or}
-use borrow.Author.Tests.{leb-true, leb-false, lt-leb, eqb-true, eq-eqb}
-use Rattle.words.specs.Tests.{if◌then◌else◌}
-use Rattle.words.specs.Words.{word_at, rows, put_row}
-use Rattle.words.proofs.Tests.{and-true}
-use Rattle.words.proofs.Rows.{word_at-put_row-same, word_at-put_row-other}
-use Rattle.checks.specs.Good.{constructor_of, child_count}
+use lib.Dec.{leb}
+use lib.ListN.{length, get_or}
+use borrow.Author.Tests.{leb-true, leb-false, lt-leb}
+use Rattle.words.specs.Words.{rows}
+use Rattle.checks.specs.Good.{constructor_of}
 use Rattle.meaning.specs.Term.{Term, con, kids, mk}
-use Rattle.meaning.specs.Bindings.{Bindings}
-use Rattle.meaning.specs.Table.{Table, six, table_by}
-use Rattle.meaning.specs.Plan.{Keep, keep, drop, Plan, ret, fail, miss, stuck, look, make, ask}
-use Rattle.meaning.specs.Rules.{Visit, Do, apply, does}
+use Rattle.meaning.specs.Table.{Table, table_by}
+use Rattle.meaning.specs.Plan.{Keep, keep, drop, ret, fail, miss, stuck, look, make, ask}
+use Rattle.meaning.specs.Rules.{Visit, Do, does}
 use Rattle.meaning.specs.Derivation.{what, Notes, terms}
 use Rattle.meaning.specs.Limits.{Limit, units, room, nesting, unbound, Res, ended, lost, cut, Counted, at, counting, room_for, settled, after, closed, run_plan, run, Store}
 use Rattle.meaning.specs.System.{Env}
-use Rattle.meaning.specs.Store.{children, row, State, on, Left, rest, stored, term, named, bindings, term_of, meant, Input, AcceptedBy, Ran, value, deepest, Kept, Sound, Leaves}
+use Rattle.meaning.specs.Store.{children, row, State, on, Left, rest, term, named, bindings, term_of, meant, Input, AcceptedBy, Ran, value, deepest, Kept}
 use Rattle.meaning.specs.Store.{ran_by}
-use Rattle.meaning.specs.Demands.{Says, limits, start_visit, Agreed, started, EitherOrder}
-use Rattle.meaning.specs.Above.{in_store, SameBelow, same_ended, same-lost, same-cut}
-use Rattle.meaning.specs.Shared.{eight, alike, node_with, full_for, number_for, state_for, shared, shared_ran_by, Distinct, OneNode}
+use Rattle.meaning.specs.Demands.{Says, start_visit, Agreed, started}
+use Rattle.meaning.specs.Shared.{node_with, full_for, number_for, state_for, shared, shared_ran_by, Distinct, OneNode}
 use Rattle.meaning.specs.Shared.{OneNodeOnly, SharedLeaves, SharedObeyed, SharedAbove, Spares, SharedSpares, sized, Shares}
 use Rattle.meaning.specs.Shared.{share-done, share-failed, share-cut, share-room, Demand2Shared, Demand3Shared}
 use Rattle.meaning.specs.Shared.{standing, ran_sharing, NotShared, AllShared}
 use Rattle.meaning.proofs.Tests.{impossible}
-use Rattle.meaning.proofs.Alike.{Holdable, Makeable, Worlds, ORel, o-none, o-some, LRel, l_nil, l_cons, BRel, QRel, q-apply, q-match, q-build, q-compare}
-use Rattle.meaning.proofs.Checked.{Filled, good-of-node, store-filled, table-makeable}
-use Rattle.meaning.proofs.Words.{kept_refl, kept_trans, kept_word, kept-children, kept-filled, Below, below_none, below_more, children-below, length-row, new-kept, new-filled, term-node}
-use Rattle.meaning.proofs.Together.{Stored, state, Later, Names, in_use, stores, later_refl, backed, later-backed, names-below}
+use Rattle.meaning.proofs.Alike.{Holdable, ORel, o-none, o-some, LRel, QRel, q-apply}
+use Rattle.meaning.proofs.Checked.{Filled, store-filled, table-makeable}
+use Rattle.meaning.proofs.Words.{kept_refl, kept_trans, term-node}
+use Rattle.meaning.proofs.Together.{Stored, state, Later, Names, in_use, stores, later_refl, backed, later-backed}
 use Rattle.meaning.proofs.Together.{names-terms, names-constructor, names-children, names-holdable, grown, later_grown, names-grown}
 use Rattle.meaning.proofs.Together.{same-what}
-use Rattle.meaning.proofs.Simulates.{Makes, both-make, both-full, first-full, second-full, Simulation, Ends, e-ended, e-lost, e-cut, e-early, e-room, simulates}
+use Rattle.meaning.proofs.Simulates.{Makes, both-make, first-full, second-full, Simulation, Ends, e-ended, e-lost, e-cut, e-early, e-room, simulates}
 use Rattle.meaning.proofs.NodeWith.{node_with-has, node_with-same, kept-eight, row-children, row-constructor, distinct-kept, distinct-put}
-use Rattle.meaning.proofs.Above.{Finding, found_by, found-above, found-owns, found-leaves, found-obeys}
+use Rattle.meaning.proofs.Above.{Finding, found-above, found-owns, found-leaves, found-obeys}
 use Rattle.meaning.proofs.Numbers.{equal-numbers}
 use Rattle.meaning.proofs.Demands.{demand-2-values, over-the-words}
 use Rattle.meaning.proofs.Orders.{agreed}

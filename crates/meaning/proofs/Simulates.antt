@@ -1,13 +1,13 @@
 -- Two stores go together: where they look alike, make nodes alike and give room back alike, related visits end alike by any
 -- table. Of `Loose` stores the second may be cut off by room where the first is not, and of `Early` ones the first where the second is not.
-use mathlib.Core.Path.{◌≡◌, refl, sym, subst}
-use mathlib.Core.Bool.{Bool, true, false, true≢false}
+use mathlib.Core.Path.{◌≡◌, subst}
+use mathlib.Core.Bool.{true, false}
 use mathlib.Core.List.{List}
 use Prim.Native.Nat.{ℕ, zero, suc}
 use lib.ListN.{length}
 use Rattle.meaning.specs.Bindings.{Bindings}
 use Rattle.meaning.specs.Table.{Table}
-use Rattle.meaning.specs.Plan.{Keep, keep, drop}
+use Rattle.meaning.specs.Plan.{keep, drop}
 use Rattle.meaning.specs.Rules.{Visit, Do, does}
 use Rattle.meaning.specs.Limits.{Limit, room, Store, Res, ended, lost, cut, room_for, settled, after, closed, run_plan, run}
 use Rattle.meaning.proofs.Alike.{Makeable, Worlds, LRel, BRel, QRel, PRel, p-ret, p-fail, p-miss, p-stuck, p-look, p-make, p-ask, p-test, p-does}

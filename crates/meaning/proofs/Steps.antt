@@ -2,9 +2,9 @@
 use mathlib.Core.Path.{◌≡◌, refl, ap, sym, ◌∙◌}
 use mathlib.Core.Bool.{Bool, true, false}
 use mathlib.Core.List.{List, [], ◌∷◌}
-use Prim.Native.Nat.{ℕ, zero, suc, ◌+◌, ◌≤◌, ◌<◌}
+use Prim.Native.Nat.{ℕ, zero, suc, ◌+◌, ◌≤◌}
 use native.Mathlib.Omega.{arith}
-use Rattle.meaning.specs.Plan.{Keep, keep, Plan, ret, fail, miss, stuck, look, make, ask}
+use Rattle.meaning.specs.Plan.{keep, Plan, ret, fail, miss, stuck, look, make, ask}
 use Rattle.meaning.specs.Limits.{Limit, units, room, nesting, Res, ended, lost, cut, Store, room_for, settled, after, closed, run_plan, run}
 use Rattle.meaning.specs.Steps.{Frame, Next, over, next, roomy, advance, onto, settle, enter, one, steps, start, Stepped, StepsInParts, OneEnd}
 

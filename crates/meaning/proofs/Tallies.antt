@@ -1,16 +1,16 @@
 -- Counts over a trace add up, and what was noted counts as the trace does. Assumes nothing.
-use mathlib.Core.Path.{◌≡◌, refl, ap, sym, ◌∙◌}
+use mathlib.Core.Path.{◌≡◌, refl, ap, sym}
 use mathlib.Core.Bool.{Bool, true, false, ◌&&◌}
 use mathlib.Core.List.{List, [], ◌∷◌}
 use mathlib.Core.Logic.{⊎_elim}
-use Prim.Native.Nat.{ℕ, zero, suc, ◌+◌, ◌≤◌, ◌<◌}
+use Prim.Native.Nat.{ℕ, zero, suc, ◌+◌, ◌<◌}
 use native.Mathlib.Omega.{arith}
 use borrow.Author.Tests.{eq-eqb, ne_eqb}
 use lib.Dec.{eqb}
 use Rattle.words.proofs.Tests.{below-or-from}
 use Rattle.meaning.specs.Derivation.{What, entry, pattern, pair, Fate, stays, goes, fails, in-flight, Trace, over, missed, node}
 use Rattle.meaning.specs.Derivation.{visit, visits, Event, began, ended, history, shut, noted}
-use Rattle.meaning.specs.Tallies.{one-if, is_entry, any_entry, any_pattern, is_pair, succeeded, has_failed, flies, count, entries_below}
+use Rattle.meaning.specs.Tallies.{one-if, is_entry, any_pattern, is_pair, succeeded, has_failed, flies, count, entries_below}
 use Rattle.meaning.specs.Tallies.{Inside, VisitsMakeUnits, FatesMakeVisits, counted, begins, wins, loses, HistoryCounts}
 use Rattle.meaning.specs.Tallies.{Entered, entries_in, EventsAddUp, EntriesNoted, CountAll}
 

@@ -18,7 +18,7 @@ use Rattle.meaning.specs.Rules.{Visit, Do, does}
 use Rattle.meaning.specs.Derivation.{what, Notes, terms}
 use Rattle.meaning.specs.Limits.{Limit, ended, lost, cut, Counted, at, counting, room_for, settled, after, closed, run_plan, run}
 use Rattle.meaning.specs.System.{Env}
-use Rattle.meaning.specs.Store.{children, row, State, on, Left, rest, stored, term, Ran, Kept}
+use Rattle.meaning.specs.Store.{children, row, State, on, rest, stored, term, Ran, Kept}
 use Rattle.meaning.proofs.Terms.{list-unlist}
 use Rattle.meaning.proofs.Limits.{Answer}
 use Rattle.meaning.proofs.Alike.{Holdable, Makeable, Worlds, LRel, l_nil, l_cons, BRel, QRel, PRel, q-apply, q-match, q-build}

@@ -1,12 +1,10 @@
 -- The twenty kinds read, each by computing.
-use mathlib.Core.Path.{◌≡◌, refl, ap}
-use mathlib.Core.List.{List}
+use mathlib.Core.Path.{◌≡◌}
 use Prim.Native.Nat.{ℕ, ◌+◌, ◌*◌, ◌/◌, ◌%◌, ◌≤◌}
 use native.Mathlib.Omega.{arith}
-use Rattle.words.specs.Words.{word_at}
 use Rattle.checks.specs.Good.{number}
 use Rattle.meaning.specs.Table.{by_kind, table_by}
-use Rattle.meaning.specs.Twenty.{Twenty, TwentyKinds, ScopeRead}
+use Rattle.meaning.specs.Twenty.{TwentyKinds, ScopeRead}
 
 -- the kind and the count of a word 0 that has up to six operands
 kind-of : (k n : ℕ) → n ≤ 6 → (16 * k + n) / 16 ≡ k

@@ -3,14 +3,11 @@ use mathlib.Core.Path.{◌≡◌, refl, sym, ◌∙◌}
 use Prim.Native.Nat.{ℕ, ◌+◌}
 use native.Mathlib.Omega.{arith}
 use Rattle.meaning.specs.Term.{Term}
-use Rattle.meaning.specs.Table.{Table}
-use Rattle.meaning.specs.Plan.{keep, ret, fail, ask}
-use Rattle.meaning.specs.Rules.{Visit}
-use Rattle.meaning.specs.Derivation.{Out, done, failed, stays, fails, Trace, visits, depth, left, most, quiet}
+use Rattle.meaning.specs.Derivation.{done, failed, stays, fails, Trace, visits, depth, left, most, quiet}
 use Rattle.meaning.specs.Limits.{unbound, Res, ended, lost, cut, Counted, at}
-use Rattle.meaning.specs.System.{Env, ◌⊢◌⇒◌, trace}
-use Rattle.meaning.specs.Beginning.{at-unbound, Begun, Given, Fits, trace as traceBegun}
-use Rattle.meaning.specs.Demands.{whole, Says, Demand2Values, UnboundUnderivable}
+use Rattle.meaning.specs.System.{Env, trace}
+use Rattle.meaning.specs.Beginning.{Given, Fits, trace as traceBegun}
+use Rattle.meaning.specs.Demands.{whole, Demand2Values, UnboundUnderivable}
 
 -- just what the two together ask for
 abbrev enough : Trace → Trace → Given

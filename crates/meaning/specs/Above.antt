@@ -1,7 +1,7 @@
 -- Words from the mark on are of no account: stores of one length that have the same nodes below the mark run alike. And what the
 -- nodes below the mark and the patterns of the table obey, every node below the mark of a done run obeys. The proofs are
 -- proofs/Above.antt.
-use Rattle.std.specs.Prelude.{◌≡◌, List, ℕ, ◌<◌}
+use Rattle.std.specs.Prelude.{◌≡◌, List, ℕ}
 use Rattle.words.specs.Words.{rows}
 use Rattle.checks.specs.Signature.{entry_obeys, node_obeys}
 use Rattle.checks.specs.Promises.{AllGood}

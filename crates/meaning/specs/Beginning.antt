@@ -3,9 +3,9 @@
 use Rattle.std.specs.Prelude.{◌≡◌, List, ℕ, suc, ◌+◌, ◌≤◌, ◌<◌}
 use Rattle.meaning.specs.Term.{Term, con, kids, mk}
 use Rattle.meaning.specs.Table.{Table}
-use Rattle.meaning.specs.Plan.{Keep, keep, drop, stuck, look, make, ask}
+use Rattle.meaning.specs.Plan.{Keep, stuck, look, make, ask}
 use Rattle.meaning.specs.Rules.{Visit, Do, does}
-use Rattle.meaning.specs.Derivation.{done, failed, what, fate, fails, in-flight, Trace, over, node, visit, visits, depth, left, most}
+use Rattle.meaning.specs.Derivation.{done, failed, what, fate, fails, in-flight, Trace, over, node, visit, visits, depth, most}
 use Rattle.meaning.specs.Limits.{Limit, units, room, nesting as nested, unbound}
 use Rattle.meaning.specs.System.{Env, ◌⊢◌⇒◌, trace as traceOf}
 

@@ -1,7 +1,7 @@
 -- A run that notes more is a run that notes less, and more beside it: what is left out of the notes changes nothing else. The proof is
 -- proofs/Mapped.antt.
 use Rattle.std.specs.Prelude.{◌≡◌, Bool, ℕ}
-use Rattle.meaning.specs.Limits.{Res, ended, lost, cut}
+use Rattle.meaning.specs.Limits.{ended, lost, cut}
 use Rattle.meaning.specs.Derivation.{What, Notes}
 use Rattle.meaning.specs.Store.{Input, State, on, Left, rest, Ran, ran_by}
 use Rattle.meaning.specs.Shared.{shared_ran_by, ran_sharing}

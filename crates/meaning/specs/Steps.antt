@@ -2,7 +2,7 @@
 -- left for it, the store when it was asked for, and the two ways on in the plan that asked. The proofs are proofs/Steps.antt.
 use Rattle.std.specs.Prelude.{◌≡◌, Bool, true, false, List, [], ◌∷◌, ℕ, zero, suc, ◌+◌}
 use Rattle.meaning.specs.Plan.{Keep, keep, Plan, ret, fail, miss, stuck, look, make, ask}
-use Rattle.meaning.specs.Limits.{Limit, units, room, nesting, unbound, Res, ended, lost, cut, Store, settled, closed, run}
+use Rattle.meaning.specs.Limits.{units, room, nesting, unbound, Res, ended, lost, cut, Store, settled, closed, run}
 
 pub record Frame (H B Q S : Type 0) : Type 0 where
   pub visit : Q

@@ -2,11 +2,8 @@
 -- a scope's row.
 use Rattle.std.specs.Prelude.{◌≡◌, List, [], ◌∷◌, ◌++◌, map, set, ℕ, ◌^◌}
 use Rattle.checks.specs.Checked.{checked, table_checked_by}
-use Rattle.checks.specs.declared.Checked.{Checked}
-use Rattle.meaning.specs.Derivation.{nowhere}
 use Rattle.meaning.specs.Store.{Input, row}
-use Rattle.meaning.specs.Answer.{Returned}
-use Rattle.meaning.specs.Small.{entry, free, roomy, bound, three, four, given, gives, fails-at, Case, case, seen, expected}
+use Rattle.meaning.specs.Small.{entry, roomy, bound, three, four, given, gives, fails-at, Case, case, seen, expected}
 
 -- a run with variable v bound to node k
 unfoldable pub given-bound : (v k : ℕ) → List ℕ → Input

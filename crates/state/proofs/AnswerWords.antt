@@ -1,18 +1,15 @@
 -- What a word says: the laws of packing a node with units, of each answer's word, and of an answer with record and store.
-use mathlib.Core.Path.{◌≡◌, refl, ap, sym, ◌∙◌, subst}
+use mathlib.Core.Path.{◌≡◌, refl, ap, sym, ◌∙◌}
 use mathlib.Core.Bool.{Bool, true, false}
 use mathlib.Core.List.{List}
-use mathlib.Core.Logic.{◌⊎◌, ⊎_elim}
-use Prim.Native.Nat.{ℕ, ◌+◌, ◌*◌, ◌/◌, ◌%◌, ◌<◌, ◌≤◌}
+use Prim.Native.Nat.{ℕ, ◌+◌, ◌%◌, ◌<◌, ◌≤◌}
 use native.Mathlib.Omega.{arith}
 use lib.Dec.{eqb, ltb}
 use borrow.Author.Tests.{ne_eqb, eqb-true, eqb-false, lt-ltb, le-ltb, ltb-true}
-use denote.Enum.Declared.{tag_of}
 use Rattle.words.specs.Tests.{if◌then◌else◌}
 use Rattle.meaning.specs.Bindings.{Bindings}
-use Rattle.meaning.specs.Limits.{Limit, units, room, nesting, unbound, ended, lost, cut}
-use Rattle.state.specs.Noted.{Standing, on, Ran, left_of}
-use Rattle.state.specs.contracts.answers.Answer.{the_type}
+use Rattle.meaning.specs.Limits.{units, room, nesting, unbound, ended, lost, cut}
+use Rattle.state.specs.Noted.{Standing, on, left_of}
 use Rattle.state.specs.declared.answers.Answer.{Answer}
 use Rattle.state.specs.declared.answers.Answer.TheVariants.{Done, Failed, Cut}
 use Rattle.state.specs.declared.answers.Attempt.{Attempt}

@@ -1,19 +1,18 @@
 -- A plan's next step over the store's words, by what the visit that it asks for answered.
-use mathlib.Core.Path.{◌≡◌, refl, ap, sym, ◌∙◌, subst}
-use mathlib.Core.Bool.{Bool, true, false}
-use mathlib.Core.List.{List, [], ◌∷◌}
+use mathlib.Core.Path.{◌≡◌, refl, sym, ◌∙◌}
+use mathlib.Core.List.{List}
 use mathlib.Core.Logic.{◌⊎◌, inl, inr, ⊎_elim}
-use Prim.Native.Nat.{ℕ, zero, suc, ◌+◌, ◌-◌, ◌<◌, ◌≤◌}
+use Prim.Native.Nat.{ℕ}
 use native.Mathlib.Omega.{arith}
 use denote.Enum.Declared.{tag_of}
 use Rattle.meaning.specs.Bindings.{Bindings}
 use Rattle.meaning.specs.Table.{table}
 use Rattle.meaning.specs.Plan.{Keep, keep, drop, ret, fail, miss, ask}
 use Rattle.meaning.specs.Rules.{Visit, Do, does}
-use Rattle.meaning.specs.Limits.{Limit, units, nesting, Res, ended, lost, cut, settled, after, run_plan, run}
+use Rattle.meaning.specs.Limits.{Limit, ended, lost, cut, settled, after, run_plan, run}
 use Rattle.meaning.specs.Store.{rest}
 use Rattle.index.specs.Run.{noting}
-use Rattle.state.specs.Noted.{State, Standing, back_to, missed_at, on, stored, Ran, left_of}
+use Rattle.state.specs.Noted.{Standing, back_to, on, stored, Ran, left_of}
 use Rattle.state.specs.contracts.answers.Answer.{the_type}
 use Rattle.state.specs.declared.answers.Answer.{Answer}
 use Rattle.state.specs.declared.answers.Answer.TheVariants.{Done, Failed, Cut}

@@ -7,7 +7,7 @@ use mathlib.Core.Logic.{◌⊎◌, inl, inr, ⊎_elim}
 use mathlib.Core.List.{List}
 use Prim.Native.Nat.{ℕ, zero, suc, ◌+◌, ◌-◌, ◌*◌, ◌/◌, ◌%◌, ◌^◌, ◌<◌, ◌≤◌}
 use native.Mathlib.Omega.{arith}
-use lib.Dec.{lit<, eqb}
+use lib.Dec.{eqb}
 use lib.ListN.{length, get_or, set, length-set, replicate, length-replicate}
 use lib.Seq.{get_or-set_same, get_or-set_other}
 use lib.Bits.{bit_and, bit_or}
@@ -20,7 +20,7 @@ use Rattle.checks.specs.Good.{number}
 use Rattle.meaning.specs.Bindings.{Bindings, bind, has, masked, unbound}
 use Rattle.meaning.specs.Limits.{at}
 use Rattle.index.specs.Run.{lending, noting}
-use Rattle.state.specs.Record.{mark_at, miss_at, room_at, top_at, nodes_at, mask_at, mark_of, miss_of, room_of, top_of, nodes_of, notes_of}
+use Rattle.state.specs.Record.{mark_at, miss_at, room_at, top_at, nodes_at, mask_at, mark_of, miss_of, room_of, nodes_of, notes_of}
 use Rattle.state.specs.Record.{standing, lasting, marking, missing, marked as marked-up, bit_of, parted, copied_from, copied}
 use Rattle.state.specs.Record.{first_by, record_long_by, mask_of_by, word_of_by, masking_by, wording_by, held_by, bound_by, without_by}
 use Rattle.state.specs.Record.{hidden_by, kept_words_by, put_back_by, back_by, FramedBy}

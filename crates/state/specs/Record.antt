@@ -3,7 +3,7 @@
 -- putting mark and mask back.
 --
 -- The mask has W words, of 32 variables each, as a scope's has; the product's own W is `ours` (checks/specs/Kinds).
-use Rattle.std.specs.Prelude.{◌≡◌, Bool, ◌&&◌, true, List, ℕ, zero, suc, ◌+◌, ◌-◌, ◌/◌, ◌%◌, ◌*◌, ◌^◌, ◌<◌, eqb, ltb, length, get_or, set, replicate}
+use Rattle.std.specs.Prelude.{◌≡◌, ◌&&◌, true, List, ℕ, zero, suc, ◌+◌, ◌-◌, ◌/◌, ◌%◌, ◌^◌, ◌<◌, eqb, ltb, length, get_or, set, replicate}
 use Rattle.std.proofs.Math.Option.{none, some}
 use Rattle.std.specs.Int.Bits.{bit_and, bit_or}
 use Rattle.words.specs.Tests.{if◌then◌else◌}

@@ -1,6 +1,5 @@
 -- `checks::answered` meets its contract, case by case. Assumes nothing.
 use mathlib.Core.Path.{ap, sym}
-use borrow.Author.Rules.{rules}
 use Rattle.checks.specs.Checked.{found, place_of}
 use Rattle.checks.specs.declared.Found.{Found}
 use Rattle.checks.proofs.answered.Goals as goal

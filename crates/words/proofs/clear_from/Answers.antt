@@ -1,9 +1,7 @@
-use mathlib.Core.Path.{◌≡◌, refl, sym, ◌∙◌}
-use Prim.Native.Nat.{◌-◌}
+use mathlib.Core.Path.{refl, sym, ◌∙◌}
 use borrow.Author.Rules.{rules}
 use native.Mathlib.Omega.{arith}
-use lib.ListN.{length, length-set}
-use Rattle.words.specs.Words.{cleared_from}
+use lib.ListN.{length-set}
 use Rattle.words.proofs.Rows.{cleared_from-set, cleared_from-end}
 use Rattle.words.proofs.clear_from.Goals as goal
 

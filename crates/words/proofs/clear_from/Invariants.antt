@@ -1,12 +1,9 @@
 -- `words::clear_from` meets its contract. The loop's invariant: clearing the words from i leaves what clearing the
 -- given words from `from` leaves. Assumes nothing.
-use mathlib.Core.Path.{◌≡◌, refl, sym, ◌∙◌}
+use mathlib.Core.Path.{◌≡◌}
 use Prim.Native.Nat.{◌-◌}
-use borrow.Author.Rules.{rules}
-use native.Mathlib.Omega.{arith}
-use lib.ListN.{length, length-set}
+use lib.ListN.{length}
 use Rattle.words.specs.Words.{cleared_from}
-use Rattle.words.proofs.Rows.{cleared_from-set, cleared_from-end}
 use Rattle.words.proofs.clear_from.Given as goal
 
 abbrev pub invariant-loop-i : goal.invariant-loop-i

@@ -1,6 +1,5 @@
 -- `words::word` meets its contract: a read past the end is the default of `get_or`. Assumes nothing.
 use mathlib.Core.Path.{sym}
-use borrow.Author.Rules.{rules}
 use lib.ListN.{get_or-eq_default}
 use Rattle.words.proofs.word.Goals as goal
 

@@ -2,13 +2,9 @@
 -- Assumes nothing.
 use mathlib.Core.Path.{◌≡◌}
 use Prim.Native.Nat.{◌-◌, ◌≤◌}
-use native.Mathlib.Nat.{sub-zero}
-use native.Mathlib.Omega.{arith}
 use lib.Dec.{leb}
 use lib.ListN.{length, get_or}
-use borrow.Author.Tests.{le-leb, lt-leb}
 use Rattle.words.specs.Tests.{every}
-use Rattle.words.proofs.Tests.{every-turn, every-stop, every-end}
 use Rattle.checks.specs.Checked.{bound_below}
 use Rattle.checks.proofs.bindings.bindings_below.Given as goal
 

@@ -1,9 +1,8 @@
 -- `checks::entries::argument_fits` meets its contract: any mask is in the range of a SCOPE's, and the others go test by test.
 -- Assumes nothing.
-use mathlib.Core.Path.{◌≡◌, sym, ◌∙◌}
+use mathlib.Core.Path.{sym, ◌∙◌}
 use mathlib.Core.Logic.{◌≢◌}
 use Prim.Native.Nat.{◌+◌, ◌*◌}
-use borrow.Author.Rules.{rules}
 use borrow.Author.Tests.{le-leb, lt-leb}
 use Rattle.checks.specs.Kinds.{ours}
 use Rattle.checks.specs.Good.{kind_of, argument_fits_by}

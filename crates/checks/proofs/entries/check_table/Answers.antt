@@ -1,7 +1,6 @@
 -- `checks::entries::check_table` meets its contract: the length first, then the fault of the lowest bad entry. Assumes nothing.
 use mathlib.Core.Path.{sym, ◌∙◌}
 use lib.ListN.{length}
-use borrow.Author.Rules.{rules}
 use borrow.Author.Tests.{not-true, not-false}
 use Rattle.checks.specs.Checked.{table_checked_by}
 use Rattle.checks.proofs.Good.{table_length_fits-plain}

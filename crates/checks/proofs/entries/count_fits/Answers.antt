@@ -1,5 +1,4 @@
 -- `checks::entries::count_fits` meets its contract, test by test. Assumes nothing.
-use borrow.Author.Rules.{rules}
 use borrow.Author.Tests.{le-leb, lt-leb}
 use Rattle.checks.proofs.entries.count_fits.Goals as goal
 

@@ -1,10 +1,9 @@
 -- `checks::entries::entry_fault` meets its contract, test by test; what a test requires, the ones before it have shown.
 -- Assumes nothing.
-use mathlib.Core.Path.{◌≡◌, refl, ap, sym, ◌∙◌}
+use mathlib.Core.Path.{◌≡◌, ap, sym, ◌∙◌}
 use mathlib.Core.Bool.{true}
 use Prim.Native.Nat.{ℕ, ◌+◌, ◌-◌, ◌/◌, ◌%◌, ◌≤◌}
 use native.Mathlib.Omega.{arith}
-use borrow.Author.Rules.{rules}
 use borrow.Author.Tests.{eq-eqb, ne_eqb, not-true, not-false}
 use Rattle.checks.specs.Kinds.{ours, operands_from_by, kind}
 use Rattle.checks.specs.Good.{kind_of, operand_count, count_fits, argument_fits_by, unused_zero_by, fault_by}

@@ -1,14 +1,8 @@
 -- `checks::entries::lowest_fault` meets its contract. The loop's invariant: the entries from e on decide. Assumes nothing.
-use mathlib.Core.Path.{◌≡◌, sym, ◌∙◌, ap}
-use Prim.Native.Nat.{ℕ, ◌-◌, ◌≤◌}
-use native.Mathlib.Nat.{sub-zero}
-use native.Mathlib.Omega.{arith}
-use borrow.Author.Rules.{rules}
-use borrow.Author.Tests.{eq-eqb, ne_eqb}
+use mathlib.Core.Path.{◌≡◌}
+use Prim.Native.Nat.{◌-◌, ◌≤◌}
 use Rattle.words.specs.Tests.{rejected}
-use Rattle.words.proofs.Tests.{rejected-turn, rejected-stop, rejected-end}
-use Rattle.checks.specs.Good.{good_entry, good_entry_by}
-use Rattle.checks.specs.Checked.{checked}
+use Rattle.checks.specs.Good.{good_entry}
 use Rattle.checks.proofs.entries.lowest_fault.Given as goal
 
 abbrev pub invariant-loop-e : goal.invariant-loop-e

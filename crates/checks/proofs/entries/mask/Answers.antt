@@ -1,5 +1,4 @@
 -- `checks::entries::mask` meets its contract: two words, the low one first. Assumes nothing.
-use borrow.Author.Rules.{rules}
 use Rattle.checks.specs.Good.{number}
 use Rattle.checks.proofs.entries.mask.Goals as goal
 

@@ -1,5 +1,4 @@
 -- `checks::entries::operand_sorted` meets its contract: CALL is its own case. Assumes nothing.
-use borrow.Author.Rules.{rules}
 use borrow.Author.Tests.{eq-eqb, ne_eqb}
 use Rattle.checks.proofs.entries.operand_sorted.Goals as goal
 

@@ -1,19 +1,13 @@
 -- `checks::entries::operands_fault` meets its contract. The loop's invariant: the operands from i on decide, and what was
 -- found of the sorts before them. Assumes nothing.
-use mathlib.Core.Path.{◌≡◌, refl, ap, sym, ◌∙◌, subst}
-use mathlib.Core.Bool.{Bool, true, false}
-use mathlib.Core.List.{List}
-use mathlib.Core.Logic.{◌⊎◌, inl, inr, ⊎_elim}
-use Prim.Native.Nat.{ℕ, ◌+◌, ◌-◌, ◌≤◌, ◌<◌}
-use native.Mathlib.Nat.{sub-zero}
-use native.Mathlib.Omega.{arith}
+use mathlib.Core.Path.{◌≡◌}
+use mathlib.Core.Bool.{Bool, false}
+use mathlib.Core.Logic.{◌⊎◌}
+use Prim.Native.Nat.{ℕ, ◌-◌, ◌≤◌}
 use lib.Dec.{eqb}
-use borrow.Author.Rules.{rules}
-use borrow.Author.Tests.{not-true, not-false}
 use Rattle.words.specs.Tests.{if◌then◌else◌, every}
-use Rattle.words.proofs.Tests.{every-turn, every-stop, every-end}
-use Rattle.checks.specs.Kinds.{ours, operands_from_by}
-use Rattle.checks.specs.Good.{kind_of, operand_count, operand_by, placed_for, sorted_for, operand_placed_by, operand_sorted_by, operands_fault_by}
+use Rattle.checks.specs.Kinds.{ours}
+use Rattle.checks.specs.Good.{operand_count, operand_placed_by, operand_sorted_by}
 use Rattle.checks.proofs.entries.operands_fault.Given as goal
 
 -- f is 0 where the test held so far, and 16 where it failed; from i on it decides

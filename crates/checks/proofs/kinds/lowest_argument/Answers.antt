@@ -1,5 +1,4 @@
 -- `checks::kinds::lowest_argument` meets its contract, as the tables agree with document 01. Assumes nothing.
-use borrow.Author.Rules.{rules}
 use Rattle.checks.proofs.Tables.{at-kind}
 use Rattle.checks.proofs.kinds.lowest_argument.Goals as goal
 

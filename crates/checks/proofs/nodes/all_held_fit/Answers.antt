@@ -1,10 +1,5 @@
-use mathlib.Core.Path.{◌≡◌}
-use mathlib.Core.Bool.{◌&&◌}
-use Prim.Native.Nat.{◌-◌, ◌≤◌}
 use native.Mathlib.Nat.{sub-zero}
 use native.Mathlib.Omega.{arith}
-use borrow.Author.Rules.{rules}
-use Rattle.words.specs.Tests.{every}
 use Rattle.words.proofs.Tests.{every-kept-turn, every-kept-end}
 use Rattle.checks.specs.Good.{child, held_fits}
 use Rattle.checks.proofs.nodes.all_held_fit.Goals as goal

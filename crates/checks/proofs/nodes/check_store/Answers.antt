@@ -1,6 +1,5 @@
 -- `checks::nodes::check_store` meets its contract: the length and the mark first, then the lowest bad node.
 -- Assumes nothing.
-use borrow.Author.Rules.{rules}
 use borrow.Author.Tests.{le-leb, lt-leb, not-true, not-false}
 use Rattle.checks.specs.Checked.{store_checked}
 use Rattle.checks.proofs.nodes.check_store.Goals as goal

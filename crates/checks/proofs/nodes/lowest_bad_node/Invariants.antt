@@ -1,11 +1,7 @@
 -- `checks::nodes::lowest_bad_node` meets its contract. The loop's invariant: the nodes from k on decide. Assumes nothing.
-use mathlib.Core.Path.{◌≡◌, sym, ◌∙◌}
+use mathlib.Core.Path.{◌≡◌}
 use Prim.Native.Nat.{◌-◌, ◌≤◌}
-use native.Mathlib.Nat.{sub-zero}
-use native.Mathlib.Omega.{arith}
-use borrow.Author.Tests.{not-true, not-false}
 use Rattle.words.specs.Tests.{rejected}
-use Rattle.words.proofs.Tests.{rejected-turn, rejected-stop, rejected-end}
 use Rattle.checks.specs.Good.{good_node}
 use Rattle.checks.proofs.nodes.lowest_bad_node.Given as goal
 

@@ -1,14 +1,9 @@
 -- `checks::rows::unused_zero` meets its contract. The loop's invariant: the words from i on decide. Assumes nothing.
-use mathlib.Core.Path.{◌≡◌, refl, sym, ◌∙◌}
+use mathlib.Core.Path.{◌≡◌}
 use Prim.Native.Nat.{◌+◌, ◌-◌, ◌≤◌}
-use native.Mathlib.Omega.{arith}
 use lib.Dec.{eqb}
-use borrow.Author.Rules.{rules}
-use borrow.Author.Tests.{eq-eqb, ne_eqb}
 use Rattle.words.specs.Tests.{every}
-use Rattle.words.proofs.Tests.{every-turn, every-stop, every-end}
 use Rattle.checks.specs.Good.{child, zeros_from}
-use Rattle.checks.proofs.Good.{child-zeros}
 use Rattle.checks.proofs.rows.unused_zero.Given as goal
 
 abbrev pub invariant-loop-i : goal.invariant-loop-i

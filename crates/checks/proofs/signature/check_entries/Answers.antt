@@ -1,5 +1,4 @@
 -- `checks::signature::check_entries` meets its contract. Assumes nothing.
-use borrow.Author.Rules.{rules}
 use Rattle.checks.specs.Signature.{entries_checked}
 use Rattle.checks.proofs.signature.check_entries.Goals as goal
 

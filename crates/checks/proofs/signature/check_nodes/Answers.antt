@@ -1,5 +1,4 @@
 -- `checks::signature::check_nodes` meets its contract. Assumes nothing.
-use borrow.Author.Rules.{rules}
 use Rattle.checks.specs.Signature.{nodes_checked}
 use Rattle.checks.proofs.signature.check_nodes.Goals as goal
 

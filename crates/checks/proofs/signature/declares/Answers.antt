@@ -1,7 +1,6 @@
 -- `checks::signature::declares` meets its contract, test by test. Assumes nothing.
 use native.Mathlib.Omega.{arith}
 use lib.ListN.{length}
-use borrow.Author.Rules.{rules}
 use borrow.Author.Tests.{lt-ltb, le-ltb}
 use Rattle.checks.specs.Signature.{declares}
 use Rattle.checks.proofs.signature.declares.Goals as goal

@@ -1,5 +1,4 @@
 -- `checks::signature::entry_obeys` meets its contract, kind by kind. Assumes nothing.
-use borrow.Author.Rules.{rules}
 use borrow.Author.Tests.{eq-eqb, ne_eqb}
 use Rattle.checks.specs.Signature.{entry_obeys}
 use Rattle.checks.proofs.signature.entry_obeys.Goals as goal

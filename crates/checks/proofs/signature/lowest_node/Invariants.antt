@@ -1,12 +1,7 @@
 -- `checks::signature::lowest_node` meets its contract. The loop's invariant: what comes from k on decides. Assumes nothing.
-use mathlib.Core.Path.{◌≡◌, sym, ◌∙◌}
+use mathlib.Core.Path.{◌≡◌}
 use Prim.Native.Nat.{◌-◌, ◌≤◌}
-use native.Mathlib.Nat.{sub-zero}
-use native.Mathlib.Omega.{arith}
-use borrow.Author.Rules.{rules}
-use borrow.Author.Tests.{not-true, not-false}
 use Rattle.words.specs.Tests.{rejected}
-use Rattle.words.proofs.Tests.{rejected-turn, rejected-stop, rejected-end}
 use Rattle.checks.specs.Signature.{node_obeys}
 use Rattle.checks.proofs.signature.lowest_node.Given as goal
 

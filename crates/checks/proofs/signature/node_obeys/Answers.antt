@@ -1,5 +1,4 @@
 -- `checks::signature::node_obeys` meets its contract. Assumes nothing.
-use borrow.Author.Rules.{rules}
 use Rattle.checks.specs.Signature.{node_obeys}
 use Rattle.checks.proofs.signature.node_obeys.Goals as goal
 

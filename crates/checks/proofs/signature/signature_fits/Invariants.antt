@@ -1,15 +1,10 @@
 -- `checks::signature::signature_fits` meets its contract. The loop's invariant: the words from c on decide.
 -- Assumes nothing.
 use mathlib.Core.Path.{◌≡◌}
-use mathlib.Core.Bool.{◌&&◌}
 use Prim.Native.Nat.{◌-◌, ◌≤◌}
-use native.Mathlib.Nat.{sub-zero}
-use native.Mathlib.Omega.{arith}
 use lib.Dec.{leb}
 use lib.ListN.{length, get_or}
-use borrow.Author.Tests.{le-leb, lt-leb}
 use Rattle.words.specs.Tests.{every}
-use Rattle.words.proofs.Tests.{every-turn, every-stop, every-end}
 use Rattle.checks.specs.Signature.{signature_fits}
 use Rattle.checks.proofs.signature.signature_fits.Given as goal
 

@@ -1,6 +1,4 @@
-use Rattle.std.proofs.Common.{◌≡◌, suc, ◌+◌, ◌-◌, ◌<◌, get_or, sym, ap, ◌∙◌, subst, ⊎_elim, arith, rules}
-use borrow.Author.Tests.{not-true, not-false}
-use Rattle.index.specs.Key.{home}
+use Rattle.std.proofs.Common.{◌+◌, get_or, sym, ◌∙◌, subst, arith}
 use Rattle.index.proofs.Keying.{home_below, above_zero}
 use Rattle.index.proofs.Chaining.{Follows, follows-head, follows-less, follows-past, follows_next, follows-found, follows-end}
 use Rattle.index.proofs.chains.find.Goals as goal

@@ -1,4 +1,3 @@
-use Rattle.std.proofs.Common.{rules}
 use Rattle.index.proofs.key.eight_words.Goals as goal
 
 pub returns : goal.returns

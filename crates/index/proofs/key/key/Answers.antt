@@ -1,5 +1,4 @@
 use Rattle.index.specs.Key.{mixed}
-use Rattle.std.proofs.Common.{rules}
 use Rattle.index.proofs.key.key.Goals as goal
 
 pub returns : goal.returns

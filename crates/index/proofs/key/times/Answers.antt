@@ -1,5 +1,5 @@
 -- `key::times` meets its contract: the product of two 32-bit words fits. Assumes nothing.
-use Rattle.std.proofs.Common.{◌*◌, ◌<◌, mul-le-mul, arith, rules}
+use Rattle.std.proofs.Common.{rules}
 use Rattle.index.proofs.Keying.{product-fits}
 use Rattle.index.proofs.key.times.Goals as goal
 

@@ -1,4 +1,4 @@
-use Rattle.std.proofs.Common.{◌≡◌, ◌+◌, ◌-◌, ◌*◌, ◌<◌, ◌≤◌, length, sym, refl, ap, ◌∙◌, subst, add-one, arith, rules}
+use Rattle.std.proofs.Common.{◌≡◌, ◌+◌, ◌-◌, length, sym, refl, ap, ◌∙◌, subst, add-one, arith}
 use Rattle.index.specs.Lent.{Held, joined, built}
 use Rattle.index.proofs.Keying.{place-below}
 use Rattle.index.proofs.Lending.{held-joined, length-joined, joined-so, built-step}

@@ -1,9 +1,7 @@
 -- `lent::build` meets its contract. The loop's invariant: the nodes below k are in, and what is left to put in leads to the same words.
 -- Assumes nothing.
-use Rattle.std.proofs.Common.{◌≡◌, ◌+◌, ◌-◌, ◌*◌, ◌<◌, ◌≤◌, length, sym, refl, ap, ◌∙◌, subst, add-one, arith, rules}
-use Rattle.index.specs.Lent.{Held, joined, built}
-use Rattle.index.proofs.Keying.{place-below}
-use Rattle.index.proofs.Lending.{held-joined, length-joined, joined-so, built-step}
+use Rattle.std.proofs.Common.{◌≡◌, ◌-◌, ◌≤◌, length}
+use Rattle.index.specs.Lent.{Held, built}
 use Rattle.index.proofs.lent.build.Given as goal
 
 abbrev pub invariant-loop-k : goal.invariant-loop-k

@@ -1,4 +1,4 @@
-use Rattle.std.proofs.Common.{◌≡◌, suc, ◌-◌, ◌*◌, ◌<◌, ◌≤◌, length, sym, refl, ap, ◌∙◌, subst, arith, rules}
+use Rattle.std.proofs.Common.{◌≡◌, suc, ◌-◌, length, sym, refl, ap, ◌∙◌, subst, arith}
 use Rattle.index.specs.Lent.{Held, parted, forgotten}
 use Rattle.index.proofs.Keying.{place-below}
 use Rattle.index.proofs.Lending.{held-parted, length-parted, parted-so, forgotten-step}

@@ -1,9 +1,7 @@
 -- `lent::forget` meets its contract. The loop's invariant: the nodes below k are in, and what is left to take out leads to the same words.
 -- Assumes nothing.
-use Rattle.std.proofs.Common.{◌≡◌, suc, ◌-◌, ◌*◌, ◌<◌, ◌≤◌, length, sym, refl, ap, ◌∙◌, subst, arith, rules}
-use Rattle.index.specs.Lent.{Held, parted, forgotten}
-use Rattle.index.proofs.Keying.{place-below}
-use Rattle.index.proofs.Lending.{held-parted, length-parted, parted-so, forgotten-step}
+use Rattle.std.proofs.Common.{◌≡◌, ◌-◌, ◌≤◌, length}
+use Rattle.index.specs.Lent.{Held, forgotten}
 use Rattle.index.proofs.lent.forget.Given as goal
 
 abbrev pub invariant-loop-k : goal.invariant-loop-k

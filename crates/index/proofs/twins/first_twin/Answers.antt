@@ -1,6 +1,6 @@
 -- `twins::first_twin` meets its contract. Assumes nothing.
 use Rattle.meaning.specs.Shared.{twin}
-use Rattle.std.proofs.Common.{◌≡◌, min, ap, ◌∙◌, arith, rules}
+use Rattle.std.proofs.Common.{◌≡◌, min, ap, ◌∙◌, arith}
 use Rattle.index.proofs.twins.first_twin.Goals as goal
 
 pub returns-else-mark-le512 : goal.returns-else-mark-le512

@@ -1,7 +1,6 @@
-use Rattle.meaning.specs.Shared.{absent, fresh, twin}
-use Rattle.std.proofs.Common.{◌≡◌, ◌+◌, ◌-◌, ◌<◌, ◌≤◌, true, false, length, sym, refl, ap, ◌∙◌, subst, add-one, arith, rules}
+use Rattle.meaning.specs.Shared.{absent}
+use Rattle.std.proofs.Common.{◌≡◌, ◌+◌, true, false, length, sym, refl, ap, ◌∙◌, subst, add-one, arith}
 use native.Mathlib.Nat.{sub-zero}
-use Rattle.words.specs.Tests.{rejected}
 use Rattle.words.proofs.Tests.{rejected-turn, rejected-stop, rejected-end}
 use Rattle.checks.specs.Checked.{place_of}
 use Rattle.index.specs.Key.{home, place}

@@ -1,16 +1,9 @@
 -- `twins::twin_by` meets its contract. The loop's invariant: the nodes below k are in the chains, and those from k on decide.
 -- Assumes nothing.
-use Rattle.meaning.specs.Shared.{absent, fresh, twin}
-use Rattle.std.proofs.Common.{◌≡◌, ◌+◌, ◌-◌, ◌<◌, ◌≤◌, true, false, length, sym, refl, ap, ◌∙◌, subst, add-one, arith, rules}
-use native.Mathlib.Nat.{sub-zero}
+use Rattle.meaning.specs.Shared.{fresh, twin}
+use Rattle.std.proofs.Common.{◌≡◌, ◌-◌, ◌≤◌, length}
 use Rattle.words.specs.Tests.{rejected}
-use Rattle.words.proofs.Tests.{rejected-turn, rejected-stop, rejected-end}
-use Rattle.checks.specs.Checked.{place_of}
-use Rattle.index.specs.Key.{home, place}
-use Rattle.index.specs.Chains.{Indexed, linked}
-use Rattle.index.proofs.Keying.{place-below}
-use Rattle.index.proofs.Chaining.{indexed-linked, length-linked}
-use Rattle.index.proofs.Twinning.{fresh-by}
+use Rattle.index.specs.Chains.{Indexed}
 use Rattle.index.proofs.twins.twin_by.Given as goal
 
 abbrev pub invariant-loop-k : goal.invariant-loop-k

@@ -1,5 +1,5 @@
 -- `twins::twin_of_few` meets its contract: an array of zeros is an index with nothing in it. Assumes nothing.
-use Rattle.std.proofs.Common.{refl, arith, rules}
+use Rattle.std.proofs.Common.{refl, arith}
 use Rattle.index.proofs.Twinning.{zeros}
 use Rattle.index.proofs.twins.twin_of_few.Goals as goal
 

@@ -1,5 +1,4 @@
 -- `answers::answer_of` meets its contract: each return is the arm of `answer_of` that the tests before it name. Assumes nothing.
-use borrow.Author.Rules.{rules}
 use borrow.Author.Tests.{lt-ltb, le-ltb}
 use Prim.Native.Nat.{◌<◌}
 use native.Mathlib.Omega.{arith}

@@ -1,5 +1,4 @@
 -- `answers::attempt_of` meets its contract: what `answer_of` ensures, at each of its answers. Assumes nothing.
-use borrow.Author.Rules.{rules}
 use Rattle.state.specs.Answers.{attempt_of}
 use Rattle.state.proofs.answers.attempt_of.Goals as goal
 

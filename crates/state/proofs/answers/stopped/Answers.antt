@@ -1,8 +1,5 @@
 use mathlib.Core.Path.{sym, ◌∙◌}
-use borrow.Author.Rules.{rules}
 use Rattle.state.proofs.AnswerWords.{stopped-units, stopped-nesting}
-use Rattle.state.proofs.answers.stopped.Reads as reads
-use Rattle.state.proofs.answers.stopped.Lts as lts
 use Rattle.state.proofs.answers.stopped.Goals as goal
 
 pub returns-then-left-eq0 : goal.returns-then-left-eq0

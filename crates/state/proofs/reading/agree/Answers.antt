@@ -1,5 +1,4 @@
 -- `reading::agree` meets its contract: the two tests, by what each callee ensures. Assumes nothing.
-use borrow.Author.Rules.{rules}
 use borrow.Author.Tests.{eq-eqb, ne_eqb}
 use Rattle.state.specs.Visits.{agreeing}
 use Rattle.state.proofs.reading.agree.Goals as goal

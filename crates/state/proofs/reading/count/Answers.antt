@@ -1,6 +1,5 @@
 -- `reading::count` meets its contract: a node that stands in the store has at most 6 children.
 use mathlib.Core.Path.{◌∙◌}
-use borrow.Author.Rules.{rules}
 use Rattle.state.proofs.Storing.{count-stored}
 use Rattle.state.proofs.reading.count.Goals as goal
 

@@ -1,6 +1,5 @@
 -- `reading::scope_mask` meets its contract: the words of the mask are read as one number, the low one first. Assumes nothing.
 use native.Mathlib.Omega.{arith}
-use borrow.Author.Rules.{rules}
 use Rattle.checks.specs.Good.{number}
 use Rattle.state.proofs.reading.scope_mask.Goals as goal
 

@@ -1,5 +1,4 @@
 -- `record::bound_in` meets its contract, by what `mask_of` reads. Assumes nothing.
-use borrow.Author.Rules.{rules}
 use Rattle.state.proofs.record.bound_in.Goals as goal
 
 pub returns : goal.returns

@@ -1,6 +1,5 @@
 -- `record::mask_of` meets its contract: the mask's words are read as one number, the low one first. Assumes nothing.
 use native.Mathlib.Omega.{arith}
-use borrow.Author.Rules.{rules}
 use Rattle.checks.specs.Good.{number}
 use Rattle.state.proofs.record.mask_of.Goals as goal
 

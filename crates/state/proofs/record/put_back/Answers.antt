@@ -1,5 +1,4 @@
 -- `record::put_back` meets its contract: the words are copied, which leaves the mask, and then their variables are in it. Assumes nothing.
-use borrow.Author.Rules.{rules}
 use native.Mathlib.Omega.{arith}
 use Rattle.state.proofs.Holding.{further, mask-copied}
 use Rattle.state.proofs.record.put_back.Goals as goal

@@ -1,7 +1,5 @@
 -- `record::put_mask` meets its contract: the mask's words are written, the low one first. Assumes nothing.
 use mathlib.Core.Path.{refl}
-use native.Mathlib.Omega.{arith}
-use borrow.Author.Rules.{rules}
 use Rattle.state.specs.Record.{parted}
 use Rattle.state.proofs.record.put_mask.Goals as goal
 

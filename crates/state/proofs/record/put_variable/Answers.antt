@@ -1,5 +1,4 @@
 -- `record::put_variable` meets its contract: the variable's node is set, and then its bit. Assumes nothing.
-use borrow.Author.Rules.{rules}
 use Rattle.state.proofs.Holding.{further, set-bound}
 use Rattle.state.proofs.record.put_variable.Goals as goal
 

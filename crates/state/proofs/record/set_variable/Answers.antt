@@ -1,5 +1,5 @@
 -- `record::set_variable` meets its contract: the variable's word and then the mask's two words are written. Assumes nothing.
-use Rattle.std.proofs.Common.{rules, arith, ◌≡◌, ◌+◌, ◌*◌, ◌%◌, ◌/◌, ◌^◌, ◌<◌, ℕ, List, get_or, slice_set, bit_or, ap, ◌∙◌}
+use Rattle.std.proofs.Common.{arith, ◌≡◌, ◌+◌, ◌*◌, ◌%◌, ◌^◌, ◌<◌, ℕ, List, get_or, bit_or, ap, ◌∙◌}
 use native.Mathlib.Nat.{mod-lt}
 use lib.Bits.{or_lt}
 use Rattle.checks.specs.Good.{number}

@@ -1,5 +1,4 @@
 -- `record::unbind` meets its contract: the mask loses those of its variables. Assumes nothing.
-use borrow.Author.Rules.{rules}
 use Rattle.state.specs.Record.{without_by}
 use Rattle.state.proofs.record.unbind.Goals as goal
 
