@@ -16,7 +16,7 @@ use Rattle.counting.proofs.has_room.Given as goal
 abbrev pub invariant-loop-j : goal.invariant-loop-j
 invariant-loop-j l =
     (l.j ≤ 4)
-    × (every (λ l.j. leb (get_or l.counts (4 * l.x + l.j) 0) highest) l.j (4 - l.j) ≡ every (λ l.j. leb (get_or l.counts (4 * l.x + l.j) 0) highest) 0 4)
+    × (every (λ j. leb (get_or l.counts (4 * l.x + j) 0) highest) l.j (4 - l.j) ≡ every (λ j. leb (get_or l.counts (4 * l.x + j) 0) highest) 0 4)
 
 abbrev pub decreases-loop-j : goal.decreases-loop-j
 decreases-loop-j l =

@@ -2,7 +2,6 @@ use mathlib.Core.Path.{◌≡◌, sym, ◌∙◌}
 use Prim.Native.Nat.{◌-◌, ◌≤◌}
 use native.Mathlib.Nat.{sub-zero}
 use native.Mathlib.Omega.{arith}
-use borrow.Author.Tests.{not-true, not-false}
 use Rattle.words.specs.Tests.{rejected}
 use Rattle.words.proofs.Tests.{rejected-turn, rejected-stop, rejected-end}
 use Rattle.counting.specs.Counted.{has_room}
@@ -19,7 +18,7 @@ returns-then-not-has_room c =
     rejected-stop _ _ _ _
     c.loop-x.invariant.1
     c.loop-x-test.true
-    (sym c.has_room.ensures ∙ not-true _ c.if-not-has_room.true-raw)
+    (sym c.has_room.ensures ∙ c.if-not-has_room.true)
 
 pub overflow_add-x : goal.overflow_add-x
 overflow_add-x c = omega arith
@@ -33,7 +32,7 @@ loop-x-preserved c = (
   rejected-turn _ _ _ _
       c.loop-x.invariant.1
       c.loop-x-test.true
-      (sym c.has_room.ensures ∙ not-false _ c.if-not-has_room.false-raw),
+      (sym c.has_room.ensures ∙ c.if-not-has_room.false),
 )
 
 pub returns : goal.returns

@@ -3,7 +3,6 @@ use mathlib.Core.Path.{◌≡◌, sym, ◌∙◌}
 use Prim.Native.Nat.{◌-◌, ◌≤◌}
 use native.Mathlib.Nat.{sub-zero}
 use native.Mathlib.Omega.{arith}
-use borrow.Author.Tests.{not-true, not-false}
 use Rattle.words.specs.Tests.{rejected}
 use Rattle.words.proofs.Tests.{rejected-turn, rejected-stop, rejected-end}
 use Rattle.counting.specs.Counted.{has_room}
