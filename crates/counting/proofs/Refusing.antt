@@ -1,15 +1,14 @@
 -- What a counted run refuses, and what it then has of its counts. Assumes nothing.
 use mathlib.Core.Path.{◌≡◌, refl, ap, sym, ◌∙◌, subst}
-use mathlib.Core.Bool.{Bool, true, false}
+use mathlib.Core.Bool.{true, false}
 use mathlib.Core.Logic.{⊎_elim}
 use mathlib.Core.Option.{Option, none, some}
 use mathlib.Core.List.{List}
 use Prim.Native.Nat.{ℕ, ◌+◌, ◌*◌, ◌/◌, ◌%◌, ◌<◌, ◌≤◌}
 use native.Mathlib.Omega.{arith}
 use borrow.Author.Tests.{eq-eqb, ne_eqb, leb-true}
-use lib.Dec.{eqb, leb}
+use lib.Dec.{leb}
 use lib.ListN.{length, get_or, replicate, get_or-eq_default}
-use Rattle.words.specs.Tests.{if◌then◌else◌, every, rejected}
 use Rattle.words.specs.Words.{rows}
 use Rattle.words.proofs.Tests.{below-or-from, every_true, rejected-none, Holds}
 use Rattle.checks.specs.Kinds.{ours}
@@ -17,15 +16,14 @@ use Rattle.checks.specs.Checked.{checked, found}
 use Rattle.checks.specs.declared.Checked.{Checked}
 use Rattle.checks.proofs.Promises.{table_passes}
 use Rattle.meaning.specs.Store.{Input, Accepted}
-use Rattle.calls.specs.Refused.{or_else, refused_with}
+use Rattle.calls.specs.Refused.{refused_with}
 use Rattle.calls.specs.Indexed.{indexed_refused}
 use Rattle.calls.proofs.Accepting.{accepted-with}
 use Rattle.tallying.specs.Counts.{Room}
 use Rattle.tallying.specs.Counts.{highest}
-use Rattle.tallying.specs.Added.{CountedReturned}
 use Rattle.counting.specs.Counted.{counts_fit, has_room, counts_checked, refused_counting, refusing_counting}
 use Rattle.tallying.specs.Added.{counted_end, ran_if}
-use Rattle.counting.specs.Counted.{counted_of, IndexedCountedReturned, indexed_counted_of}
+use Rattle.counting.specs.Counted.{counted_of, indexed_counted_of}
 
 -- ---- which refusal
 

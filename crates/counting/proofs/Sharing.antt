@@ -1,8 +1,8 @@
 -- A counted run with an index: one lent slice is the store's words and then the index, of which the run works on the first part. Assumes
 -- nothing.
-use mathlib.Core.Path.{◌≡◌, refl, ap, sym, ◌∙◌}
+use mathlib.Core.Path.{◌≡◌, ap, sym, ◌∙◌}
 use mathlib.Core.List.{List, ◌++◌}
-use Prim.Native.Nat.{ℕ, ◌+◌, ◌-◌, ◌≤◌, min}
+use Prim.Native.Nat.{ℕ, ◌-◌, min}
 use native.Mathlib.Omega.{arith}
 use lib.ListN.{length, take, drop, replicate, length-append, length-drop}
 use lib.Seq.{length-take-le, take-append_seam, drop-append_seam}
@@ -10,7 +10,7 @@ use Rattle.words.specs.Words.{cleared_from}
 use Rattle.words.proofs.Rows.{length-cleared_from, take-cleared_from}
 use Rattle.tallying.specs.declared.Counted.{Counted}
 use Rattle.tallying.specs.Added.{CountedReturned, counted_at_return}
-use Rattle.counting.specs.Counted.{IndexedCountedReturned, indexed_counted_at_return}
+use Rattle.counting.specs.Counted.{indexed_counted_at_return}
 use Rattle.indexed.proofs.Whole.{take_min, drop_min, drop-size, drop-cleared}
 
 module _ (w : List ℕ) (k own : ℕ) (e : own ≡ min k (length w)) where

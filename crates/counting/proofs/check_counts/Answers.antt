@@ -1,5 +1,4 @@
 -- `check_counts` meets its contract. Assumes nothing.
-use borrow.Author.Rules.{rules}
 use Rattle.counting.specs.Counted.{counts_checked}
 use Rattle.counting.proofs.check_counts.Goals as goal
 

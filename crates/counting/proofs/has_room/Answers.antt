@@ -1,14 +1,7 @@
-use mathlib.Core.Path.{◌≡◌, sym, ◌∙◌}
-use Prim.Native.Nat.{◌+◌, ◌-◌, ◌*◌, ◌≤◌}
 use native.Mathlib.Nat.{sub-zero}
 use native.Mathlib.Omega.{arith}
-use borrow.Author.Rules.{rules}
 use borrow.Author.Tests.{lt-leb, le-leb}
-use lib.Dec.{leb}
-use lib.ListN.{get_or}
-use Rattle.words.specs.Tests.{every}
 use Rattle.words.proofs.Tests.{every-turn, every-stop, every-end}
-use Rattle.tallying.specs.Counts.{highest}
 use Rattle.counting.specs.Counted.{has_room}
 use Rattle.counting.proofs.has_room.Goals as goal
 

@@ -1,16 +1,10 @@
 -- `has_room` meets its contract. The loop's invariant: what comes from word j on decides. Assumes nothing.
-use mathlib.Core.Path.{◌≡◌, sym, ◌∙◌}
+use mathlib.Core.Path.{◌≡◌}
 use Prim.Native.Nat.{◌+◌, ◌-◌, ◌*◌, ◌≤◌}
-use native.Mathlib.Nat.{sub-zero}
-use native.Mathlib.Omega.{arith}
-use borrow.Author.Rules.{rules}
-use borrow.Author.Tests.{lt-leb, le-leb}
 use lib.Dec.{leb}
 use lib.ListN.{get_or}
 use Rattle.words.specs.Tests.{every}
-use Rattle.words.proofs.Tests.{every-turn, every-stop, every-end}
 use Rattle.tallying.specs.Counts.{highest}
-use Rattle.counting.specs.Counted.{has_room}
 use Rattle.counting.proofs.has_room.Given as goal
 
 abbrev pub invariant-loop-j : goal.invariant-loop-j

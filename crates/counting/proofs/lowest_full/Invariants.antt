@@ -1,10 +1,7 @@
 -- `lowest_full` meets its contract. The loop's invariant: what comes from x on decides. Assumes nothing.
-use mathlib.Core.Path.{◌≡◌, sym, ◌∙◌}
+use mathlib.Core.Path.{◌≡◌}
 use Prim.Native.Nat.{◌-◌, ◌≤◌}
-use native.Mathlib.Nat.{sub-zero}
-use native.Mathlib.Omega.{arith}
 use Rattle.words.specs.Tests.{rejected}
-use Rattle.words.proofs.Tests.{rejected-turn, rejected-stop, rejected-end}
 use Rattle.counting.specs.Counted.{has_room}
 use Rattle.counting.proofs.lowest_full.Given as goal
 

@@ -1,13 +1,12 @@
 -- `run_counted_lent` meets its contract. Assumes nothing.
-use mathlib.Core.Path.{◌≡◌, refl, ap, sym, ◌∙◌}
+use mathlib.Core.Path.{◌≡◌, ap, sym, ◌∙◌}
 use mathlib.Core.List.{List}
 use mathlib.Core.Option.{Option}
 use lib.ListN.{length}
 use Rattle.words.specs.Words.{rows}
-use Rattle.meaning.specs.Store.{Input, Accepted}
-use Prim.Native.Nat.{ℕ, ◌+◌, ◌*◌, ◌/◌, ◌<◌, ◌≤◌}
+use Rattle.meaning.specs.Store.{Input}
+use Prim.Native.Nat.{ℕ, ◌*◌}
 use native.Mathlib.Omega.{arith}
-use borrow.Author.Rules.{rules}
 use Rattle.checks.specs.Checked.{checked}
 use Rattle.checks.specs.declared.Checked.{Checked}
 use Rattle.calls.specs.Refused.{lent_if}
@@ -37,8 +36,8 @@ returns-then-counts-n c =
     let counts = c.args.counts.now in
     ap (λ r. counted_at_return r c.args.store.now c.args.bindings.now counts) c.refused.ensures
     ∙ counted-refused signed given counts (checked 2 0)
-        (refused-length (verdict signed given counts) given.table counts c.if-counts-n.true)
-        (λ e. omega arith)
+    (refused-length (verdict signed given counts) given.table counts c.if-counts-n.true)
+    (λ e. omega arith)
 
 pub returns-then-c-ne0 : goal.returns-then-c-ne0
 returns-then-c-ne0 c =
@@ -88,5 +87,5 @@ returns c =
     let counts = c.args.counts.now in
     c.run_on.ensures
     ∙ counted-run signed given counts
-        (ap (λ (c : Checked). c.answer) (refusal_is signed given counts c.refusal-c.result c.refusal-c.ensures c.if-c-ne0.false
-        c.check_counts-d.result c.if-counts-n.false c.check_counts-d.ensures) ∙ c.if-d-ne0.false)
+    (ap (λ (c : Checked). c.answer) (refusal_is signed given counts c.refusal-c.result c.refusal-c.ensures c.if-c-ne0.false
+    c.check_counts-d.result c.if-counts-n.false c.check_counts-d.ensures) ∙ c.if-d-ne0.false)

@@ -1,11 +1,10 @@
 -- `run_indexed_counted_lent` meets its contract. Assumes nothing.
-use mathlib.Core.Path.{◌≡◌, refl, ap, sym, ◌∙◌, subst}
+use mathlib.Core.Path.{◌≡◌, ap, sym, ◌∙◌, subst}
 use mathlib.Core.Bool.{true}
-use mathlib.Core.List.{List, ◌++◌}
+use mathlib.Core.List.{List}
 use mathlib.Core.Option.{Option}
-use Prim.Native.Nat.{ℕ, ◌+◌, ◌-◌, ◌*◌, ◌/◌, ◌<◌, ◌≤◌, min}
+use Prim.Native.Nat.{ℕ, ◌-◌, ◌*◌, min}
 use native.Mathlib.Omega.{arith}
-use borrow.Author.Rules.{rules}
 use lib.ListN.{length, take, drop}
 use lib.Seq.{length-take-le}
 use Rattle.words.specs.Words.{rows, cleared_from}
@@ -28,7 +27,7 @@ module _ (signed : Option (List ℕ)) (t w b : List ℕ) (mark start subject uni
   -- the refusal is that of a run with an index
   verdict-is :
       ((x : List ℕ) (u : ℕ) → length x ≡ length w - own
-          → c ≡ indexed_refused signed (input t (take own w) b mark start subject u) x)
+      → c ≡ indexed_refused signed (input t (take own w) b mark start subject u) x)
       → c ≡ indexed_refused signed (input t (take words w) b mark start subject units) (drop words w)
   verdict-is e =
       refused-is signed t w b mark start subject units words own c own_is (e (drop words w) units (drop-size words own w own_is))
@@ -61,8 +60,8 @@ returns-then-counts-n c =
     let counts = c.args.counts.now in
     ap (λ r. indexed_counted_at_return r store c.args.bindings.now counts spare) c.refused.ensures
     ∙ indexed-counted-refused signed given spare counts (checked 2 0)
-        (refused-length (indexed_refused signed given spare) given.table counts c.if-counts-n.true)
-        (λ e. omega arith)
+    (refused-length (indexed_refused signed given spare) given.table counts c.if-counts-n.true)
+    (λ e. omega arith)
 
 pub slice_bounds-indexed_refusal-end-2 : goal.slice_bounds-indexed_refusal-end-2
 slice_bounds-indexed_refusal-end-2 c =
@@ -77,7 +76,7 @@ returns-then-c-ne0 c =
     let signed = lent_if c.args.signed c.args.signature.now in
     let counts = c.args.counts.now in
     let is = verdict-is signed c.args.table.now c.args.lent.now c.args.bindings.now c.args.mark c.args.start c.args.subject c.args.units
-        c.args.words c.store_words-own.result c.indexed_refusal-c.result c.store_words-own.ensures c.indexed_refusal-c.ensures in
+    c.args.words c.store_words-own.result c.indexed_refusal-c.result c.store_words-own.ensures c.indexed_refusal-c.ensures in
     ap (λ r. indexed_counted_at_return r store c.args.bindings.now counts spare) c.refused-then-c-ne0.ensures
     ∙ indexed-counted-refused signed given spare counts c.indexed_refusal-c.result
     (refused-before (indexed_refused signed given spare) given.table counts c.if-counts-n.false
@@ -91,7 +90,7 @@ overflow_cast-n c =
     let given = input c.args.table.now store c.args.bindings.now c.args.mark c.args.start c.args.subject c.args.units in
     let signed = lent_if c.args.signed c.args.signature.now in
     let is = verdict-is signed c.args.table.now c.args.lent.now c.args.bindings.now c.args.mark c.args.start c.args.subject c.args.units
-        c.args.words c.store_words-own.result c.indexed_refusal-c.result c.store_words-own.ensures c.indexed_refusal-c.ensures in
+    c.args.words c.store_words-own.result c.indexed_refusal-c.result c.store_words-own.ensures c.indexed_refusal-c.ensures in
     omega (arith, entries-few given (accepted-by signed given spare c.indexed_refusal-c.result is c.if-c-ne0.false))
 
 pub returns-then-d-ne0 : goal.returns-then-d-ne0
@@ -102,7 +101,7 @@ returns-then-d-ne0 c =
     let signed = lent_if c.args.signed c.args.signature.now in
     let counts = c.args.counts.now in
     let is = verdict-is signed c.args.table.now c.args.lent.now c.args.bindings.now c.args.mark c.args.start c.args.subject c.args.units
-        c.args.words c.store_words-own.result c.indexed_refusal-c.result c.store_words-own.ensures c.indexed_refusal-c.ensures in
+    c.args.words c.store_words-own.result c.indexed_refusal-c.result c.store_words-own.ensures c.indexed_refusal-c.ensures in
     ap (λ r. indexed_counted_at_return r store c.args.bindings.now counts spare) c.refused-then-d-ne0.ensures
     ∙ indexed-counted-refused signed given spare counts c.check_counts-d.result
     (refusal_is signed given spare counts c.indexed_refusal-c.result is c.if-c-ne0.false c.check_counts-d.result c.if-counts-n.false
@@ -120,7 +119,7 @@ run_on-requires c =
     let signed = lent_if c.args.signed c.args.signature.now in
     let counts = c.args.counts.now in
     let is = verdict-is signed c.args.table.now c.args.lent.now c.args.bindings.now c.args.mark c.args.start c.args.subject c.args.units
-        c.args.words c.store_words-own.result c.indexed_refusal-c.result c.store_words-own.ensures c.indexed_refusal-c.ensures in
+    c.args.words c.store_words-own.result c.indexed_refusal-c.result c.store_words-own.ensures c.indexed_refusal-c.ensures in
     let good = accepted-by signed given spare c.indexed_refusal-c.result is c.if-c-ne0.false in
     let here = own-words c.args.lent.now c.clear_from.new.words c.args.words c.store_words-own.result c.store_words-own.ensures c.clear_from.ensures in (
       subst (λ w. Accepted (input c.args.table.now w c.args.bindings.now c.args.mark c.args.start c.args.subject c.args.units))
@@ -138,7 +137,7 @@ returns c =
     let signed = lent_if c.args.signed c.args.signature.now in
     let counts = c.args.counts.now in
     let is = verdict-is signed c.args.table.now c.args.lent.now c.args.bindings.now c.args.mark c.args.start c.args.subject c.args.units
-        c.args.words c.store_words-own.result c.indexed_refusal-c.result c.store_words-own.ensures c.indexed_refusal-c.ensures in
+    c.args.words c.store_words-own.result c.indexed_refusal-c.result c.store_words-own.ensures c.indexed_refusal-c.ensures in
     let w = c.args.lent.now in
     let v = c.clear_from.new.words in
     let own = c.store_words-own.result in
@@ -146,8 +145,8 @@ returns c =
     let here = own-words w v c.args.words own own_is c.clear_from.ensures in
     let over = λ (s : List ℕ). input c.args.table.now s c.args.bindings.now c.args.mark c.args.start c.args.subject c.args.units in
     ended-with w c.args.words own own_is c.run_on.new.store
-        (c.run_on.auto.store ∙ own-length w v c.args.words own own_is c.clear_from.ensures) _ _ _ _ _
+    (c.run_on.auto.store ∙ own-length w v c.args.words own own_is c.clear_from.ensures) _ _ _ _ _
     c.clear_from.ensures (c.run_on.ensures ∙ ap (λ w. counted_end (over w) (ran_if true (over w)) counts) here)
     ∙ indexed-counted-run signed given spare counts
-        (ap (λ (c : Checked). c.answer) (refusal_is signed given spare counts c.indexed_refusal-c.result is c.if-c-ne0.false
-        c.check_counts-d.result c.if-counts-n.false c.check_counts-d.ensures) ∙ c.if-d-ne0.false)
+    (ap (λ (c : Checked). c.answer) (refusal_is signed given spare counts c.indexed_refusal-c.result is c.if-c-ne0.false
+    c.check_counts-d.result c.if-counts-n.false c.check_counts-d.ensures) ∙ c.if-d-ne0.false)
