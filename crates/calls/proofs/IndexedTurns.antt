@@ -13,7 +13,8 @@ use lib.ListN.{length, get_or, take, drop, replicate, length-replicate}
 use lib.Seq.{paste, take_all, drop-length, drop-cons, take-paste, length-paste}
 use borrow.Author.Tests.{le-leb, leb-true, eq-eqb, ne_eqb, eqb-true}
 use Rattle.words.specs.Words.{rows, cleared_from}
-use Rattle.words.specs.Tests.{if◌then◌else◌, rejected}
+use Rattle.std.specs.Prelude.{if◌then◌else◌}
+use Rattle.words.specs.Tests.{rejected}
 use Rattle.words.proofs.Tests.{rejected-none}
 use Rattle.checks.specs.Checked.{checked, found}
 use Rattle.checks.specs.declared.Checked.{Checked}

@@ -11,7 +11,8 @@ use lib.ListN.{length, get_or, take, get_or-eq_default}
 use borrow.Author.Tests.{eq-eqb, ne_eqb, eqb-true, eqb-false}
 use Rattle.checks.specs.Kinds.{variables_by}
 use Rattle.words.specs.Words.{rows, cleared_from}
-use Rattle.words.specs.Tests.{if◌then◌else◌, rejected}
+use Rattle.std.specs.Prelude.{if◌then◌else◌}
+use Rattle.words.specs.Tests.{rejected}
 use Rattle.words.proofs.Tests.{below-or-from}
 use Rattle.words.proofs.Rows.{length-cleared_from, take-cleared_from, get_or-cleared_from-from}
 use Rattle.checks.specs.declared.Checked.{Checked}

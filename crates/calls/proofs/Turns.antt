@@ -13,7 +13,8 @@ use lib.Seq.{paste, take_all, drop-length, drop-cons, take-paste, length-paste}
 use borrow.Author.Tests.{le-leb, eqb-true, eq-eqb, ne_eqb}
 use Rattle.words.proofs.Tests.{and-true}
 use Rattle.words.specs.Words.{rows, cleared_from}
-use Rattle.words.specs.Tests.{if◌then◌else◌, rejected}
+use Rattle.std.specs.Prelude.{if◌then◌else◌}
+use Rattle.words.specs.Tests.{rejected}
 use Rattle.checks.specs.declared.Checked.{Checked}
 use Rattle.checks.specs.declared.kinds.Sort.TheVariants.{Strategy}
 use Rattle.checks.specs.Kinds.{variables_by, sort_of}

@@ -1,9 +1,8 @@
 -- Wish 12, one node for one term: what a call with an index refuses and returns, for every input. The index is x, words of 32 bits, in lent
 -- memory; it may hold anything before. `indexed_of` is the contract of `run_indexed`, `indexed_many_of` of `run_many_indexed`.
-use Rattle.std.specs.Prelude.{◌≡◌, Bool, List, [], ◌∷◌, ◌++◌, ℕ, ◌*◌, eqb, leb, length, replicate}
+use Rattle.std.specs.Prelude.{◌≡◌, Bool, List, [], ◌∷◌, ◌++◌, ℕ, ◌*◌, eqb, leb, length, replicate, if◌then◌else◌}
 use Rattle.std.proofs.Math.Option.{Option}
 use Rattle.words.specs.Words.{rows}
-use Rattle.words.specs.Tests.{if◌then◌else◌}
 use Rattle.checks.specs.Kinds.{ours}
 use Rattle.checks.specs.Checked.{checked, found}
 use Rattle.checks.specs.declared.Checked.{Checked}

@@ -1,9 +1,8 @@
 -- A whole module in one call: what a call over many subjects returns, for every input. It is what single calls in turn return, each
 -- with the bindings given to the call, its own full units and the mark left by the one before.
-use Rattle.std.specs.Prelude.{Bool, ◌&&◌, List, [], ◌∷◌, ◌++◌, ℕ, ◌*◌, eqb, length}
+use Rattle.std.specs.Prelude.{Bool, ◌&&◌, List, [], ◌∷◌, ◌++◌, ℕ, ◌*◌, eqb, length, if◌then◌else◌}
 use Rattle.std.proofs.Math.Option.{Option}
 use Rattle.checks.specs.Kinds.{ours}
-use Rattle.words.specs.Tests.{if◌then◌else◌}
 use Rattle.checks.specs.Checked.{checked}
 use Rattle.checks.specs.declared.Checked.{Checked}
 use Rattle.meaning.specs.Store.{Input}

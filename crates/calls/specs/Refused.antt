@@ -1,10 +1,10 @@
 -- What a run refuses, in the order of documents 01 and 02: 2 for a length, the mark or a signature, 13 to 17 with the lowest bad
 -- entry, 4 with the lowest bad node below the mark, 10 with the lowest entry and 11 with the lowest node that do not obey a lent
 -- signature, 5 for a bad start.
-use Rattle.std.specs.Prelude.{Bool, true, false, ◌&&◌, List, ℕ, leb, ltb, eqb, length, get_or}
+use Rattle.std.specs.Prelude.{Bool, true, false, ◌&&◌, List, ℕ, leb, ltb, eqb, length, get_or, if◌then◌else◌}
 use Rattle.std.proofs.Math.Option.{Option, none, some}
 use Rattle.words.specs.Words.{rows}
-use Rattle.words.specs.Tests.{if◌then◌else◌, every}
+use Rattle.words.specs.Tests.{every}
 use Rattle.checks.specs.Kinds.{ours, sort_of, same, variables_by}
 use Rattle.checks.specs.Good.{kind_of}
 use Rattle.checks.specs.Checked.{checked, table_length_fits, store_length_fits, table_checked_by, store_checked, bound_below}

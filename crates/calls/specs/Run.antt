@@ -1,8 +1,7 @@
 -- What a run returns, for every input: the five numbers and every word of the store and of the bindings.
-use Rattle.std.specs.Prelude.{◌≡◌, List, ℕ, ◌-◌, eqb}
+use Rattle.std.specs.Prelude.{◌≡◌, List, ℕ, ◌-◌, eqb, if◌then◌else◌}
 use Rattle.std.proofs.Math.Option.{Option, none}
 use Rattle.checks.specs.Kinds.{ours}
-use Rattle.words.specs.Tests.{if◌then◌else◌}
 use Rattle.checks.specs.declared.Checked.{Checked}
 use Rattle.meaning.specs.Limits.{ended, lost, cut}
 use Rattle.meaning.specs.Derivation.{places, nowhere}

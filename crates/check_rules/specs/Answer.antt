@@ -1,7 +1,6 @@
 -- What a table and a text get, whatever they are: 2 for a lent length that is bad or for more in use than lent, 13 to 17 with the
 -- lowest bad one of the entries in use, and then what the text gets.
-use Rattle.std.specs.Prelude.{◌≡◌, ◌↔◌, ◌≢◌, Bool, true, ◌&&◌, List, ℕ, ◌*◌, ◌<◌, leb, eqb, length, get_or, take}
-use Rattle.words.specs.Tests.{if◌then◌else◌}
+use Rattle.std.specs.Prelude.{◌≡◌, ◌↔◌, ◌≢◌, Bool, true, ◌&&◌, List, ℕ, ◌*◌, ◌<◌, leb, eqb, length, get_or, take, if◌then◌else◌}
 use Rattle.words.specs.Words.{rows}
 use Rattle.checks.specs.declared.Checked.{Checked}
 use Rattle.checks.specs.Good.{kind_of}

@@ -1,8 +1,7 @@
 -- Variables that a rule uses before they are bound, and variables out of range. Bits are those of a window of 64 variables:
 -- bit j stands for variable base + j.
-use Rattle.std.specs.Prelude.{◌≡◌, Bool, true, false, not, ◌&&◌, ◌||◌, List, [], ◌∷◌, ℕ, ◌+◌, ◌-◌, ◌^◌, ◌≤◌, ◌<◌, leb, ltb, length}
+use Rattle.std.specs.Prelude.{◌≡◌, Bool, true, false, not, ◌&&◌, ◌||◌, List, [], ◌∷◌, ℕ, ◌+◌, ◌-◌, ◌^◌, ◌≤◌, ◌<◌, leb, ltb, length, if◌then◌else◌}
 use Rattle.std.specs.Int.Bits.{bit_or}
-use Rattle.words.specs.Tests.{if◌then◌else◌}
 use Rattle.checks.specs.Kinds.{variables as most}
 use Rattle.rules.specs.Rule.{Pat, Condition, Rule, variables, member, rule_variables, bound}
 use Rattle.rules.specs.Text.{Fields, Head, variable, constructor, neither, head_of, rule_fields, PlainRule, ReadRule, rule, bad_field}

@@ -1,7 +1,6 @@
 -- What a text gets before anything is written: the entries in use once all its rules are added, or its first bad line. Within a
 -- line 18 comes first, then 19, 20 and 22, then 23 where the table would be too long.
-use Rattle.std.specs.Prelude.{Bool, List, [], ◌∷◌, ℕ, ◌+◌, ltb, eqb}
-use Rattle.words.specs.Tests.{if◌then◌else◌}
+use Rattle.std.specs.Prelude.{Bool, List, [], ◌∷◌, ℕ, ◌+◌, ltb, eqb, if◌then◌else◌}
 use Rattle.rules.specs.Text.{rule_of}
 use Rattle.check_rules.specs.Line.{line_of}
 use Rattle.check_rules.specs.declared.line.Line.{Line}

@@ -1,7 +1,6 @@
 -- Variables out of range, of which a line may have as many as it has fields: whether one is used before it is bound, asked of those
 -- from a number `low` on and below another.
-use Rattle.std.specs.Prelude.{◌≡◌, ◌⊎◌, Bool, true, false, ◌||◌, List, [], ◌∷◌, ℕ, ◌+◌, ◌≤◌, ◌<◌, leb, ltb, eqb, length}
-use Rattle.words.specs.Tests.{if◌then◌else◌}
+use Rattle.std.specs.Prelude.{◌≡◌, ◌⊎◌, Bool, true, false, ◌||◌, List, [], ◌∷◌, ℕ, ◌+◌, ◌≤◌, ◌<◌, leb, ltb, eqb, length, if◌then◌else◌}
 use Rattle.checks.specs.Kinds.{variables as most}
 use Rattle.rules.specs.Rule.{Rule}
 use Rattle.rules.specs.Text.{Fields, Head, variable, constructor, neither, head_of, ReadRule, rule, bad_field}

@@ -1,6 +1,5 @@
 -- What a line of the text gets: 18 for text outside the grammar, 19 and 20 for its variables, 22 for a condition's number, else 0.
-use Rattle.std.specs.Prelude.{◌≡◌, Bool, true, ◌&&◌, List, [], ◌∷◌, ℕ, suc, ltb, eqb, length, get_or}
-use Rattle.words.specs.Tests.{if◌then◌else◌}
+use Rattle.std.specs.Prelude.{◌≡◌, Bool, true, ◌&&◌, List, [], ◌∷◌, ℕ, suc, ltb, eqb, length, get_or, if◌then◌else◌}
 use Rattle.checks.specs.Good.{kind_of}
 use Rattle.rules.specs.Rule.{Condition, Rule}
 use Rattle.rules.specs.Text.{rule_fields, ReadRule, rule, bad_field}

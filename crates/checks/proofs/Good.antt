@@ -10,7 +10,8 @@ use native.Mathlib.Omega.{arith}
 use lib.Dec.{leb, ltb, eqb}
 use lib.Pow.{pow-add}
 use borrow.Author.Tests.{leb-true, ltb-true, eqb-true, eqb-false, le-leb, lt-ltb, eq-eqb, ne_eqb}
-use Rattle.words.specs.Tests.{if◌then◌else◌, every}
+use Rattle.std.specs.Prelude.{if◌then◌else◌}
+use Rattle.words.specs.Tests.{every}
 use Rattle.words.specs.Words.{word_at, rows}
 use Rattle.words.proofs.Tests.{and-true, every_true, by_side, every-by-side}
 use Rattle.checks.specs.Kinds.{lines, line_of, kind, variables_by, argument_words_by, lowest, highest_by, operands_from_by, sort_of, takes}

@@ -10,7 +10,8 @@ use native.Mathlib.Omega.{arith}
 use lib.Dec.{leb, ltb, eqb}
 use lib.ListN.{length, get_or}
 use borrow.Author.Tests.{leb-true, ltb-true, eqb-true, eqb-false, le-leb, lt-ltb, eq-eqb}
-use Rattle.words.specs.Tests.{if◌then◌else◌, rejected}
+use Rattle.std.specs.Prelude.{if◌then◌else◌}
+use Rattle.words.specs.Tests.{rejected}
 use Rattle.words.specs.Words.{rows}
 use Rattle.words.proofs.Tests.{and-true, every_true}
 use Rattle.checks.specs.Good.{kind_of, operand_count, argument_of, constructor_of, child_count}

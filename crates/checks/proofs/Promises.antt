@@ -11,7 +11,8 @@ use native.Mathlib.Omega.{arith}
 use lib.Dec.{leb}
 use lib.ListN.{length}
 use borrow.Author.Tests.{leb-true, le-leb}
-use Rattle.words.specs.Tests.{if◌then◌else◌, rejected}
+use Rattle.std.specs.Prelude.{if◌then◌else◌}
+use Rattle.words.specs.Tests.{rejected}
 use Rattle.words.specs.Words.{rows}
 use Rattle.words.proofs.Tests.{First, and-true, rejected-none, rejected-some}
 use Rattle.checks.specs.declared.Checked.{Checked}

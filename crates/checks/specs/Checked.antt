@@ -1,7 +1,7 @@
 -- What the two checks answer, on every table and every store.
-use Rattle.std.specs.Prelude.{Bool, ◌&&◌, List, ℕ, ◌%◌, leb, ltb, eqb, length, get_or}
+use Rattle.std.specs.Prelude.{Bool, ◌&&◌, List, ℕ, ◌%◌, leb, ltb, eqb, length, get_or, if◌then◌else◌}
 use Rattle.std.proofs.Math.Option.{Option, none, some}
-use Rattle.words.specs.Tests.{if◌then◌else◌, every, rejected}
+use Rattle.words.specs.Tests.{every, rejected}
 use Rattle.words.specs.Words.{rows}
 use Rattle.checks.specs.Kinds.{ours}
 use Rattle.checks.specs.Good.{fault_by, good_entry_by, good_node}

@@ -1,6 +1,6 @@
 -- What is wrong with an entry of the table, and a good node of the store, as documents 01 and 02 have them.
-use Rattle.std.specs.Prelude.{Bool, ◌&&◌, ◌||◌, List, ℕ, zero, suc, ◌+◌, ◌-◌, ◌*◌, ◌/◌, ◌%◌, leb, ltb, eqb}
-use Rattle.words.specs.Tests.{if◌then◌else◌, every}
+use Rattle.std.specs.Prelude.{Bool, ◌&&◌, ◌||◌, List, ℕ, zero, suc, ◌+◌, ◌-◌, ◌*◌, ◌/◌, ◌%◌, leb, ltb, eqb, if◌then◌else◌}
+use Rattle.words.specs.Tests.{every}
 use Rattle.words.specs.Words.{word_at, rows}
 use Rattle.checks.specs.Kinds.{ours, lowest, highest_by, argument_words_by, operands_from_by, kind, sort_of, takes, same}
 

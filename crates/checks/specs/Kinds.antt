@@ -2,8 +2,7 @@
 --
 -- One number decides how many variables there are: W, the words of a scope's mask, of 32 variables each. Whatever depends on
 -- it takes W as its first argument and has a name that ends in By; the same name without it is its use at the product's own W.
-use Rattle.std.specs.Prelude.{Bool, true, false, ◌&&◌, ◌||◌, List, [], ◌∷◌, ℕ, ◌+◌, ◌*◌, ◌^◌, ◌-◌, leb, eqb}
-use Rattle.words.specs.Tests.{if◌then◌else◌}
+use Rattle.std.specs.Prelude.{Bool, true, false, ◌&&◌, ◌||◌, List, [], ◌∷◌, ℕ, ◌+◌, ◌*◌, ◌^◌, ◌-◌, leb, eqb, if◌then◌else◌}
 use Rattle.checks.specs.declared.kinds.Sort.{Sort}
 use Rattle.checks.specs.declared.kinds.Sort.TheVariants.{Strategy, Pattern, Neither}
 

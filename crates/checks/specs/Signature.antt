@@ -1,7 +1,7 @@
 -- A signature: one word per constructor, the declared child count or 7 for undeclared. What fits, what obeys it, and the two
 -- checks against it, as wish 2 of document 02 has them.
-use Rattle.std.specs.Prelude.{◌≡◌, Bool, true, ◌&&◌, ◌||◌, ◌⊎◌, List, ℕ, ◌≤◌, ◌<◌, leb, ltb, eqb, length, get_or}
-use Rattle.words.specs.Tests.{if◌then◌else◌, every, rejected}
+use Rattle.std.specs.Prelude.{◌≡◌, Bool, true, ◌&&◌, ◌||◌, ◌⊎◌, List, ℕ, ◌≤◌, ◌<◌, leb, ltb, eqb, length, get_or, if◌then◌else◌}
+use Rattle.words.specs.Tests.{every, rejected}
 use Rattle.words.specs.Words.{rows}
 use Rattle.checks.specs.Good.{kind_of, operand_count, argument_of, constructor_of, child_count}
 use Rattle.checks.specs.Checked.{found}

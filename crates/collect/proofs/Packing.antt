@@ -10,7 +10,7 @@ use native.Mathlib.Numerals.{add-one}
 use native.Mathlib.Omega.{arith}
 use lib.ListN.{length, get_or, take, drop, length-append, length-take}
 use lib.Seq.{take_at}
-use Rattle.words.specs.Tests.{if◌then◌else◌}
+use Rattle.std.specs.Prelude.{if◌then◌else◌}
 use Rattle.words.specs.Words.{word_at, put_row, cleared_from}
 use Rattle.words.proofs.Rows.{length-put_row, word_at-put_row-same, word_at-put_row-other, length-cleared_from, take-cleared_from, get_or-cleared_from-from}
 use Rattle.words.proofs.Tests.{below-or-from}

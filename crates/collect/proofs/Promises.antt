@@ -10,7 +10,7 @@ use native.Mathlib.Omega.{arith}
 use lib.Dec.{eqb}
 use lib.ListN.{length, get_or, replicate, length-map, length-replicate, get_or-replicate, get_or-eq_default, get_or-map}
 use borrow.Author.Tests.{eqb-true}
-use Rattle.words.specs.Tests.{if◌then◌else◌}
+use Rattle.std.specs.Prelude.{if◌then◌else◌}
 use Rattle.words.proofs.Tests.{below-or-from}
 use Rattle.checks.specs.Good.{child}
 use Rattle.checks.specs.declared.Checked.{Checked}

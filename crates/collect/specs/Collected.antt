@@ -1,6 +1,5 @@
 -- What a collection leaves, for every input: its four numbers, and every word of the store, of the bindings and of the work list.
-use Rattle.std.specs.Prelude.{Bool, List, map, ℕ, eqb, length, replicate}
-use Rattle.words.specs.Tests.{if◌then◌else◌}
+use Rattle.std.specs.Prelude.{Bool, List, map, ℕ, eqb, length, replicate, if◌then◌else◌}
 use Rattle.checks.specs.declared.Checked.{Checked}
 use Rattle.collect.specs.Reachable.{kept}
 use Rattle.collect.specs.Packed.{rank, rebound, store_after}

@@ -1,6 +1,5 @@
 -- Nodes kept by a test, packed: in their old order, numbered from zero without gaps, their children renumbered.
-use Rattle.std.specs.Prelude.{Bool, List, [], ◌++◌, map, ℕ, zero, suc, ◌-◌, ◌*◌, length, replicate}
-use Rattle.words.specs.Tests.{if◌then◌else◌}
+use Rattle.std.specs.Prelude.{Bool, List, [], ◌++◌, map, ℕ, zero, suc, ◌-◌, ◌*◌, length, replicate, if◌then◌else◌}
 use Rattle.checks.specs.Good.{constructor_of}
 use Rattle.meaning.specs.Store.{children, row}
 

@@ -1,6 +1,5 @@
 -- What the two passes leave in the work list and in the store on their way. No promise speaks of it.
-use Rattle.std.specs.Prelude.{◌≡◌, Bool, true, not, List, ℕ, ◌*◌, ◌≤◌, ◌<◌, eqb, length, get_or, take}
-use Rattle.words.specs.Tests.{if◌then◌else◌}
+use Rattle.std.specs.Prelude.{◌≡◌, Bool, true, not, List, ℕ, ◌*◌, ◌≤◌, ◌<◌, eqb, length, get_or, take, if◌then◌else◌}
 use Rattle.checks.specs.Good.{child_count, child}
 use Rattle.collect.specs.Packed.{rank, packed}
 

@@ -1,8 +1,7 @@
 -- What a collection refuses, in document 01's order and without its table parts: 2 for a length or the mark, 4 with the lowest bad
 -- node below the mark, 5 for a bad start.
-use Rattle.std.specs.Prelude.{◌≡◌, Bool, ◌&&◌, List, ℕ, ◌≤◌, ◌<◌, leb, ltb, eqb, length, get_or}
+use Rattle.std.specs.Prelude.{◌≡◌, Bool, ◌&&◌, List, ℕ, ◌≤◌, ◌<◌, leb, ltb, eqb, length, get_or, if◌then◌else◌}
 use Rattle.words.specs.Words.{rows}
-use Rattle.words.specs.Tests.{if◌then◌else◌}
 use Rattle.checks.specs.Kinds.{ours, variables_by}
 use Rattle.checks.specs.Checked.{checked, store_length_fits, store_checked, bound_below}
 use Rattle.checks.specs.declared.Checked.{Checked}

@@ -9,7 +9,8 @@ use native.Mathlib.Omega.{arith}
 use borrow.Author.Tests.{eq-eqb, ne_eqb, eqb-true, eqb-false, leb-true, le-leb}
 use lib.Dec.{eqb, leb}
 use lib.ListN.{length, get_or, get_or-eq_default}
-use Rattle.words.specs.Tests.{if◌then◌else◌, rejected}
+use Rattle.std.specs.Prelude.{if◌then◌else◌}
+use Rattle.words.specs.Tests.{rejected}
 use Rattle.words.specs.Words.{rows}
 use Rattle.words.proofs.Tests.{below-or-from, every_true, First, rejected-none, rejected-some}
 use Rattle.checks.specs.Kinds.{ours, sort_of}

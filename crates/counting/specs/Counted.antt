@@ -1,9 +1,9 @@
 -- The counted run: what it refuses and what it returns, for every input. `counted_of` is the contract of `run_counted`, `indexed_counted_of`
 -- of `run_indexed_counted`. The counts are words of 64 bits, four for each entry of the table: its visits as a strategy, successes,
 -- failures, and visits in flight at a cut-off.
-use Rattle.std.specs.Prelude.{Bool, true, false, List, ℕ, ◌+◌, ◌*◌, eqb, leb, length, get_or, replicate}
+use Rattle.std.specs.Prelude.{Bool, true, false, List, ℕ, ◌+◌, ◌*◌, eqb, leb, length, get_or, replicate, if◌then◌else◌}
 use Rattle.std.proofs.Math.Option.{Option}
-use Rattle.words.specs.Tests.{if◌then◌else◌, every, rejected}
+use Rattle.words.specs.Tests.{every, rejected}
 use Rattle.words.specs.Words.{rows}
 use Rattle.checks.specs.Checked.{checked, found}
 use Rattle.checks.specs.declared.Checked.{Checked}

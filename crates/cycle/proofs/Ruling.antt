@@ -6,7 +6,7 @@ use Prim.Native.Nat.{ℕ, zero, suc, ◌+◌, ◌-◌, ◌<◌, ◌≤◌}
 use native.Mathlib.Omega.{arith}
 use lib.ListN.{get_or-eq_default}
 use Rattle.words.specs.Words.{word_at}
-use Rattle.words.specs.Tests.{if◌then◌else◌}
+use Rattle.std.specs.Prelude.{if◌then◌else◌}
 use Rattle.checks.specs.Kinds.{ours}
 use Rattle.checks.specs.Good.{kind_of, operand_count, argument_of, mask_by, constructor_of}
 use Rattle.meaning.specs.Bindings.{Bindings, unbound, masked}

@@ -10,7 +10,7 @@ use native.Mathlib.Omega.{arith}
 use lib.ListN.{length}
 use lib.Bits.{bit_and}
 use Rattle.words.specs.Words.{word_at}
-use Rattle.words.specs.Tests.{if◌then◌else◌}
+use Rattle.std.specs.Prelude.{if◌then◌else◌}
 use Rattle.checks.specs.Kinds.{ours, variables}
 use Rattle.checks.specs.Good.{kind_of, mask_by}
 use Rattle.meaning.specs.Bindings.{Bindings, has, unbound, masked}

@@ -1,7 +1,6 @@
 -- What the contracts of the cycle say: what a visit requires and gives, hints, and what the child walker does.
-use Rattle.std.specs.Prelude.{◌≡◌, false, ◌⊎◌, List, [], map, ℕ, ◌+◌, ◌-◌, ◌≤◌, ◌<◌, eqb, length}
+use Rattle.std.specs.Prelude.{◌≡◌, false, ◌⊎◌, List, [], map, ℕ, ◌+◌, ◌-◌, ◌≤◌, ◌<◌, eqb, length, if◌then◌else◌}
 use Rattle.words.specs.Words.{word_at}
-use Rattle.words.specs.Tests.{if◌then◌else◌}
 use Rattle.checks.specs.Good.{kind_of, operand_count, constructor_of}
 use Rattle.meaning.specs.Bindings.{Bindings}
 use Rattle.meaning.specs.Table.{operands}

@@ -1,8 +1,7 @@
 // The cycle of visits. Applying an entry selects the rule by its kind; operands in a last position go round a loop; one
 // child walker serves ALL, SOME and CONG. The nesting left falls at each call.
-ghost use Rattle.std.specs.Prelude.{◌≡◌, ◌⊎◌, ◌+◌, ◌-◌, ◌<◌, eqb, ltb, length, set};
+ghost use Rattle.std.specs.Prelude.{◌≡◌, ◌⊎◌, ◌+◌, ◌-◌, ◌<◌, eqb, ltb, length, set, if◌then◌else◌};
 ghost use Rattle.words.specs.Words.{word_at};
-ghost use Rattle.words.specs.Tests.{if◌then◌else◌};
 ghost use Rattle.checks.specs.Good.{kind_of};
 ghost use Rattle.state.specs.Answers.{node_in};
 ghost use Rattle.index.specs.Run.{Fits};

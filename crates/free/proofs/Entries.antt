@@ -11,7 +11,8 @@ use lib.ListN.{length, get_or, take, length-take}
 use lib.Pow.{pow_pos}
 use lib.Seq.{get_or-take}
 use borrow.Author.Tests.{leb-true, eqb-true, eqb-false, ne_eqb, leb-false}
-use Rattle.words.specs.Tests.{if◌then◌else◌, every}
+use Rattle.std.specs.Prelude.{if◌then◌else◌}
+use Rattle.words.specs.Tests.{every}
 use Rattle.words.specs.Words.{word_at, rows}
 use Rattle.words.proofs.Tests.{and-true}
 use Rattle.checks.specs.declared.kinds.Sort.TheVariants.{Strategy as AStrategy, Pattern as APattern}

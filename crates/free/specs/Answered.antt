@@ -1,7 +1,6 @@
 -- What the question of free variables answers, on every table and every entry.
-use Rattle.std.specs.Prelude.{◌≡◌, Bool, true, ◌&&◌, ◌≢◌, ◌↔◌, List, ℕ, ◌^◌, ◌<◌, ltb}
+use Rattle.std.specs.Prelude.{◌≡◌, Bool, true, ◌&&◌, ◌≢◌, ◌↔◌, List, ℕ, ◌^◌, ◌<◌, ltb, if◌then◌else◌}
 use Rattle.std.proofs.Math.Dec.{eqb}
-use Rattle.words.specs.Tests.{if◌then◌else◌}
 use Rattle.words.specs.Words.{rows}
 use Rattle.checks.specs.declared.Checked.{Checked}
 use Rattle.checks.specs.declared.kinds.Sort.TheVariants.{Strategy}

@@ -1,7 +1,6 @@
 -- The passes over the masks of the entries, and what a mask stands for on the way. No promise speaks of these.
-use Rattle.std.specs.Prelude.{◌≡◌, Bool, true, false, not, ◌||◌, List, [], ◌∷◌, ℕ, zero, suc, ◌+◌, ◌-◌, ◌^◌, ◌≤◌, ◌<◌, eqb, get_or, set}
+use Rattle.std.specs.Prelude.{◌≡◌, Bool, true, false, not, ◌||◌, List, [], ◌∷◌, ℕ, zero, suc, ◌+◌, ◌-◌, ◌^◌, ◌≤◌, ◌<◌, eqb, get_or, set, if◌then◌else◌}
 use Rattle.std.specs.Int.Bits.{bit_and, bit_or}
-use Rattle.words.specs.Tests.{if◌then◌else◌}
 use Rattle.words.specs.Words.{word_at, rows}
 use Rattle.checks.specs.Kinds.{variables_by}
 use Rattle.checks.specs.Good.{kind_of, argument_of, mask_by}

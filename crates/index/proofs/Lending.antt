@@ -1,8 +1,7 @@
 -- One lent slice: writing the index does not touch the nodes, so the laws of the chains hold of it. Assumes nothing.
-use Rattle.std.proofs.Common.{◌≡◌, ℕ, zero, suc, ◌+◌, ◌-◌, ◌*◌, ◌/◌, ◌%◌, ◌<◌, ◌≤◌, List, [], ◌∷◌, length, get_or, set, sym, refl, ap, ◌∙◌, subst, add-one, arith, length-set, ext_get_or, le-leb}
+use Rattle.std.proofs.Common.{◌≡◌, ℕ, zero, suc, ◌+◌, ◌-◌, ◌*◌, ◌/◌, ◌%◌, ◌<◌, ◌≤◌, List, [], ◌∷◌, length, get_or, set, sym, refl, ap, ◌∙◌, subst, add-one, arith, length-set, ext_get_or, le-leb, if◌then◌else◌}
 use mathlib.Core.Option.{none, some}
 use borrow.Author.Tests.{lt-leb}
-use Rattle.words.specs.Tests.{if◌then◌else◌}
 use Rattle.words.specs.Words.{word_at, put_row, cleared_from}
 use Rattle.words.proofs.Rows.{length-put_row, word_at-put_row-same, word_at-put_row-other, length-cleared_from, get_or-cleared_from-from}
 use Rattle.meaning.specs.Shared.{eight, alike, node_with}

@@ -1,10 +1,9 @@
 -- A store without twins has no two nodes with the same words, and then two nodes are equal terms only where they are one node.
 -- Assumes nothing.
-use Rattle.std.proofs.Common.{◌≡◌, ℕ, zero, suc, ◌+◌, ◌<◌, Bool, true, false, List, replicate, sym, refl, ap, ◌∙◌, subst, true≢false, arith}
+use Rattle.std.proofs.Common.{◌≡◌, ℕ, zero, suc, ◌+◌, ◌<◌, Bool, true, false, List, replicate, sym, refl, ap, ◌∙◌, subst, true≢false, arith, if◌then◌else◌}
 use mathlib.Core.Option.{none, some}
 use native.Mathlib.Decide.{ℕ_discrete}
 use lib.ListN.{length-replicate, get_or-replicate}
-use Rattle.words.specs.Tests.{if◌then◌else◌}
 use Rattle.words.proofs.Tests.{rejected-none}
 use Rattle.checks.specs.Checked.{place_of}
 use Rattle.checks.specs.declared.Found.{Found}

@@ -12,7 +12,7 @@ use lib.ListN.{length, get_or, take, drop, replicate, drop_of_length-le, length-
 use lib.Seq.{ext_get_or, get_or-take, get_or-drop, take-take, take_all, length-take-le}
 use borrow.Author.Tests.{eq-eqb, ne_eqb, eqb-true, leb-true, le-leb, lt-leb}
 use Rattle.words.specs.Words.{rows, cleared_from}
-use Rattle.words.specs.Tests.{if◌then◌else◌}
+use Rattle.std.specs.Prelude.{if◌then◌else◌}
 use Rattle.words.proofs.Tests.{below-or-from}
 use Rattle.words.proofs.Rows.{length-cleared_from, get_or-cleared_from-below, get_or-cleared_from-from}
 use Rattle.checks.specs.Kinds.{ours}

@@ -9,7 +9,7 @@ use lib.Dec.{eqb}
 use lib.ListN.{length, get_or, take, length-append, length-take}
 use borrow.Author.Tests.{eq-eqb, ne_eqb}
 use Rattle.checks.specs.Kinds.{variables}
-use Rattle.words.specs.Tests.{if◌then◌else◌}
+use Rattle.std.specs.Prelude.{if◌then◌else◌}
 use Rattle.words.specs.Words.{word_at}
 use Rattle.job.specs.Lines.{Line}
 use Rattle.text.specs.Written.{numbers_text, Put}

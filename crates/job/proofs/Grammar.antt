@@ -8,7 +8,7 @@ use native.Mathlib.Omega.{arith}
 use lib.Dec.{ltb, leb, eqb}
 use lib.ListN.{length, get_or}
 use borrow.Author.Tests.{ltb-false, leb-true, eqb-true, ne_eqb}
-use Rattle.words.specs.Tests.{if◌then◌else◌}
+use Rattle.std.specs.Prelude.{if◌then◌else◌}
 use Rattle.words.proofs.Tests.{and-true}
 use Rattle.text.specs.Text.{one_word, two_words, parts, decimal, decimal_wide}
 use Rattle.text.specs.Written.{numbers_text, Within}

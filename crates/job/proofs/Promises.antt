@@ -8,7 +8,7 @@ use native.Mathlib.Omega.{arith}
 use lib.Dec.{ltb, eqb}
 use lib.ListN.{length, get_or, length-append}
 use borrow.Author.Tests.{le-ltb, ltb-false, eqb-true, eqb-false, ne_eqb}
-use Rattle.words.specs.Tests.{if◌then◌else◌}
+use Rattle.std.specs.Prelude.{if◌then◌else◌}
 use Rattle.text.specs.Text.{one_word, two_words, parts, joined, joined_after, number_of, in_front, numbers_of, decimal, decimal_wide}
 use Rattle.text.specs.Written.{numbers_text}
 use Rattle.job.specs.Lines.{Line, name_of, letter_of, fits, line_from, entry_numbers, field_numbers, line_of_fields, line_of}

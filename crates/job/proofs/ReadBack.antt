@@ -9,7 +9,7 @@ use lib.ListN.{length, get_or, set, take, drop, replicate, length-append, length
 use lib.Seq.{take-add, take_at, take_all, take-suc, get_or-drop, length-take-le, set_at, append_snoc}
 use borrow.Author.Tests.{lt-ltb, le-leb, eqb-true, eqb-false}
 use Rattle.checks.specs.Kinds.{variables}
-use Rattle.words.specs.Tests.{if◌then◌else◌}
+use Rattle.std.specs.Prelude.{if◌then◌else◌}
 use Rattle.words.specs.Words.{word_at, put_row}
 use Rattle.words.proofs.Rows.{length-put_row}
 use Rattle.job.specs.Lines.{Line, node_fits, binding_fits, fits, node_row}

@@ -11,7 +11,7 @@ use lib.Dec.{ltb, leb, eqb}
 use lib.ListN.{length, get_or, set, drop, drop_of_length-le}
 use borrow.Author.Tests.{lt-ltb, le-ltb, le-leb, eqb-true, leb-true, ltb-true, eq-eqb, ne_eqb}
 use Rattle.checks.specs.Kinds.{variables}
-use Rattle.words.specs.Tests.{if◌then◌else◌}
+use Rattle.std.specs.Prelude.{if◌then◌else◌}
 use Rattle.words.proofs.Tests.{and-true, below-or-from}
 use Rattle.words.specs.Words.{cleared_from}
 use Rattle.text.specs.Text.{parts, up_to, numbers_of, eight}

@@ -1,8 +1,7 @@
 -- The text of an answer: `answer` and five numbers; for 0, 1, 6, 7, 8 and 12 also the `n` lines of the nodes below the mark
 -- and the `b` lines of the bound variables, rising.
-use Rattle.std.specs.Prelude.{Bool, ◌&&◌, ◌||◌, List, [], ◌∷◌, ◌++◌, ℕ, zero, suc, ◌+◌, ◌-◌, min, leb, eqb, get_or, take}
+use Rattle.std.specs.Prelude.{Bool, ◌&&◌, ◌||◌, List, [], ◌∷◌, ◌++◌, ℕ, zero, suc, ◌+◌, ◌-◌, min, leb, eqb, get_or, take, if◌then◌else◌}
 use Rattle.checks.specs.Kinds.{variables}
-use Rattle.words.specs.Tests.{if◌then◌else◌}
 use Rattle.words.specs.Words.{word_at}
 use Rattle.job.specs.Lines.{Line}
 use Rattle.text.specs.Written.{numbers_text}

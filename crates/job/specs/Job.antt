@@ -1,10 +1,9 @@
 -- What a text means as a job: its lines in order, each taken in by what was read before it, and the words that they make.
 -- The store array holds the rows of all `n` lines; the store of the run is its first 8 × room words, so that a mark above
 -- the room is the run's own answer 2.
-use Rattle.std.specs.Prelude.{◌≡◌, Bool, ◌&&◌, List, [], ◌∷◌, ℕ, ◌+◌, leb, ltb, eqb, length, get_or, set, replicate}
+use Rattle.std.specs.Prelude.{◌≡◌, Bool, ◌&&◌, List, [], ◌∷◌, ℕ, ◌+◌, leb, ltb, eqb, length, get_or, set, replicate, if◌then◌else◌}
 use Rattle.std.proofs.Math.Option.{Option, none, some}
 use Rattle.checks.specs.Kinds.{variables}
-use Rattle.words.specs.Tests.{if◌then◌else◌}
 use Rattle.words.specs.Words.{put_row}
 use Rattle.text.specs.Text.{parts}
 use Rattle.job.specs.Lines.{Line, line_of, words, upper, entry_row, node_row}

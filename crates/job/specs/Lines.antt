@@ -1,9 +1,8 @@
 -- A line is a name and its numbers. The names are numbered in the order in which their lines stand in a job: 0 is `job`,
 -- 1 is `e`, 2 is `n` and 3 is `b`.
-use Rattle.std.specs.Prelude.{Bool, false, ◌&&◌, ◌||◌, List, [], ◌∷◌, ℕ, ◌+◌, ◌-◌, ◌*◌, ◌/◌, ◌%◌, leb, ltb, eqb, length, get_or, set, drop, replicate}
+use Rattle.std.specs.Prelude.{Bool, false, ◌&&◌, ◌||◌, List, [], ◌∷◌, ℕ, ◌+◌, ◌-◌, ◌*◌, ◌/◌, ◌%◌, leb, ltb, eqb, length, get_or, set, drop, replicate, if◌then◌else◌}
 use Rattle.std.proofs.Math.Option.{Option, none, some}
 use Rattle.checks.specs.Kinds.{variables}
-use Rattle.words.specs.Tests.{if◌then◌else◌}
 use Rattle.text.specs.Text.{one_word, two_words, parts, up_to, number_of, in_front, numbers_of, eight}
 use Rattle.text.specs.Lines.{line_end}
 use Rattle.job.specs.declared.Taken.{Taken}

@@ -1,7 +1,6 @@
 -- The text of a job: the one text of its lines. A line is its name and, for each number, a tab and its digits; a line feed
 -- ends it.
-use Rattle.std.specs.Prelude.{◌≡◌, true, false, List, [], ◌∷◌, ◌++◌, ℕ, ◌≤◌, eqb, length, get_or}
-use Rattle.words.specs.Tests.{if◌then◌else◌}
+use Rattle.std.specs.Prelude.{◌≡◌, true, false, List, [], ◌∷◌, ◌++◌, ℕ, ◌≤◌, eqb, length, get_or, if◌then◌else◌}
 use Rattle.text.specs.Text.{one_word, two_words, decimal, decimal_wide}
 use Rattle.text.specs.Written.{numbers_text, Within}
 use Rattle.job.specs.Lines.{Line, fits}

@@ -1,8 +1,7 @@
 -- What the machine's functions promise. Frame i is at row 10 i.
-use Rattle.std.specs.Prelude.{◌≡◌, Bool, true, false, ◌⊎◌, List, ◌∷◌, ℕ, suc, ◌+◌, ◌-◌, ◌*◌, ◌<◌, ◌≤◌, ◌%◌, eqb, ltb, length, get_or, set}
+use Rattle.std.specs.Prelude.{◌≡◌, Bool, true, false, ◌⊎◌, List, ◌∷◌, ℕ, suc, ◌+◌, ◌-◌, ◌*◌, ◌<◌, ◌≤◌, ◌%◌, eqb, ltb, length, get_or, set, if◌then◌else◌}
 use Rattle.std.proofs.Math.Option.{Option, none, some}
 use Rattle.words.specs.Words.{word_at, rows, put_row}
-use Rattle.words.specs.Tests.{if◌then◌else◌}
 use Rattle.meaning.specs.Bindings.{Bindings, has}
 use Rattle.meaning.specs.Table.{table}
 use Rattle.meaning.specs.Rules.{Do, does}

@@ -10,7 +10,7 @@ use lib.Dec.{eqb}
 use lib.ListN.{length, get_or, take, drop as dropList, replicate}
 use lib.Seq.{take_at, ext_get_or}
 use borrow.Author.Tests.{eqb-true, eq-eqb}
-use Rattle.words.specs.Tests.{if◌then◌else◌}
+use Rattle.std.specs.Prelude.{if◌then◌else◌}
 use Rattle.words.specs.Words.{word_at, put_row}
 use Rattle.words.proofs.Tests.{and-true}
 use Rattle.words.proofs.Rows.{word_at-put_row-same, word_at-put_row-other}

@@ -1,9 +1,9 @@
 -- Wish 12, one node for one term: the store variant in which a node that stands below the mark with the same words is not made again.
 -- It is one more store for the same plans. What is promised of it stands below as named types; the proofs are proofs/Shared.antt, under
 -- the same names in small letters.
-use Rattle.std.specs.Prelude.{◌≡◌, ◌↔◌, ◌≢◌, Bool, true, false, ◌&&◌, List, [], ◌∷◌, ℕ, zero, suc, ◌≤◌, ◌<◌, eqb}
+use Rattle.std.specs.Prelude.{◌≡◌, ◌↔◌, ◌≢◌, Bool, true, false, ◌&&◌, List, [], ◌∷◌, ℕ, zero, suc, ◌≤◌, ◌<◌, eqb, if◌then◌else◌}
 use Rattle.std.proofs.Math.Option.{Option, none, some}
-use Rattle.words.specs.Tests.{if◌then◌else◌, rejected}
+use Rattle.words.specs.Tests.{rejected}
 use Rattle.words.specs.Words.{word_at, rows}
 use Rattle.checks.specs.Signature.{entry_obeys, node_obeys}
 use Rattle.checks.specs.Promises.{AllGood}

@@ -1,7 +1,6 @@
 -- Where the units go: document 02's numbers as counts over a derivation or its counted beginning, and as counts over what a run has noted
 -- of its visits. The proofs are proofs/Tallies.antt.
-use Rattle.std.specs.Prelude.{◌≡◌, Bool, true, false, ◌&&◌, List, [], ◌∷◌, ℕ, zero, suc, ◌+◌, ◌<◌, eqb}
-use Rattle.words.specs.Tests.{if◌then◌else◌}
+use Rattle.std.specs.Prelude.{◌≡◌, Bool, true, false, ◌&&◌, List, [], ◌∷◌, ℕ, zero, suc, ◌+◌, ◌<◌, eqb, if◌then◌else◌}
 use Rattle.meaning.specs.Derivation.{What, entry, pattern, pair, Fate, stays, goes, fails, in-flight, Trace, over, missed, node}
 use Rattle.meaning.specs.Derivation.{visit, visits, Event, began, ended, history, noted}
 

@@ -9,7 +9,7 @@ use lib.Dec.{leb, ltb}
 use lib.ListN.{length, drop, take, get_or, length-drop}
 use lib.Seq.{drop-drop, get_or-drop, length-take-le, take_all}
 use borrow.Author.Tests.{eq-eqb, ne_eqb, leb-true, le-leb, lt-leb, ltb-true, ltb-false}
-use Rattle.words.specs.Tests.{if◌then◌else◌}
+use Rattle.std.specs.Prelude.{if◌then◌else◌}
 use Rattle.meaning.proofs.Tests.{impossible, decided}
 use Rattle.text.specs.Text.{parts, up_to, one_word, number_of}
 use Rattle.text.proofs.Parts.{parts_first, parts-on, parts-end, up_to-take, length-up_to, up_to-stops}

@@ -9,7 +9,7 @@ use native.Mathlib.Omega.{arith}
 use lib.Dec.{leb, eqb}
 use lib.ListN.{length, drop, take, length-append, length-drop}
 use borrow.Author.Tests.{leb-true, leb-false, le-leb}
-use Rattle.words.specs.Tests.{if◌then◌else◌}
+use Rattle.std.specs.Prelude.{if◌then◌else◌}
 use Rattle.meaning.proofs.Tests.{impossible, decided}
 use Rattle.text.specs.Text.{parts, grown, up_to, one_word, number_of}
 use Rattle.rules.specs.Rule.{Pat, Pats, var, con, none as no-pats, more as more-pats, count}

@@ -1,8 +1,7 @@
 -- One term of a line's fields, as the code goes through them: w terms are wanted, the next field begins at `at`, n fields
 -- were good and s entries are made.
-use Rattle.std.specs.Prelude.{true, false, List, [], ◌∷◌, ℕ, zero, suc, ◌+◌, leb, length, drop}
+use Rattle.std.specs.Prelude.{true, false, List, [], ◌∷◌, ℕ, zero, suc, ◌+◌, leb, length, drop, if◌then◌else◌}
 use Rattle.std.proofs.Math.Option.{Option, none, some}
-use Rattle.words.specs.Tests.{if◌then◌else◌}
 use Rattle.text.specs.Text.{parts, one_word, number_of}
 use Rattle.rules.specs.Text.{Fields, Head, variable, constructor, neither, head_of, up_to_six}
 use Rattle.rules.specs.declared.term.Term.{Term}

@@ -1,9 +1,8 @@
 -- The text of rules: a line each, ended by a line feed, its fields between tabs: the left term, the right term, and for each
 -- condition the number of an entry, the starting term and the outcome's pattern. A term is in prefix form: `v` and a number,
 -- or a constructor and a child count, and then the children.
-use Rattle.std.specs.Prelude.{List, [], ◌∷◌, ◌++◌, ℕ, zero, suc, ◌+◌, ◌≤◌, eqb, leb, length}
+use Rattle.std.specs.Prelude.{List, [], ◌∷◌, ◌++◌, ℕ, zero, suc, ◌+◌, ◌≤◌, eqb, leb, length, if◌then◌else◌}
 use Rattle.std.proofs.Math.Option.{Option, none, some}
-use Rattle.words.specs.Tests.{if◌then◌else◌}
 use Rattle.text.specs.Text.{parts, one_word, number_of, decimal}
 use Rattle.rules.specs.Rule.{Pat, Pats, var, con, none as no-pats, more as more-pats, Condition, Rule, count}
 

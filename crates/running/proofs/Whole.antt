@@ -10,7 +10,7 @@ use lib.ListN.{length, get_or, take}
 use borrow.Author.Tests.{eq-eqb, ne_eqb, lt-ltb, le-ltb}
 use Rattle.checks.specs.Kinds.{ours, variables}
 use Rattle.words.specs.Words.{word_at, rows, cleared_from}
-use Rattle.words.specs.Tests.{if◌then◌else◌}
+use Rattle.std.specs.Prelude.{if◌then◌else◌}
 use Rattle.checks.specs.declared.Checked.{Checked}
 use Rattle.checks.specs.Good.{good_node}
 use Rattle.checks.specs.Checked.{checked, table_checked}

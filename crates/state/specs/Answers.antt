@@ -1,7 +1,6 @@
 -- The answer of a visit in one word, and what it says. The word's upper half is a node below 2³¹; from there on it says failed,
 -- and from 3 × 2³⁰ on what cut the visit off. No store has so many nodes.
-use Rattle.std.specs.Prelude.{true, false, ℕ, ◌+◌, ◌*◌, ◌/◌, ◌%◌, eqb, ltb}
-use Rattle.words.specs.Tests.{if◌then◌else◌}
+use Rattle.std.specs.Prelude.{true, false, ℕ, ◌+◌, ◌*◌, ◌/◌, ◌%◌, eqb, ltb, if◌then◌else◌}
 use Rattle.state.specs.declared.answers.Answer.{Answer}
 use Rattle.state.specs.declared.answers.Answer.TheVariants.{Done, Failed, Cut}
 use Rattle.state.specs.declared.answers.Attempt.{Attempt}

@@ -3,10 +3,9 @@
 -- putting mark and mask back.
 --
 -- The mask has W words, of 32 variables each, as a scope's has; the product's own W is `ours` (checks/specs/Kinds).
-use Rattle.std.specs.Prelude.{◌≡◌, ◌&&◌, true, List, ℕ, zero, suc, ◌+◌, ◌-◌, ◌/◌, ◌%◌, ◌^◌, ◌<◌, eqb, ltb, length, get_or, set, replicate}
+use Rattle.std.specs.Prelude.{◌≡◌, ◌&&◌, true, List, ℕ, zero, suc, ◌+◌, ◌-◌, ◌/◌, ◌%◌, ◌^◌, ◌<◌, eqb, ltb, length, get_or, set, replicate, if◌then◌else◌}
 use Rattle.std.proofs.Math.Option.{none, some}
 use Rattle.std.specs.Int.Bits.{bit_and, bit_or}
-use Rattle.words.specs.Tests.{if◌then◌else◌}
 use Rattle.checks.specs.Kinds.{ours, variables_by}
 use Rattle.checks.specs.Good.{number}
 use Rattle.meaning.specs.Bindings.{Bindings, has}

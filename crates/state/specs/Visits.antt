@@ -1,8 +1,7 @@
 -- What the contracts of the leaves say: a visit, or what follows it, over the store's words, by the meaning's rules.
-use Rattle.std.specs.Prelude.{◌≡◌, Bool, true, ◌&&◌, ◌⊎◌, List, [], ◌∷◌, ℕ, ◌+◌, ◌*◌, ◌%◌, ◌≤◌, ◌<◌, min, eqb, ltb, length}
+use Rattle.std.specs.Prelude.{◌≡◌, Bool, true, ◌&&◌, ◌⊎◌, List, [], ◌∷◌, ℕ, ◌+◌, ◌*◌, ◌%◌, ◌≤◌, ◌<◌, min, eqb, ltb, length, if◌then◌else◌}
 use Rattle.std.proofs.Math.Option.{some}
 use Rattle.words.specs.Words.{word_at}
-use Rattle.words.specs.Tests.{if◌then◌else◌}
 use Rattle.checks.specs.Kinds.{ours, variables, operands_from_by}
 use Rattle.checks.specs.Good.{kind_of, operand_count, argument_of, good_node}
 use Rattle.meaning.specs.Bindings.{Bindings}

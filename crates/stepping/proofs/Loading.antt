@@ -1,11 +1,10 @@
 -- The given bindings as words of the list, one variable after the other; and back. Assumes nothing.
-use Rattle.std.proofs.Common.{◌≡◌, ℕ, suc, ◌+◌, ◌-◌, ◌*◌, ◌%◌, ◌^◌, ◌<◌, ◌≤◌, Bool, true, false, ◌&&◌, eqb, ltb, List, length, get_or, set, sym, refl, ap, ◌∙◌, ⊎_elim, arith, length-set, get_or-set_other, get_or-set_same, ext_get_or, le-ltb, lt-ltb, eqb-true}
+use Rattle.std.proofs.Common.{◌≡◌, ℕ, suc, ◌+◌, ◌-◌, ◌*◌, ◌%◌, ◌^◌, ◌<◌, ◌≤◌, Bool, true, false, ◌&&◌, eqb, ltb, List, length, get_or, set, sym, refl, ap, ◌∙◌, ⊎_elim, arith, length-set, get_or-set_other, get_or-set_same, ext_get_or, le-ltb, lt-ltb, eqb-true, if◌then◌else◌}
 use mathlib.Core.Path.{fun_ext}
 use mathlib.Core.Option.{none, some}
 use borrow.Author.Tests.{eqb-false}
 use lib.Bits.{bit_or}
 use lib.ListN.{get_or-eq_default}
-use Rattle.words.specs.Tests.{if◌then◌else◌}
 use Rattle.words.proofs.Tests.{below-or-from}
 use Rattle.meaning.specs.Bindings.{Bindings, bind, has}
 use Rattle.meaning.specs.Store.{named, bindings}

@@ -1,7 +1,6 @@
 -- What the functions inside the two calls promise.
-use Rattle.std.specs.Prelude.{◌≡◌, ℕ, ◌+◌, ◌*◌, ◌/◌, ◌%◌, ◌<◌, ◌≤◌, ◌⊎◌, List, [], ◌∷◌, length, ◌≢◌, slice_index}
+use Rattle.std.specs.Prelude.{◌≡◌, ℕ, ◌+◌, ◌*◌, ◌/◌, ◌%◌, ◌<◌, ◌≤◌, ◌⊎◌, List, [], ◌∷◌, length, ◌≢◌, slice_index, if◌then◌else◌}
 use Rattle.words.specs.Words.{word_at, cleared_from}
-use Rattle.words.specs.Tests.{if◌then◌else◌}
 use Rattle.meaning.specs.Bindings.{has}
 use Rattle.meaning.specs.Store.{bindings}
 use Rattle.calls.specs.declared.Outcome.{Outcome}

@@ -1,8 +1,7 @@
 -- A run that can be set aside: what the start call and the step call return, and what the lent memory holds between them.
-use Rattle.std.specs.Prelude.{◌≡◌, ℕ, ◌+◌, ◌-◌, ◌*◌, ◌<◌, min, Bool, true, false, ◌&&◌, List, [], length, ◌==◌, ◌≢◌, nat_le, nat_lt, slice_index}
+use Rattle.std.specs.Prelude.{◌≡◌, ℕ, ◌+◌, ◌-◌, ◌*◌, ◌<◌, min, Bool, true, false, ◌&&◌, List, [], length, ◌==◌, ◌≢◌, nat_le, nat_lt, slice_index, if◌then◌else◌}
 use Rattle.std.proofs.Math.Option.{Option}
 use Rattle.words.specs.Words.{word_at}
-use Rattle.words.specs.Tests.{if◌then◌else◌}
 use Rattle.checks.specs.Kinds.{variables}
 use Rattle.checks.specs.Checked.{checked, table_length_fits, store_length_fits}
 use Rattle.checks.specs.declared.Checked.{Checked}

@@ -1,7 +1,6 @@
 -- The words of the counts: one more, and the others as they were. Assumes nothing.
-use Rattle.std.proofs.Common.{◌≡◌, ℕ, zero, suc, ◌+◌, ◌*◌, ◌%◌, ◌<◌, ◌≤◌, Bool, true, false, eqb, ltb, List, length, get_or, set, sym, refl, ap, ◌∙◌, subst, arith, length-set, get_or-set_other, get_or-set_same, le-ltb, lt-ltb, eq-eqb, ne_eqb, eqb-true}
+use Rattle.std.proofs.Common.{◌≡◌, ℕ, zero, suc, ◌+◌, ◌*◌, ◌%◌, ◌<◌, ◌≤◌, Bool, true, false, eqb, ltb, List, length, get_or, set, sym, refl, ap, ◌∙◌, subst, arith, length-set, get_or-set_other, get_or-set_same, le-ltb, lt-ltb, eq-eqb, ne_eqb, eqb-true, if◌then◌else◌}
 use borrow.Author.Tests.{eqb-false}
-use Rattle.words.specs.Tests.{if◌then◌else◌}
 use Rattle.machine.specs.declared.Machine.{Machine}
 use Rattle.meaning.specs.Derivation.{What, entry, pattern, pair}
 use Rattle.meaning.specs.Tallies.{one-if, is_entry}

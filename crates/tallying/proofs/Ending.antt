@@ -1,6 +1,5 @@
 -- What the counts are where a counted run has stopped: those given, and what happened to visits. Assumes nothing.
-use Rattle.std.proofs.Common.{◌≡◌, ℕ, zero, suc, ◌+◌, ◌*◌, ◌/◌, ◌%◌, ◌<◌, ◌≤◌, Bool, eqb, List, [], ◌∷◌, length, get_or, sym, refl, ap, ◌∙◌, subst, arith, ext_get_or}
-use Rattle.words.specs.Tests.{if◌then◌else◌}
+use Rattle.std.proofs.Common.{◌≡◌, ℕ, zero, suc, ◌+◌, ◌*◌, ◌/◌, ◌%◌, ◌<◌, ◌≤◌, Bool, eqb, List, [], ◌∷◌, length, get_or, sym, refl, ap, ◌∙◌, subst, arith, ext_get_or, if◌then◌else◌}
 use Rattle.meaning.specs.Derivation.{What, Event, ended}
 use Rattle.meaning.specs.Tallies.{is_entry, counted, begins}
 use Rattle.machine.specs.declared.Machine.{Machine}

@@ -1,6 +1,5 @@
 -- What a counted run has counted so far, kept from turn to turn. Assumes nothing.
-use Rattle.std.proofs.Common.{◌≡◌, ℕ, zero, suc, ◌+◌, ◌-◌, ◌*◌, ◌%◌, ◌^◌, ◌<◌, ◌≤◌, Bool, true, false, eqb, List, [], ◌∷◌, length, get_or, set, sym, refl, ap, ◌∙◌, subst, arith, get_or-set_other, get_or-set_same, ne_eqb}
-use Rattle.words.specs.Tests.{if◌then◌else◌}
+use Rattle.std.proofs.Common.{◌≡◌, ℕ, zero, suc, ◌+◌, ◌-◌, ◌*◌, ◌%◌, ◌^◌, ◌<◌, ◌≤◌, Bool, true, false, eqb, List, [], ◌∷◌, length, get_or, set, sym, refl, ap, ◌∙◌, subst, arith, get_or-set_other, get_or-set_same, ne_eqb, if◌then◌else◌}
 use Rattle.meaning.specs.Derivation.{What, what, Event, began, ended}
 use Rattle.meaning.specs.Tallies.{one-if, is_entry, any_pattern, is_pair, counted, begins, wins, loses}
 use Rattle.turns.specs.Ways.{visit_of}

@@ -1,6 +1,5 @@
 -- The words of the counts.
-use Rattle.std.specs.Prelude.{◌≡◌, ℕ, zero, suc, ◌+◌, ◌*◌, ◌%◌, ◌<◌, ◌≤◌, Bool, List, [], ◌∷◌, length, ◌==◌, nat_eq, nat_lt, slice_index, slice_set}
-use Rattle.words.specs.Tests.{if◌then◌else◌}
+use Rattle.std.specs.Prelude.{◌≡◌, ℕ, zero, suc, ◌+◌, ◌*◌, ◌%◌, ◌<◌, ◌≤◌, Bool, List, [], ◌∷◌, length, ◌==◌, nat_eq, nat_lt, slice_index, slice_set, if◌then◌else◌}
 use Rattle.meaning.specs.Derivation.{What, entry, pattern, pair, Event}
 use Rattle.meaning.specs.Tallies.{one-if, is_entry, counted, begins, wins, loses}
 use Rattle.machine.specs.declared.Machine.{Machine}

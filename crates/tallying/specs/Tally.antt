@@ -1,6 +1,5 @@
 -- What a counted run promises: it is the machine's, and its counts are of what happened to visits.
-use Rattle.std.specs.Prelude.{◌≡◌, ℕ, suc, ◌+◌, ◌-◌, ◌%◌, ◌<◌, ◌≤◌, Bool, ◌⊎◌, List, [], length, ◌==◌}
-use Rattle.words.specs.Tests.{if◌then◌else◌}
+use Rattle.std.specs.Prelude.{◌≡◌, ℕ, suc, ◌+◌, ◌-◌, ◌%◌, ◌<◌, ◌≤◌, Bool, ◌⊎◌, List, [], length, ◌==◌, if◌then◌else◌}
 use Rattle.meaning.specs.Table.{table}
 use Rattle.meaning.specs.Rules.{does}
 use Rattle.meaning.specs.Derivation.{What, Event, history}

@@ -2,8 +2,7 @@
 // in flight at a cut-off.
 #![tactic(auto)]
 
-ghost use Rattle.std.specs.Prelude.{◌≡◌, ℕ, ◌+◌, ◌*◌, ◌<◌, ◌≤◌, length, nat_eq, slice_index, slice_set};
-ghost use Rattle.words.specs.Tests.{if◌then◌else◌};
+ghost use Rattle.std.specs.Prelude.{◌≡◌, ℕ, ◌+◌, ◌*◌, ◌<◌, ◌≤◌, length, nat_eq, slice_index, slice_set, if◌then◌else◌};
 ghost use Rattle.words.specs.Words.{rows};
 ghost use Rattle.meaning.specs.Store.{Accepted};
 ghost use Rattle.calls.specs.Run.{input};

@@ -10,7 +10,7 @@ use native.Mathlib.Omega.{arith}
 use lib.Dec.{ltb, eqb}
 use lib.ListN.{length, get_or, length-append, get_or-append}
 use borrow.Author.Tests.{le-ltb, ltb-true, ltb-false, eqb-true, eqb-false}
-use Rattle.words.specs.Tests.{if◌then◌else◌}
+use Rattle.std.specs.Prelude.{if◌then◌else◌}
 use Rattle.text.specs.Text.{one_word, two_words, parts, joined_after, valued, zero_alone, number_of, in_front, numbers_of, digits, decimal}
 use Rattle.text.specs.Written.{numbers_text, Within, empty, limited}
 use Rattle.text.specs.Promises.{NumberIsText}

@@ -10,7 +10,7 @@ use lib.Dec.{ltb}
 use lib.ListN.{length, get_or, set, take, drop, length-append, length-take, length-drop, take-append-drop}
 use lib.Seq.{set_split, take_at, drop-append-add, drop-drop, length-take-le, take-suc}
 use borrow.Author.Tests.{lt-ltb, le-ltb, ltb-false}
-use Rattle.words.specs.Tests.{if◌then◌else◌}
+use Rattle.std.specs.Prelude.{if◌then◌else◌}
 use Rattle.text.specs.Text.{one_word, two_words, digits, decimal}
 use Rattle.text.specs.Written.{numbers_text, put_text, Put}
 

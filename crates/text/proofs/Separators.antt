@@ -7,7 +7,7 @@ use native.Mathlib.Omega.{arith}
 use lib.Dec.{eqb}
 use lib.ListN.{length}
 use borrow.Author.Tests.{eqb-true, ne_eqb, eq-eqb}
-use Rattle.words.specs.Tests.{if◌then◌else◌}
+use Rattle.std.specs.Prelude.{if◌then◌else◌}
 use Rattle.text.specs.Text.{grown, parts, joined, joined_after}
 use Rattle.text.specs.Promises.{PartsJoined}
 use Rattle.text.proofs.Parts.{parts_first}

@@ -1,6 +1,5 @@
 -- The line that begins at a place of a text: its bytes go up to a line feed, or to the text's end.
-use Rattle.std.specs.Prelude.{List, ℕ, ◌+◌, ltb, length, drop}
-use Rattle.words.specs.Tests.{if◌then◌else◌}
+use Rattle.std.specs.Prelude.{List, ℕ, ◌+◌, ltb, length, drop, if◌then◌else◌}
 use Rattle.text.specs.Text.{up_to}
 use Rattle.text.specs.declared.line.Bounds.{Bounds}
 

@@ -1,8 +1,7 @@
 -- A text is a list of bytes. A separator parts it: the line feed, 10, into lines, and the tab, 9, a line into fields. A
 -- number is decimal digits without a leading zero, at most a limit.
-use Rattle.std.specs.Prelude.{List, [], ◌∷◌, ◌++◌, ℕ, zero, suc, ◌+◌, ◌-◌, ◌*◌, ◌/◌, ◌%◌, ltb, eqb, length, replicate}
+use Rattle.std.specs.Prelude.{List, [], ◌∷◌, ◌++◌, ℕ, zero, suc, ◌+◌, ◌-◌, ◌*◌, ◌/◌, ◌%◌, ltb, eqb, length, replicate, if◌then◌else◌}
 use Rattle.std.proofs.Math.Option.{Option, none, some}
-use Rattle.words.specs.Tests.{if◌then◌else◌}
 
 -- one more byte in front of the first part
 abbrev pub grown : ℕ → List (List ℕ) → List (List ℕ)

@@ -1,6 +1,5 @@
 -- The operands of entries, from the last back, as the code writes them.
-use Rattle.std.specs.Prelude.{◌≡◌, List, [], ◌∷◌, ℕ, zero, suc, ◌+◌, ◌-◌, ◌/◌, ◌%◌, eqb, ltb, get_or, set}
-use Rattle.words.specs.Tests.{if◌then◌else◌}
+use Rattle.std.specs.Prelude.{◌≡◌, List, [], ◌∷◌, ℕ, zero, suc, ◌+◌, ◌-◌, ◌/◌, ◌%◌, eqb, ltb, get_or, set, if◌then◌else◌}
 use Rattle.words.specs.Words.{word_at, put_row}
 use Rattle.translate.specs.declared.link.Linked.{Linked}
 

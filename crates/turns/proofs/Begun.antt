@@ -11,7 +11,7 @@ use lib.Dec.{eqb, ltb}
 use lib.ListN.{length, get_or, take, drop, set, length-take, get_or-eq_default}
 use lib.Seq.{get_or-take}
 use Rattle.words.specs.Words.{word_at}
-use Rattle.words.specs.Tests.{if◌then◌else◌}
+use Rattle.std.specs.Prelude.{if◌then◌else◌}
 use Rattle.checks.specs.Kinds.{ours, variables}
 use Rattle.checks.specs.Good.{kind_of, operand_count, argument_of, constructor_of, child_count, mask_by}
 use Rattle.meaning.specs.Bindings.{Bindings, unbound, bind, has, masked}

@@ -1,9 +1,8 @@
 -- What the words of a frame mean: the two ways on of the visit that it asked for; and the plan that a turn says. A frame's ways on
 -- depend on its own words, the bindings that it keeps and the table alone.
-use Rattle.std.specs.Prelude.{◌≡◌, Bool, true, false, ◌&&◌, List, [], ◌∷◌, ◌++◌, ℕ, ◌+◌, ◌<◌, ◌%◌, eqb, ltb, length, get_or, take, drop, set}
+use Rattle.std.specs.Prelude.{◌≡◌, Bool, true, false, ◌&&◌, List, [], ◌∷◌, ◌++◌, ℕ, ◌+◌, ◌<◌, ◌%◌, eqb, ltb, length, get_or, take, drop, set, if◌then◌else◌}
 use Rattle.std.proofs.Math.Option.{none, some}
 use Rattle.words.specs.Words.{word_at, rows}
-use Rattle.words.specs.Tests.{if◌then◌else◌}
 use Rattle.checks.specs.Kinds.{ours, variables, sort_of}
 use Rattle.checks.specs.declared.kinds.Sort.TheVariants.{Strategy}
 use Rattle.checks.specs.Good.{kind_of, operand_count, argument_of, constructor_of, child_count, mask_by}

@@ -8,7 +8,7 @@ use lib.Dec.{eqb}
 use lib.ListN.{length, get_or, length-set, length-replicate}
 use borrow.Author.Tests.{leb-true, eqb-true}
 use Rattle.checks.specs.Kinds.{variables}
-use Rattle.words.specs.Tests.{if◌then◌else◌}
+use Rattle.std.specs.Prelude.{if◌then◌else◌}
 use Rattle.words.proofs.Tests.{and-true}
 use Rattle.words.proofs.Rows.{length-put_row}
 use Rattle.job.specs.declared.Heading.{Heading}

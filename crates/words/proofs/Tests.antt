@@ -9,7 +9,8 @@ use native.Mathlib.Nat.{eq-or-lt_of_le}
 use native.Mathlib.Omega.{arith}
 use lib.Dec.{ltb}
 use borrow.Author.Tests.{ltb-true, ltb-false, lt-ltb, le-ltb}
-use Rattle.words.specs.Tests.{if◌then◌else◌, every, rejected}
+use Rattle.std.specs.Prelude.{if◌then◌else◌}
+use Rattle.words.specs.Tests.{every, rejected}
 
 -- A number is below another, or from it on.
 pub below-or-from : (m n : ℕ) → (m < n) ⊎ (n ≤ m)

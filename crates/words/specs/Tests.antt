@@ -1,13 +1,7 @@
--- Tests on numbers, and what is done with them: a choice, a test at each number below a bound, the first number that a
+-- Tests on numbers, and what is done with them: a test at each number below a bound, the first number that a
 -- test rejects. Every definition here computes.
-use Rattle.std.specs.Prelude.{Bool, true, false, ◌&&◌, ℕ, zero, suc, ◌+◌}
+use Rattle.std.specs.Prelude.{Bool, true, false, ◌&&◌, ℕ, zero, suc, ◌+◌, if◌then◌else◌}
 use Rattle.std.proofs.Math.Option.{Option, none, some}
-
-infixr 10 if◌then◌else◌
--- a where the test holds, and b where it does not
-abbrev pub if◌then◌else◌ {ℓ} : {A : Type ℓ} → Bool → A → A → A
-if◌then◌else◌ true a b = a
-if◌then◌else◌ false a b = b
 
 -- the test holds at i, i + 1 and so on, at k numbers
 unfoldable pub every : (ℕ → Bool) → ℕ → ℕ → Bool

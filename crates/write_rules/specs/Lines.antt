@@ -1,7 +1,6 @@
 -- How a line is found: entries of a rule give its fields, each with a tab after it. Of other entries nothing is said but where they
 -- are left, so that the line is checked afterwards.
-use Rattle.std.specs.Prelude.{◌≡◌, Bool, true, false, List, [], ◌∷◌, ◌++◌, ℕ, ◌+◌, ◌≤◌, ◌<◌, eqb, length, get_or, take}
-use Rattle.words.specs.Tests.{if◌then◌else◌}
+use Rattle.std.specs.Prelude.{◌≡◌, Bool, true, false, List, [], ◌∷◌, ◌++◌, ℕ, ◌+◌, ◌≤◌, ◌<◌, eqb, length, get_or, take, if◌then◌else◌}
 use Rattle.words.specs.Words.{word_at}
 use Rattle.checks.specs.Good.{kind_of, operand_count}
 use Rattle.text.specs.Text.{decimal}

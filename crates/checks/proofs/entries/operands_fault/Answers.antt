@@ -6,7 +6,8 @@ use Prim.Native.Nat.{ℕ, ◌+◌, ◌≤◌, ◌<◌}
 use native.Mathlib.Nat.{sub-zero}
 use native.Mathlib.Omega.{arith}
 use borrow.Author.Tests.{not-true, not-false}
-use Rattle.words.specs.Tests.{if◌then◌else◌, every}
+use Rattle.std.specs.Prelude.{if◌then◌else◌}
+use Rattle.words.specs.Tests.{every}
 use Rattle.words.proofs.Tests.{every-turn, every-stop, every-end}
 use Rattle.checks.specs.Kinds.{ours, operands_from_by}
 use Rattle.checks.specs.Good.{kind_of, operand_count, operand_by, placed_for, sorted_for, operand_placed_by, operand_sorted_by, operands_fault_by}

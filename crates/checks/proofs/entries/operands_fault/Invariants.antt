@@ -5,7 +5,8 @@ use mathlib.Core.Bool.{Bool, false}
 use mathlib.Core.Logic.{◌⊎◌}
 use Prim.Native.Nat.{ℕ, ◌-◌, ◌≤◌}
 use lib.Dec.{eqb}
-use Rattle.words.specs.Tests.{if◌then◌else◌, every}
+use Rattle.std.specs.Prelude.{if◌then◌else◌}
+use Rattle.words.specs.Tests.{every}
 use Rattle.checks.specs.Kinds.{ours}
 use Rattle.checks.specs.Good.{operand_count, operand_placed_by, operand_sorted_by}
 use Rattle.checks.proofs.entries.operands_fault.Given as goal

@@ -5,7 +5,7 @@ use borrow.Author.Rules.{rules}
 use borrow.Author.Tests.{eq-eqb, ne_eqb}
 use lib.Dec.{eqb}
 use lib.ListN.{get_or, set}
-use Rattle.words.specs.Tests.{if◌then◌else◌}
+use Rattle.std.specs.Prelude.{if◌then◌else◌}
 use Rattle.machine.proofs.Copying.{none_yet, left_below, turn, all-copied}
 use Rattle.machine.proofs.frames.copy_words.Goals as goal
 use Rattle.machine.proofs.frames.copy_words.Goals.{else-rest-eq1, then-rest-eq1}
