@@ -5,7 +5,6 @@ use Rattle.collect.specs.declared.Collected.{Collected}
 use Rattle.free.specs.declared.FreeVariables.{FreeVariables}
 use Rattle.calls.specs.declared.Outcome.{Outcome}
 use Rattle.tallying.specs.declared.Counted.{Counted}
-use Rattle.tallying.specs.declared.Seen.{Seen}
 use Rattle.check_rules.specs.declared.check.Translated.{Translated}
 use Rattle.write_rules.specs.declared.rule.Written.{Written}
 

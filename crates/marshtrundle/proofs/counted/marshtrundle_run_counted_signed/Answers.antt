@@ -1,5 +1,4 @@
 -- `marshtrundle::counted::marshtrundle_run_counted_signed` meets its contract: the seven numbers are those of `run_counted_signed`. Assumes nothing.
-use borrow.Author.Rules.{rules}
 use Rattle.marshtrundle.proofs.Numbers.{as-numbers}
 use Rattle.marshtrundle.proofs.counted.marshtrundle_run_counted_signed.Goals as goal
 

@@ -1,5 +1,4 @@
 -- `marshtrundle::counted::marshtrundle_run_indexed_counted` meets its contract: the seven numbers are those of `run_indexed_counted`. Assumes nothing.
-use borrow.Author.Rules.{rules}
 use Rattle.marshtrundle.proofs.Numbers.{as-numbers-indexed}
 use Rattle.marshtrundle.proofs.counted.marshtrundle_run_indexed_counted.Goals as goal
 

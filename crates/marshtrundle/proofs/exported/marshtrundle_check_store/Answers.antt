@@ -1,5 +1,4 @@
 -- `marshtrundle::exported::marshtrundle_check_store` meets its contract: the two numbers are those of `check_store`, with the mark that the caller gives. Assumes nothing.
-use borrow.Author.Rules.{rules}
 use Rattle.marshtrundle.proofs.exported.marshtrundle_check_store.Goals as goal
 
 pub returns : goal.returns

@@ -1,5 +1,4 @@
 -- `marshtrundle::exported::marshtrundle_run` meets its contract: the five numbers are those of `run`, each at its place. Assumes nothing.
-use borrow.Author.Rules.{rules}
 use Rattle.marshtrundle.proofs.exported.marshtrundle_run.Goals as goal
 
 pub returns : goal.returns

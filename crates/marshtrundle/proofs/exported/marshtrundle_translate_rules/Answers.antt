@@ -1,5 +1,4 @@
 -- `marshtrundle::exported::marshtrundle_translate_rules` meets its contract: the four numbers are those of `translate`, each at its place. Assumes nothing.
-use borrow.Author.Rules.{rules}
 use Rattle.marshtrundle.proofs.exported.marshtrundle_translate_rules.Goals as goal
 
 pub returns : goal.returns

@@ -1,5 +1,4 @@
 -- `marshtrundle::exported::marshtrundle_write_rule` meets its contract: the three numbers are those of `write_rule`, of the entry that the caller names. Assumes nothing.
-use borrow.Author.Rules.{rules}
 use Rattle.marshtrundle.proofs.exported.marshtrundle_write_rule.Goals as goal
 
 pub returns : goal.returns
