@@ -12,7 +12,7 @@ ghost use Rattle.cycle.specs.Cycle.{Walks, Applied, Follows, entry_ahead, finish
 use crate::skipping::visits_to_failure;
 use checks::kinds::{
     ALL, BUILD, CALL, CHOICE, CONG, ID, LEFT, MATCH, NOT, ONE, PATH, REC, SCOPE, SEQ, SOME, TEST,
-    WHERE,
+    VARIABLES, WHERE,
 };
 use leaves::builder::{build, node};
 use leaves::matcher::match_node;
@@ -22,7 +22,7 @@ use state::answers::{
 use state::reading::{
     HINT_ENTRY, HINT_VISITS, SCOPE_OPERAND, agree, count, entry, kind, node_word, row, scope_mask,
 };
-use state::record::{MARK, MISS, RECORD, bound_in, kept_words, mask_of, put_back, restore, unbind};
+use state::record::{MARK, MISS, RECORD, bound_in, keep_words, mask_of, put_back, restore, unbind};
 
 // One visit: an entry applied as a strategy. Units first, then nesting; then it is counted. ALL, of which traversals are made,
 // is looked at here: a term without children is given back at once.
@@ -628,7 +628,8 @@ fn hiding(
 {
     let mask = scope_mask(table, e);
     let hidden = bound_in(st, mask);
-    let kept = kept_words(st, hidden);
+    let mut kept = [0u32; VARIABLES];
+    keep_words(&mut kept, st, hidden);
     unbind(st, mask);
     let got = apply_in_scope(table, store, st, entry(table, e, SCOPE_OPERAND), s, deep);
     unbind(st, mask);

@@ -2,7 +2,7 @@
 // match gave up last, the room, the nodes that an index holds, the store's nodes, and the mask of the variables that are bound, in two
 // words, the low one first. The word of an unbound variable means nothing. Where the mask stands and how it is set is known here alone;
 // elsewhere it is one number.
-ghost use Rattle.std.specs.Prelude.{◌≡◌, ◌+◌, ◌≤◌, ◌<◌, length, get_or};
+ghost use Rattle.std.specs.Prelude.{◌≡◌, ◌+◌, ◌≤◌, ◌<◌, length, get_or, replicate};
 ghost use Rattle.std.specs.Int.Bits.{bit_and};
 ghost use Rattle.checks.specs.Kinds.{variables};
 ghost use Rattle.state.specs.Answers.{answer_of};
@@ -157,12 +157,21 @@ fn copy_words(to: &mut [u32], at: usize, from: &[u32], start: usize, mask: u64)
     }
 }
 
+// The words of the variables of the mask, each at its variable's number, written over zeros. The caller's own array takes them: an array
+// that is handed back would stand in its frame twice.
+pub fn keep_words(kept: &mut [u32; VARIABLES], st: &[u32; RECORD], mask: u64)
+    requires { kept.old ≡ replicate variables 0 }
+    ensures { kept.new ≡ kept_words st.now mask }
+{
+    copy_words(kept, 0, st, FIRST, mask);
+}
+
 // The words of the variables of the mask, each at its variable's number.
 pub fn kept_words(st: &[u32; RECORD], mask: u64) -> [u32; VARIABLES]
     ensures { result ≡ kept_words st.now mask }
 {
     let mut kept = [0u32; VARIABLES];
-    copy_words(&mut kept, 0, st, FIRST, mask);
+    keep_words(&mut kept, st, mask);
     kept
 }
 

@@ -408,7 +408,7 @@ pub hiding-returns : goal.hiding-returns
 hiding-returns t c =
     gives-hiding _ c.requires.0 c.scope_mask-mask.ensures (omega (arith, c.scope_mask-mask.type_inv))
     c.entry.ensures c.requires.1 c.unbind.ensures c.apply_in_scope-got.ensures
-    c.bound_in-hidden.ensures c.kept_words-kept.ensures c.unbind-2.ensures c.put_back.ensures
+    c.bound_in-hidden.ensures c.keep_words.ensures c.unbind-2.ensures c.put_back.ensures
 
 -- ---- keep_subject
 
