@@ -14,7 +14,7 @@ use cases::input::{next_byte, read_line};
 use cases::numbers::number;
 use requests::answer_case;
 use std::io;
-use std::io::{BufReader, BufWriter, Read, Write};
+use std::io::{Read, Write};
 
 mod counted;
 mod requests;
@@ -74,10 +74,10 @@ fn next_case(
 fn answer_all(
     reader: &mut impl Read,
     out: &mut impl Write,
-    text: &mut [u8],
-    table: &mut [u32],
+    text: &mut [u8; 131072],
+    table: &mut [u32; 98320],
     store: &mut [u32],
-    bindings: &mut [u32],
+    bindings: &mut [u32; 80],
 ) -> io::Result<()> {
     let mut turns = u64::MAX;
     while turns > 0 && next_case(reader, out, text, table, store, bindings)? {
@@ -87,19 +87,17 @@ fn answer_all(
 }
 
 fn main(rt: HostRuntime) -> io::Result<()> {
-    let mut reader = BufReader::new(rt.alloc(), rt.reader())?;
-    let mut out = BufWriter::new(rt.alloc(), io::writer(&rt))?;
-    let mut text = vec![in rt.alloc(); 0u8; 131072]?;
-    let mut table = vec![in rt.alloc(); 0u32; 98320]?;
+    let mut text = [0u8; 131072];
+    let mut table = [0u32; 98320];
+    // Four megabytes, on the heap: beside them the deep runs pass the stack of a program that Rattle's own compiler made.
     let mut store = vec![in rt.alloc(); 0u32; 1048584]?;
     let mut bindings = [0u32; 80];
     answer_all(
-        &mut reader,
-        &mut out,
+        &mut rt.reader(),
+        &mut io::writer(&rt),
         &mut text,
         &mut table,
         &mut store,
         &mut bindings,
-    )?;
-    out.flush()
+    )
 }
