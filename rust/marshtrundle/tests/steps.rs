@@ -41,7 +41,7 @@ fn strategies() -> Vec<Strategy> {
         ),
         choice(seq(match_(var(x)), fail()), build(var(x))),
         rec(|again| again),
-        rec(|again| all(again)),
+        rec(all),
     ]
 }
 
