@@ -19,7 +19,7 @@ use Rattle.checks.specs.Kinds.{sort_of, same, variables_by}
 use Rattle.checks.specs.Good.{kind_of, fault_by, good_entry_by, good_node}
 use Rattle.checks.specs.Plain.{FaultyBy}
 use Rattle.checks.specs.Checked.{checked, found, table_length_fits, store_length_fits, table_checked_by, store_checked}
-use Rattle.checks.specs.declared.Checked.{Checked}
+use Rattle.checks.specs.Checked.{Checked}
 use Rattle.checks.specs.declared.kinds.Sort.TheVariants.{Strategy}
 use Rattle.checks.specs.Promises.{AllGood, Lowest}
 use Rattle.checks.proofs.Tables.{same_true, same-itself}

@@ -17,7 +17,7 @@ use Rattle.std.specs.Prelude.{if◌then◌else◌}
 use Rattle.words.specs.Tests.{rejected}
 use Rattle.words.proofs.Tests.{rejected-none}
 use Rattle.checks.specs.Checked.{checked, found}
-use Rattle.checks.specs.declared.Checked.{Checked}
+use Rattle.checks.specs.Checked.{Checked}
 use Rattle.meaning.specs.Bindings.{Bindings}
 use Rattle.meaning.specs.Limits.{ended, lost, cut}
 use Rattle.meaning.specs.Derivation.{places, nowhere}
@@ -34,7 +34,7 @@ use Rattle.calls.specs.Many.{Module, single, five, many_refused_by}
 use Rattle.calls.specs.Indexed.{index_fits, indexed_words_refused_by, indexed_refused_by, IndexedReturned, indexed_of_by}
 use Rattle.calls.specs.Indexed.{indexed_many_refused_by, IndexedTurns, indexed_before, indexed_in_turn_by, indexed_many_at_return}
 use Rattle.calls.specs.Indexed.{indexed_many_of_by}
-use Rattle.calls.specs.declared.Outcome.{Outcome}
+use Rattle.calls.specs.Outcome.{Outcome}
 use Rattle.calls.proofs.Accepting.{EntriesObey, NodesObey, not-refused-with, zero-else}
 use Rattle.calls.proofs.Promises.{cleared-kept}
 use Rattle.calls.proofs.Turns.{words, Given, Stands, accepted-single, entries-still, nodes-still, stands-kept, kept_back, store-again, cleared-same, ran-numbers, ran-long, same_numbers, given}

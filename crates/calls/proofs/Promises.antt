@@ -15,7 +15,7 @@ use Rattle.std.specs.Prelude.{if◌then◌else◌}
 use Rattle.words.specs.Tests.{rejected}
 use Rattle.words.proofs.Tests.{below-or-from}
 use Rattle.words.proofs.Rows.{length-cleared_from, take-cleared_from, get_or-cleared_from-from}
-use Rattle.checks.specs.declared.Checked.{Checked}
+use Rattle.checks.specs.Checked.{Checked}
 use Rattle.checks.specs.Good.{good_entry_by, good_node}
 use Rattle.checks.specs.Checked.{checked, found, table_length_fits, store_length_fits, table_checked_by, store_checked}
 use Rattle.checks.proofs.Promises.{table_passes, never_three}
@@ -41,7 +41,7 @@ use Rattle.meaning.specs.Lower.{Again}
 use Rattle.collect.specs.Promises.{after}
 use Rattle.collect.proofs.Promises as collect-promises
 use Rattle.meaning.specs.Orderings.{Site, Every, every-none, every_more, separate-none, separate-more, Stands, none_left as none-to-order, first-stays, first_two, order-last, order-more}
-use Rattle.free.specs.declared.FreeVariables.{FreeVariables}
+use Rattle.free.specs.Answered.{FreeVariables}
 use Rattle.free.specs.Answered.{AnsweredBy}
 use Rattle.free.proofs.Smallest.{free-below}
 use Rattle.free.proofs.Promises.{never_three as freeNeverThree}
@@ -51,7 +51,7 @@ use Rattle.calls.specs.Promises as promises
 use Rattle.calls.specs.Promises.{Runs, AsGiven, Ended, Told, SizesFit, EntriesGood, NodesGood, StartFits, Refusal, of-sizes}
 use Rattle.calls.specs.Promises.{of_entry, of_node, of-start, InList, when-done, when-failed, when-refused, when-cut-off}
 use Rattle.calls.specs.Promises.{when-unbound}
-use Rattle.calls.specs.declared.Outcome.{Outcome}
+use Rattle.calls.specs.Outcome.{Outcome}
 use Rattle.calls.proofs.Accepting.{verdict, accepted-answer, accepted-back}
 use Rattle.calls.proofs.Accepting as accepting
 use Rattle.calls.proofs.Words.{length-words, word-of}

@@ -13,7 +13,7 @@ use borrow.Author.Tests.{leb-true, le-leb, eqb-true, eqb-false, eq-eqb, ne_eqb}
 use Rattle.words.specs.Words.{rows}
 use Rattle.std.specs.Prelude.{if◌then◌else◌}
 use Rattle.words.proofs.Tests.{and-true}
-use Rattle.checks.specs.declared.Checked.{Checked}
+use Rattle.checks.specs.Checked.{Checked}
 use Rattle.checks.specs.Checked.{checked, found}
 use Rattle.checks.specs.Good.{good_entry_by, good_node}
 use Rattle.checks.specs.Plain.{FaultyBy}
@@ -33,7 +33,7 @@ use Rattle.calls.specs.Indexed.{index_fits, indexed_words_refused_by, indexed_re
 use Rattle.calls.specs.Indexed.{indexed_many_refused_by, indexed_in_turn_by, IndexedManyReturned, indexed_many_at_return, indexed_many_of_by}
 use Rattle.calls.specs.Sharing as promises
 use Rattle.calls.specs.Sharing.{RunsIndexed, RunsManyIndexed, AllSizesFit, WordsGood, Twin, LowestTwin, IndexedFits}
-use Rattle.calls.specs.declared.Outcome.{Outcome}
+use Rattle.calls.specs.Outcome.{Outcome}
 use Rattle.calls.proofs.Accepting as accepting
 use Rattle.calls.proofs.Accepting.{AllFit, EntriesObey, NodesObey, EntryDisobeys, NodeDisobeys, verdict_with}
 use Rattle.calls.proofs.Accepting.{Test, Tested, Without, answer-of, words-passed, words_back, words-only}

@@ -10,7 +10,7 @@ use lib.Dec.{eqb}
 use borrow.Author.Tests.{ne_eqb}
 use Rattle.words.specs.Words.{cleared_from}
 use Rattle.std.specs.Prelude.{if◌then◌else◌}
-use Rattle.checks.specs.declared.Checked.{Checked}
+use Rattle.checks.specs.Checked.{Checked}
 use Rattle.checks.specs.Good.{constructor_of, child_count}
 use Rattle.checks.specs.Checked.{checked}
 use Rattle.checks.specs.Signature.{Signature, declares, node_obeys}
@@ -27,7 +27,7 @@ use Rattle.calls.specs.Run.{at_return, refusing, run_with_by}
 use Rattle.calls.specs.Promises.{Runs, Refusal, of-sizes, of_entry, of_node, of-start, InList, when-done, when-failed, when-refused as plain-refused, when-cut-off, when-unbound}
 use Rattle.calls.specs.Signed as promises
 use Rattle.calls.specs.Signed.{RunsSigned, Obeying, SignedRefusal, as-without, of-disobeying-entry, of-disobeying-node, SignedInList, listed-without, when-refused}
-use Rattle.calls.specs.declared.Outcome.{Outcome}
+use Rattle.calls.specs.Outcome.{Outcome}
 use Rattle.calls.proofs.Accepting as accepting
 use Rattle.calls.proofs.Accepting.{verdict_with, accepted-with, not-refused-with}
 use Rattle.calls.proofs.Promises as plain

@@ -11,7 +11,7 @@ use lib.ListN.{length, get_or, take, drop}
 use borrow.Author.Tests.{eqb-true, eqb-false, eq-eqb}
 use Rattle.std.specs.Prelude.{if◌then◌else◌}
 use Rattle.words.proofs.Tests.{and-true}
-use Rattle.checks.specs.declared.Checked.{Checked}
+use Rattle.checks.specs.Checked.{Checked}
 use Rattle.checks.specs.Checked.{checked}
 use Rattle.meaning.specs.Table.{table_by}
 use Rattle.meaning.specs.Derivation.{quiet}

@@ -15,7 +15,7 @@ use Rattle.words.proofs.Tests.{and-true}
 use Rattle.words.specs.Words.{rows, cleared_from}
 use Rattle.std.specs.Prelude.{if◌then◌else◌}
 use Rattle.words.specs.Tests.{rejected}
-use Rattle.checks.specs.declared.Checked.{Checked}
+use Rattle.checks.specs.Checked.{Checked}
 use Rattle.checks.specs.declared.kinds.Sort.TheVariants.{Strategy}
 use Rattle.checks.specs.Kinds.{variables_by, sort_of}
 use Rattle.checks.specs.Good.{kind_of, good_node}
@@ -37,7 +37,7 @@ use Rattle.meaning.proofs.Demands.{over-the-words}
 use Rattle.calls.specs.Run.{run_with_by, run_of_by, numbers, words_of}
 use Rattle.calls.specs.Refused.{or_else, words_refused_by, is_start, subjects_below, starts_fit}
 use Rattle.calls.specs.Many.{Module, single, five, Turns, before, in_turn_by, many_refused_by, after_turns, many_at_return, many_of_by}
-use Rattle.calls.specs.declared.Outcome.{Outcome}
+use Rattle.calls.specs.Outcome.{Outcome}
 use Rattle.calls.proofs.Accepting.{LentFits, EntriesObey, NodesObey, not-refused-with, not-refused, zero-else, words-passed, checks-passed, is-start-plain, bound-plain, subjects-plain}
 use Rattle.calls.proofs.Promises.{cleared-kept}
 use Rattle.calls.proofs.Signed.{kept-obeys}

@@ -5,7 +5,7 @@ use Rattle.std.proofs.Math.Option.{Option}
 use Rattle.words.specs.Words.{rows}
 use Rattle.checks.specs.Kinds.{ours}
 use Rattle.checks.specs.Checked.{checked, found}
-use Rattle.checks.specs.declared.Checked.{Checked}
+use Rattle.checks.specs.Checked.{Checked}
 use Rattle.meaning.specs.Derivation.{places, nowhere}
 use Rattle.meaning.specs.Store.{Input}
 use Rattle.meaning.specs.Answer.{Returned, returned_by}
@@ -13,7 +13,7 @@ use Rattle.meaning.specs.Shared.{twin, shared_ran_by}
 use Rattle.calls.specs.Refused.{or_else, start_fits, starts_fit, words_refused_by}
 use Rattle.calls.specs.Run.{at_return, refusing}
 use Rattle.calls.specs.Many.{Module, single, five}
-use Rattle.calls.specs.declared.Outcome.{Outcome}
+use Rattle.calls.specs.Outcome.{Outcome}
 
 -- the index has at least two words for each node of the store
 unfoldable pub index_fits : List ℕ → List ℕ → Bool

@@ -4,7 +4,7 @@ use Rattle.std.specs.Prelude.{Bool, ◌&&◌, List, [], ◌∷◌, ◌++◌, ℕ
 use Rattle.std.proofs.Math.Option.{Option}
 use Rattle.checks.specs.Kinds.{ours}
 use Rattle.checks.specs.Checked.{checked}
-use Rattle.checks.specs.declared.Checked.{Checked}
+use Rattle.checks.specs.Checked.{Checked}
 use Rattle.meaning.specs.Store.{Input}
 use Rattle.meaning.specs.Answer.{Returned}
 use Rattle.calls.specs.Refused.{or_else, start_fits, words_refused_by, starts_fit}

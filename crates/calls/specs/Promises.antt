@@ -6,7 +6,7 @@ use Rattle.checks.specs.declared.kinds.Sort.TheVariants.{Strategy}
 use Rattle.checks.specs.Kinds.{variables_by, sort_of}
 use Rattle.checks.specs.Good.{kind_of, good_entry_by, good_node}
 use Rattle.checks.specs.Plain.{TableLength, StoreLength, FaultyBy}
-use Rattle.checks.specs.declared.Checked.{Checked}
+use Rattle.checks.specs.Checked.{Checked}
 use Rattle.checks.specs.Checked.{checked, table_checked_by, store_checked}
 use Rattle.checks.specs.Promises.{AllGood, Lowest}
 use Rattle.meaning.specs.Term.{Term}
@@ -21,11 +21,11 @@ use Rattle.meaning.specs.Demands.{Says, limits, start_visit, At, Encloses, Agree
 use Rattle.collect.specs.Collected.{Afterwards}
 use Rattle.collect.specs.Promises.{CollectsBy, lent_by, after}
 use Rattle.meaning.specs.Orderings.{Site, Every, Separate, Reordered, InOrder}
-use Rattle.free.specs.declared.FreeVariables.{FreeVariables}
+use Rattle.free.specs.Answered.{FreeVariables}
 use Rattle.free.specs.Answered.{AnsweredBy}
 use Rattle.calls.specs.Refused.{refused_by}
 use Rattle.calls.specs.Run.{at_return, run_of_by}
-use Rattle.calls.specs.declared.Outcome.{Outcome}
+use Rattle.calls.specs.Outcome.{Outcome}
 
 -- the outcome o with the store's words s and the bindings' words b meets the contract
 abbrev pub Runs : ℕ → Input → Outcome → List ℕ → List ℕ → Type 0

@@ -2,6 +2,8 @@
 -- entry, 4 with the lowest bad node below the mark, 10 with the lowest entry and 11 with the lowest node that do not obey a lent
 -- signature, 5 for a bad start.
 use Rattle.std.specs.Prelude.{Bool, true, false, ◌&&◌, List, ℕ, leb, ltb, eqb, length, get_or, if◌then◌else◌}
+use Rattle.std.specs.Prelude as std
+use Rattle.std.specs.Borrow.{Bor}
 use Rattle.std.proofs.Math.Option.{Option, none, some}
 use Rattle.words.specs.Words.{rows}
 use Rattle.words.specs.Tests.{every}
@@ -10,7 +12,7 @@ use Rattle.checks.specs.Good.{kind_of}
 use Rattle.checks.specs.Checked.{checked, table_length_fits, store_length_fits, table_checked_by, store_checked, bound_below}
 unfoldable pub use Rattle.checks.specs.Checked.{bound_below}
 use Rattle.checks.specs.Signature.{signature_fits, entries_checked, nodes_checked}
-use Rattle.checks.specs.declared.Checked.{Checked}
+use Rattle.checks.specs.Checked.{Checked}
 use Rattle.checks.specs.declared.kinds.Sort.TheVariants.{Strategy}
 
 -- the table, the store and the bindings have lengths of theirs, and the mark is at most the store's nodes
@@ -37,10 +39,10 @@ starts_fit t b mark start ks = is_start t start && (subjects_below ks mark && bo
 abbrev pub or_else : Checked → Checked → Checked
 or_else c d = if eqb c.answer 0 then d else c
 
--- the signature that a call is lent: a flag says whether there is one, never its length
-abbrev pub lent_if : Bool → List ℕ → Option (List ℕ)
-lent_if true g = some g
-lent_if false g = none
+-- the signature that a call is lent, where it is lent one
+abbrev pub lent_signature : std.Option (Bor (List ℕ)) → Option (List ℕ)
+lent_signature (std.Some g) = some g.now
+lent_signature std.None = none
 
 -- a lent signature fits
 abbrev pub lent_fits : Option (List ℕ) → Bool

@@ -2,13 +2,13 @@
 use Rattle.std.specs.Prelude.{◌≡◌, List, ℕ, ◌-◌, eqb, if◌then◌else◌}
 use Rattle.std.proofs.Math.Option.{Option, none}
 use Rattle.checks.specs.Kinds.{ours}
-use Rattle.checks.specs.declared.Checked.{Checked}
+use Rattle.checks.specs.Checked.{Checked}
 use Rattle.meaning.specs.Limits.{ended, lost, cut}
 use Rattle.meaning.specs.Derivation.{places, nowhere}
 use Rattle.meaning.specs.Store.{Input, Ran, ran_by}
 use Rattle.meaning.specs.Answer.{Returned, number, place_of, returned_by}
 use Rattle.calls.specs.Refused.{refused_with_by}
-use Rattle.calls.specs.declared.Outcome.{Outcome}
+use Rattle.calls.specs.Outcome.{Outcome}
 
 -- what is handed over
 abbrev pub input : List ℕ → List ℕ → List ℕ → ℕ → ℕ → ℕ → ℕ → Input

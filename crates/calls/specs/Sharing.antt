@@ -4,7 +4,7 @@
 use Rattle.std.specs.Prelude.{◌≡◌, ◌≢◌, ◌↔◌, List, ℕ, ◌*◌, ◌≤◌, ◌<◌, length, replicate}
 use Rattle.std.proofs.Math.Option.{Option, some}
 use Rattle.words.specs.Words.{rows}
-use Rattle.checks.specs.declared.Checked.{Checked}
+use Rattle.checks.specs.Checked.{Checked}
 use Rattle.checks.specs.Good.{good_entry_by, good_node}
 use Rattle.checks.specs.Plain.{FaultyBy}
 use Rattle.checks.specs.Checked.{checked}
@@ -21,7 +21,7 @@ use Rattle.calls.specs.Many.{Module}
 use Rattle.calls.specs.Subjects.{RunsMany, ListFits, SignatureFits, Obeys, StartsFit, whole}
 use Rattle.calls.specs.Indexed.{indexed_refused_by, indexed_at_return, indexed_of_by}
 use Rattle.calls.specs.Indexed.{indexed_many_refused_by, indexed_many_at_return, indexed_many_of_by}
-use Rattle.calls.specs.declared.Outcome.{Outcome}
+use Rattle.calls.specs.Outcome.{Outcome}
 
 -- with the index x, and the signature g where one is lent: the outcome o, the store's words s, the bindings' words b and the index's
 -- words y at return meet the contract

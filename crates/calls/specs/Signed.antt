@@ -10,7 +10,7 @@ use Rattle.checks.specs.Promises.{AllGood, Lowest}
 use Rattle.meaning.specs.Store.{Input, AcceptedBy}
 use Rattle.calls.specs.Run.{at_return, run_with_by}
 use Rattle.calls.specs.Promises.{Runs, Refusal, InList, AsGiven, SizesFit, EntriesGood, NodesGood, StartFits}
-use Rattle.calls.specs.declared.Outcome.{Outcome}
+use Rattle.calls.specs.Outcome.{Outcome}
 
 -- with the signature g the outcome o, the store's words s and the bindings' words b meet the contract
 abbrev pub RunsSigned : ℕ → List ℕ → Input → Outcome → List ℕ → List ℕ → Type 0

@@ -3,7 +3,7 @@
 use Rattle.std.specs.Prelude.{◌≡◌, ◌↔◌, List, [], ◌∷◌, ℕ, zero, suc, ◌*◌, ◌≤◌, ◌<◌, length, get_or, take, drop}
 use Rattle.std.proofs.Math.Option.{Option, none, some}
 use Rattle.words.specs.Words.{rows}
-use Rattle.checks.specs.declared.Checked.{Checked}
+use Rattle.checks.specs.Checked.{Checked}
 use Rattle.checks.specs.declared.kinds.Sort.TheVariants.{Strategy}
 use Rattle.checks.specs.Kinds.{sort_of}
 use Rattle.checks.specs.Good.{kind_of, good_entry_by, good_node}
@@ -19,7 +19,7 @@ use Rattle.meaning.specs.Orderings.{Site, Every, Separate, Reordered, InOrder}
 use Rattle.calls.specs.Run.{at_return, run_with_by, run_of_by}
 use Rattle.calls.specs.Promises.{Runs, Ended, Told, Movable, SizesFit, EntriesGood, NodesGood}
 use Rattle.calls.specs.Signed.{EntriesObey, NodesObey}
-use Rattle.calls.specs.declared.Outcome.{Outcome}
+use Rattle.calls.specs.Outcome.{Outcome}
 use Rattle.calls.specs.Many.{Module, single, five, many_refused_by, many_at_return, many_of_by}
 
 -- with the signature g, where one is lent: the answer r, the results' words rs and the store's words s meet the contract

@@ -20,7 +20,7 @@ use Rattle.check_rules.specs.Check.{told, refusal, by_line, last_line, text_chec
 use Rattle.check_rules.specs.Answer.{used_checked, Callable, RulesChecked, entries, lines}
 use Rattle.rules.specs.Promises.{Among, here, there}
 use Rattle.check_rules.specs.Promises.{Allowed, AllAllowed, none_left, and-more, entries_of, Accepted, Accepts, AcceptsNumbers, Agree}
-use Rattle.check_rules.specs.declared.check.Translated.{Translated}
+use Rattle.check_rules.specs.Check.{Translated}
 use Rattle.rules.proofs.Texts.{before-rules, text-is-rules}
 use Rattle.check_rules.proofs.Answering.{used-sizes}
 

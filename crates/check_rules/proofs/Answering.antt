@@ -11,7 +11,7 @@ use borrow.Author.Tests.{eq-eqb, ne_eqb, eqb-true, lt-ltb, ltb-true, le-leb, lt-
 use Rattle.std.specs.Prelude.{if◌then◌else◌}
 use Rattle.words.specs.Words.{rows}
 use Rattle.words.proofs.Tests.{and-true}
-use Rattle.checks.specs.declared.Checked.{Checked}
+use Rattle.checks.specs.Checked.{Checked}
 use Rattle.checks.specs.Kinds.{ours, variables, sort_of}
 use Rattle.checks.specs.Good.{kind_of}
 use Rattle.checks.specs.Checked.{checked, table_length_fits, table_checked}

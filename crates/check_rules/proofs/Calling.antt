@@ -17,9 +17,9 @@ use Rattle.rules.specs.Condition.{after_it, ConditionAt}
 use Rattle.rules.specs.Shape.{shape_of}
 use Rattle.check_rules.specs.Bound.{variables_answer, RuleLine, answers_variables}
 use Rattle.check_rules.specs.Line.{callable, all_calls, CallsIn, rule_answer, line_of}
-use Rattle.rules.specs.declared.condition.Found.{Found}
-use Rattle.check_rules.specs.declared.line.Line.{Line}
-use Rattle.rules.specs.declared.shape.Shape.{Shape}
+use Rattle.rules.specs.Condition.{Found}
+use Rattle.check_rules.specs.Line.{Line}
+use Rattle.rules.specs.Shape.{Shape}
 use Rattle.rules.proofs.Scanning.{fields-past}
 use Rattle.rules.proofs.Texts.{rule-wrote}
 use Rattle.rules.proofs.Shaping.{whole-line}

@@ -17,7 +17,7 @@ use Rattle.rules.specs.Text.{ReadRule, rule, bad_field, rule_of}
 use Rattle.rules.specs.Entries.{code_size, rule_code}
 use Rattle.check_rules.specs.Line.{line_of}
 use Rattle.check_rules.specs.Check.{told, refusal, by_line, last_line, text_checked}
-use Rattle.check_rules.specs.declared.line.Line.{Line}
+use Rattle.check_rules.specs.Line.{Line}
 
 -- Line n begins at a place, and e entries are in use before it.
 pub record Checks (f : ℕ → Bool) (room used : ℕ) (s : List ℕ) (e n at : ℕ) : Type 0 where

@@ -21,7 +21,7 @@ use Rattle.rules.specs.Text.{condition_of, read, rule, rule_from, rule_of}
 use Rattle.rules.specs.Scan.{width, fields_from}
 use Rattle.rules.specs.Condition.{start_at, outcome_at, after_it, found_at, ConditionAt, condition, none as no-condition}
 use Rattle.check_rules.specs.Bound.{window, late_from, late, marks_from, RuleLine, Late, one, no, LateIn}
-use Rattle.rules.specs.declared.condition.Found.{Found}
+use Rattle.rules.specs.Condition.{Found}
 use Rattle.rules.proofs.Reading.{Wrote, read-wrote, count_none, two-read, conditions-read, rule-read}
 use Rattle.rules.proofs.Terms.{width-append, width-from, width-most, fields-along}
 use Rattle.rules.proofs.Scanning.{fields-past}

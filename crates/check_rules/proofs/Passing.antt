@@ -19,7 +19,7 @@ use Rattle.check_rules.specs.Bound as bounded
 use Rattle.variable_tree.specs.Tree.{KeyOf, KeepsOr, KeepsOrOf}
 use Rattle.check_rules.specs.Far.{is_variable, occurs_from, Early, EarlyIn, Settles, SettlesIn}
 use Rattle.check_rules.specs.Far as far
-use Rattle.rules.specs.declared.condition.Found.{Found}
+use Rattle.rules.specs.Condition.{Found}
 use Rattle.check_rules.specs.declared.far.Settled.{Settled}
 use Rattle.rules.proofs.Scanning.{fields-here, field-length, fields-past}
 use Rattle.check_rules.proofs.Binding.{head_variables, variables_in, in-pat, member-append, or-false}

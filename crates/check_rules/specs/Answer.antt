@@ -2,14 +2,14 @@
 -- lowest bad one of the entries in use, and then what the text gets.
 use Rattle.std.specs.Prelude.{◌≡◌, ◌↔◌, ◌≢◌, Bool, true, ◌&&◌, List, ℕ, ◌*◌, ◌<◌, leb, eqb, length, get_or, take, if◌then◌else◌}
 use Rattle.words.specs.Words.{rows}
-use Rattle.checks.specs.declared.Checked.{Checked}
+use Rattle.checks.specs.Checked.{Checked}
 use Rattle.checks.specs.Good.{kind_of}
 use Rattle.checks.specs.Checked.{checked, table_length_fits, table_checked}
 use Rattle.meaning.specs.Table.{table}
 use Rattle.meaning.specs.Free.{Closed}
 use Rattle.text.specs.Text.{parts}
 use Rattle.check_rules.specs.Check.{told, text_checked}
-use Rattle.check_rules.specs.declared.check.Translated.{Translated}
+use Rattle.check_rules.specs.Check.{Translated}
 
 -- the entries in use are a table of their own; none is fine
 abbrev pub in_use : List ℕ → ℕ → List ℕ

@@ -3,11 +3,32 @@
 use Rattle.std.specs.Prelude.{Bool, List, [], ◌∷◌, ℕ, ◌+◌, ltb, eqb, if◌then◌else◌}
 use Rattle.rules.specs.Text.{rule_of}
 use Rattle.check_rules.specs.Line.{line_of}
-use Rattle.check_rules.specs.declared.line.Line.{Line}
-use Rattle.check_rules.specs.declared.check.Translated.{Translated}
+use Rattle.check_rules.specs.Line.{Line}
+use Rattle.std.specs.Prelude.{Result, Ok, Err}
+use Rattle.checks.specs.Numbers.{answer_of, place_of}
+use Rattle.check_rules.specs.Line.{line_fault_number, fault_field}
+use Rattle.check_rules.specs.declared.check.RulesRefusal.{RulesRefusal}
+use Rattle.check_rules.specs.declared.check.RulesRefusal.TheVariants as refused
+
+-- the entries in use, the answer, and the line and the field that it is about
+pub record Translated : Type 0 where
+  pub used : ℕ
+  pub answer : ℕ
+  pub line : ℕ
+  pub field : ℕ
 
 abbrev pub told : (used answer line field : ℕ) → Translated
 told u a l f = record { used = u; answer = a; line = l; field = f }
+
+-- the four numbers of a translation over a table with u entries in use
+abbrev pub told_of : Result ℕ RulesRefusal → ℕ → Translated
+told_of (Ok n) u = told n 0 0 0
+told_of (Err (refused.Table e)) u = told u (answer_of e) (place_of e) 0
+told_of (Err (refused.Line n f)) u = told u (line_fault_number f) n (fault_field f)
+
+-- in the order in which a caller gets them
+abbrev pub refusal_numbers : Translated → List ℕ
+refusal_numbers r = r.answer ∷ r.line ∷ r.field ∷ r.used ∷ []
 
 -- what a line is refused with: its field with 18 alone
 unfoldable pub refusal : (used n : ℕ) → Line → Translated

@@ -5,7 +5,41 @@ use Rattle.rules.specs.Rule.{Condition, Rule}
 use Rattle.rules.specs.Text.{rule_fields, ReadRule, rule, bad_field}
 use Rattle.rules.specs.Shape.{rule_size}
 use Rattle.check_rules.specs.Bound.{variables_answer}
-use Rattle.check_rules.specs.declared.line.Line.{Line}
+use Rattle.std.specs.Prelude.{Result, Ok, Err}
+use Rattle.check_rules.specs.declared.line.LineFault.{LineFault}
+use Rattle.check_rules.specs.declared.line.LineFault.TheVariants.{Shape, Unbound, Range, Callee, Room}
+
+-- what a line comes to: its answer; its first bad field from 1, one past the last where none is bad; its rule's entries
+pub record Line : Type 0 where
+  pub answer : ℕ
+  pub field : ℕ
+  pub size : ℕ
+
+-- the number of a line's fault
+abbrev pub line_fault_number : LineFault → ℕ
+line_fault_number (Shape n) = 18
+line_fault_number Unbound = 19
+line_fault_number Range = 20
+line_fault_number Callee = 22
+line_fault_number Room = 23
+
+-- the number of what is wrong with a line's variables; 0 where nothing is
+abbrev pub variables_told : Result Unit LineFault → ℕ
+variables_told (Ok u) = 0
+variables_told (Err f) = line_fault_number f
+
+-- the field that it is about, or 0
+abbrev pub fault_field : LineFault → ℕ
+fault_field (Shape n) = n
+fault_field Unbound = 0
+fault_field Range = 0
+fault_field Callee = 0
+fault_field Room = 0
+
+-- what the code tells of a line: the entries where nothing is wrong, else the fault, with its field where it has one
+abbrev pub line_told : Line → Result ℕ LineFault → Type 0
+line_told x (Ok n) = (x.answer ≡ 0) × (x.size ≡ n)
+line_told x (Err f) = (x.answer ≡ line_fault_number f) × (x.answer ≡ 18 → x.field ≡ fault_field f)
 
 -- entry x of those in use is a REC, and its mask is empty
 unfoldable pub callable : (table masks : List ℕ) (used x : ℕ) → Bool

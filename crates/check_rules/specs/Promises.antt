@@ -8,7 +8,7 @@ use Rattle.rules.specs.Promises.{Among}
 use Rattle.check_rules.specs.Bound.{all_below}
 use Rattle.check_rules.specs.Check.{told}
 use Rattle.check_rules.specs.Answer.{used_checked, ClosedRec, RulesChecked}
-use Rattle.check_rules.specs.declared.check.Translated.{Translated}
+use Rattle.check_rules.specs.Check.{Translated}
 
 -- what 19, 20 and 22 ask of a rule, over a table t with u entries in use
 pub record Allowed (t : List ℕ) (u : ℕ) (r : Rule) : Type 0 where

@@ -1,33 +1,26 @@
 // What a table and a text of rules get, before anything is written.
 ghost use Rattle.std.specs.Prelude.{◌≡◌, length, replicate};
+ghost use Rattle.checks.specs.Numbers.{checked_of};
+ghost use Rattle.check_rules.specs.Check.{told_of};
 ghost use Rattle.check_rules.specs.Answer.{used_checked, MasksOf, RulesChecked};
 
-use crate::check::{Translated, check_text, told};
-use checks::Checked;
+use crate::check::{RulesRefusal, check_text};
 use checks::entries::{check_table, table_length_fits};
+use checks::refusal::Refusal;
 use free::passes::settle;
 
 // The lent length, and the entries in use as a table of their own.
-pub fn check_used(table: &[u32], used: u32) -> Checked
-    ensures { result ≡ used_checked table.now used }
+pub fn check_used(table: &[u32], used: u32) -> Result<(), Refusal>
+    ensures { checked_of result ≡ used_checked table.now used }
 {
     if !table_length_fits(table.len()) {
-        return Checked {
-            answer: 2,
-            place: 0,
-        };
+        return Err(Refusal::Sizes);
     }
     if table.len() / 8 < (used as usize) {
-        return Checked {
-            answer: 2,
-            place: 0,
-        };
+        return Err(Refusal::Sizes);
     }
     if used == 0 {
-        return Checked {
-            answer: 0,
-            place: 0,
-        };
+        return Ok(());
     }
     let end = 8 * (used as usize);
     check_table(&table[..end])
@@ -44,14 +37,11 @@ pub fn fill_masks(table: &[u32], used: u32, masks: &mut [u64])
     }
 }
 
-// The answer to a text, over a table whose first `used` entries are in use: the entries that will be in use where it is 0.
-pub fn check_rules(table: &[u32], used: u32, text: &[u8]) -> Translated
-    ensures { RulesChecked table.now used text.now result }
+// The entries that will be in use with the rules of a text, over a table whose first `used` entries are in use.
+pub fn check_rules(table: &[u32], used: u32, text: &[u8]) -> Result<u32, RulesRefusal>
+    ensures { RulesChecked table.now used text.now (told_of result used) }
 {
-    let entries = check_used(table, used);
-    if entries.answer != 0 {
-        return told(used, entries.answer, entries.place, 0);
-    }
+    check_used(table, used)?;
     let mut masks = [0u64; 4096];
     fill_masks(table, used, &mut masks);
     check_text(table, &masks, used, text)

@@ -27,11 +27,9 @@ fn with_bit(mask: u64, base: u32, v: u32) -> u64
 fn mark(mask: u64, base: u32, field: &[u8]) -> u64
     ensures { result ≡ marked_by base mask (head_of field.now) }
 {
-    let first = head_of(field);
-    match first {
-        Head::Variable(v) => with_bit(mask, base, v),
-        Head::Constructor(_c) => mask,
-        Head::Neither => mask,
+    match head_of(field) {
+        Some(Head::Variable(v)) => with_bit(mask, base, v),
+        _ => mask,
     }
 }
 
@@ -60,7 +58,9 @@ pub(crate) fn unbound(line: &[u8], right: usize, conditions: usize, base: u32) -
     let mut bound = marks(line, 0, right, base);
     let mut at = conditions;
     while at <= line.len() {
-        let c = condition_at(line, at);
+        let Ok(c) = condition_at(line, at) else {
+            unreachable!();
+        };
         let needed = marks(line, c.start, c.outcome, base);
         if needed & bound != needed {
             return true;

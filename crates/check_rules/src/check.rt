@@ -3,45 +3,61 @@ ghost use Rattle.std.specs.Prelude.{◌≡◌, ◌*◌, ◌≤◌, length};
 ghost use Rattle.words.specs.Words.{rows};
 ghost use Rattle.text.specs.Text.{parts};
 ghost use Rattle.check_rules.specs.Line.{callable};
-ghost use Rattle.check_rules.specs.Check.{told as toldOf, refusal as refusal_of, text_checked};
+ghost use Rattle.rules.specs.Text.{rule_of};
+ghost use Rattle.rules.specs.Shape.{shape_of};
+ghost use Rattle.check_rules.specs.declared.check.RulesRefusal.TheVariants.{Table};
+ghost use Rattle.check_rules.specs.Check.{told_of, text_checked, refusal_numbers};
 
-use crate::line::{Line, check_line};
+use crate::line::{LineFault, check_line};
+use checks::refusal::Refusal;
+use rules::shape::shape_of;
 use text::reader::line_from;
 
-// The entries in use, the answer, and the line and the field that it is about.
-#[derive(Clone, Copy)]
-pub struct Translated {
-    pub used: u32,
-    pub answer: u32,
-    pub line: u32,
-    pub field: usize,
+// Why a text of rules is refused: the entries in use, or its first bad line, counted from 1.
+#[derive(Clone, Copy, PartialEq, Eq)]
+pub enum RulesRefusal {
+    Table(Refusal),
+    Line(u32, LineFault),
 }
 
-pub(crate) fn told(used: u32, answer: u32, line: u32, field: usize) -> Translated
-    ensures { result ≡ toldOf used answer line field }
-{
-    Translated {
-        used,
-        answer,
-        line,
-        field,
+impl From<Refusal> for RulesRefusal {
+    ghost from_gives = { λ r e. e ≡ Table r };
+
+    fn from(r: Refusal) -> RulesRefusal {
+        RulesRefusal::Table(r)
     }
 }
 
-// A line that is refused.
-fn refusal(used: u32, n: u32, got: Line) -> Translated
-    ensures { result ≡ refusal_of used n got }
+// Answer, line or entry, field, and the entries in use: what a translation comes to, over a table with `used` entries in use.
+pub fn four_numbers(r: Result<u32, RulesRefusal>, used: u32) -> [u64; 4]
+    ensures { result ≡ refusal_numbers (told_of r used) }
 {
-    if got.answer == 18 {
-        return told(used, 18, n, got.field);
+    match r {
+        Ok(all) => [0, 0, 0, all as u64],
+        Err(RulesRefusal::Table(e)) => [e.answer() as u64, e.place() as u64, 0, used as u64],
+        Err(RulesRefusal::Line(n, fault)) => [
+            fault.answer() as u64,
+            n as u64,
+            fault.field() as u64,
+            used as u64,
+        ],
     }
-    told(used, got.answer, n, 0)
 }
 
-// The text over a table whose first `used` entries are in use.
-pub(crate) fn check_text(table: &[u32], masks: &[u64], used: u32, text: &[u8]) -> Translated
+// The first bad field of a line, one past the last where none is bad.
+fn first_bad_field(line: &[u8]) -> usize
+    ensures { result ≡ (shape_of (rule_of line.now)).field }
+{
+    match shape_of(line) {
+        Ok(shape) => shape.field,
+        Err(field) => field,
+    }
+}
+
+// The entries in use with the rules of a text, over a table whose first `used` entries are in use.
+pub(crate) fn check_text(table: &[u32], masks: &[u64], used: u32, text: &[u8]) -> Result<u32, RulesRefusal>
     requires { (length table.now ≤ 32768) × (used ≤ rows table.now) }
-    ensures { result ≡ text_checked (callable table.now masks.now used) (rows table.now) used 1 used (parts 10 text.now) }
+    ensures { told_of result used ≡ text_checked (callable table.now masks.now used) (rows table.now) used 1 used (parts 10 text.now) }
 {
     let room = table.len() / 8;
     let mut e = used as usize;
@@ -49,20 +65,20 @@ pub(crate) fn check_text(table: &[u32], masks: &[u64], used: u32, text: &[u8]) -
     let mut at: usize = 0;
     while at < text.len() {
         let b = line_from(text, at);
-        let end = b.end;
-        let got = check_line(&text[at..end], table, masks, used);
-        if b.next <= end {
-            return told(used, 18, n, got.field);
+        let line = &text[at..b.end];
+        if b.next <= b.end {
+            return Err(RulesRefusal::Line(n, LineFault::Shape(first_bad_field(line))));
         }
-        if got.answer != 0 {
-            return refusal(used, n, got);
+        let size = match check_line(line, table, masks, used) {
+            Ok(size) => size,
+            Err(fault) => return Err(RulesRefusal::Line(n, fault)),
+        };
+        if room - e < size {
+            return Err(RulesRefusal::Line(n, LineFault::Room));
         }
-        if room - e < got.size {
-            return told(used, 23, n, 0);
-        }
-        e = e + got.size;
+        e += size;
         n += 1;
         at = b.next;
     }
-    told(e as u32, 0, 0, 0)
+    Ok(e as u32)
 }

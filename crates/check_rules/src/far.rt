@@ -6,9 +6,11 @@ ghost use Rattle.rules.specs.Text.{head_of, rule_of};
 ghost use Rattle.rules.specs.Scan.{fields_from};
 ghost use Rattle.check_rules.specs.Bound.{RuleLine};
 ghost use Rattle.variable_tree.specs.Tree.{KeepsOrOf};
+ghost use Rattle.check_rules.specs.Line.{line_fault_number};
 ghost use Rattle.check_rules.specs.Far.{is_variable, occurs_from, EarlyIn, SettlesIn, FarIn};
 
 use crate::bound::unbound;
+use crate::line::LineFault;
 use checks::kinds::VARIABLES;
 use rules::condition::condition_at;
 use rules::field::{Head, head_of};
@@ -22,9 +24,8 @@ const NUMBERS: usize = 4294967296;
 fn bind(field: &[u8], low: usize, below: usize, keys: &mut [u32], links: &mut [u32]) -> usize
     ensures { (result ≤ below) × KeepsOrOf keys.old (λ v. is_variable v (head_of field.now)) keys.new }
 {
-    let first = head_of(field);
-    match first {
-        Head::Variable(v) => {
+    match head_of(field) {
+        Some(Head::Variable(v)) => {
             if (v as usize) < low {
                 return below;
             }
@@ -33,8 +34,7 @@ fn bind(field: &[u8], low: usize, below: usize, keys: &mut [u32], links: &mut [u
             }
             add(keys, links, below, v)
         }
-        Head::Constructor(_c) => below,
-        Head::Neither => below,
+        _ => below,
     }
 }
 
@@ -78,9 +78,8 @@ fn early(
     requires { RuleLine line.now right conditions }
     ensures { EarlyIn (rule_of line.now) low below keys.now (λ v. is_variable v (head_of field.now)) result }
 {
-    let first = head_of(field);
-    match first {
-        Head::Variable(v) => {
+    match head_of(field) {
+        Some(Head::Variable(v)) => {
             if (v as usize) < low {
                 return false;
             }
@@ -93,8 +92,7 @@ fn early(
             }
             unbound(line, right, conditions, v)
         }
-        Head::Constructor(_c) => false,
-        Head::Neither => false,
+        _ => false,
     }
 }
 
@@ -154,7 +152,9 @@ fn pass(line: &[u8], right: usize, conditions: usize, low: usize) -> Settled
     let mut below = bind_all(line, 0, right, low, NUMBERS, &mut keys, &mut links);
     let mut at = conditions;
     while at <= line.len() {
-        let c = condition_at(line, at);
+        let Ok(c) = condition_at(line, at) else {
+            unreachable!();
+        };
         if any_early(
             line, right, conditions, c.start, c.outcome, low, below, &keys, &links,
         ) {
@@ -176,31 +176,31 @@ fn farther(low: usize, below: usize) -> usize
     if low < below { below } else { low }
 }
 
-// 19 where a variable out of range is used too early, else 20. The first pass stands by itself, so that the tree takes stack only
+// Whether a variable out of range is used too early, or is the fault that it is out of range. The first pass stands by itself, so that the tree takes stack only
 // where a line has such a variable.
-pub(crate) fn far_answer(line: &[u8], right: usize, conditions: usize) -> u32
+pub(crate) fn far_fault(line: &[u8], right: usize, conditions: usize) -> LineFault
     requires { RuleLine line.now right conditions }
-    ensures { FarIn (rule_of line.now) result }
+    ensures { FarIn (rule_of line.now) (line_fault_number result) }
 {
     let first = pass(line, right, conditions, VARIABLES);
     if first.late {
-        return 19;
+        return LineFault::Unbound;
     }
     let mut low = farther(VARIABLES, first.below);
     while low < NUMBERS {
         let s = pass(line, right, conditions, low);
         if s.late {
-            return 19;
+            return LineFault::Unbound;
         }
         let next = farther(low, s.below);
         if low < next {
             low = next;
         } else {
             if unbound(line, right, conditions, low as u32) {
-                return 19;
+                return LineFault::Unbound;
             }
             low += 1;
         }
     }
-    20
+    LineFault::Range
 }

@@ -2,20 +2,52 @@
 ghost use Rattle.std.specs.Prelude.{◌≡◌};
 ghost use Rattle.rules.specs.Text.{rule_of};
 ghost use Rattle.check_rules.specs.Bound.{RuleLine};
-ghost use Rattle.check_rules.specs.Line.{callable as callableBy, CallsIn, line_of};
+ghost use Rattle.check_rules.specs.Line.{line_fault_number, fault_field, callable as callableBy, CallsIn, line_told, line_of};
 
-use crate::variables::variables_answer;
+use crate::variables::check_variables;
 use checks::entries::kind_of;
 use checks::kinds::REC;
 use rules::condition::condition_at;
 use rules::shape::shape_of;
 
-// 0, 18, 19, 20 or 22; the first bad field, one past the last where none is bad; the rule's entries.
-#[derive(Clone, Copy)]
-pub struct Line {
-    pub answer: u32,
-    pub field: usize,
-    pub size: usize,
+// What is wrong with a line, the first in this order.
+#[derive(Clone, Copy, PartialEq, Eq)]
+pub enum LineFault {
+    // It is no rule's text: its first bad field from 1, one past the last where none is bad.
+    Shape(usize),
+    // A variable is used before it is bound.
+    Unbound,
+    // A variable is out of range.
+    Range,
+    // A condition's number is not that of a REC in use without free variables.
+    Callee,
+    // Its entries have no room in the table.
+    Room,
+}
+
+impl LineFault {
+    // Its number in the documents.
+    pub fn answer(self) -> u32
+        ensures { result ≡ line_fault_number self }
+    {
+        match self {
+            LineFault::Shape(_) => 18,
+            LineFault::Unbound => 19,
+            LineFault::Range => 20,
+            LineFault::Callee => 22,
+            LineFault::Room => 23,
+        }
+    }
+
+    // The field that it is about, or 0.
+    pub fn field(self) -> usize
+        ensures { result ≡ fault_field self }
+    {
+        match self {
+            LineFault::Shape(field) => field,
+            _ => 0,
+        }
+    }
 }
 
 // Entry x of those in use is a REC without free variables.
@@ -49,7 +81,9 @@ fn calls(
 {
     let mut at = conditions;
     while at <= line.len() {
-        let c = condition_at(line, at);
+        let Ok(c) = condition_at(line, at) else {
+            unreachable!();
+        };
         if !callable(table, masks, used, c.callee) {
             return false;
         }
@@ -58,36 +92,17 @@ fn calls(
     true
 }
 
-// The line without its line feed.
-pub fn check_line(line: &[u8], table: &[u32], masks: &[u64], used: u32) -> Line
-    ensures { result ≡ line_of (callableBy table.now masks.now used) (rule_of line.now) }
+// How many entries the rule of a line takes, or what is wrong with the line, which is without its line feed.
+pub fn check_line(line: &[u8], table: &[u32], masks: &[u64], used: u32) -> Result<usize, LineFault>
+    ensures { line_told (line_of (callableBy table.now masks.now used) (rule_of line.now)) result }
 {
-    let s = shape_of(line);
-    if !s.good {
-        return Line {
-            answer: 18,
-            field: s.field,
-            size: 0,
-        };
+    let s = match shape_of(line) {
+        Ok(shape) => shape,
+        Err(field) => return Err(LineFault::Shape(field)),
+    };
+    check_variables(line, s.right, s.conditions)?;
+    if !calls(line, s.right, s.conditions, table, masks, used) {
+        return Err(LineFault::Callee);
     }
-    let v = variables_answer(line, s.right, s.conditions);
-    if v != 0 {
-        return Line {
-            answer: v,
-            field: s.field,
-            size: s.size,
-        };
-    }
-    if calls(line, s.right, s.conditions, table, masks, used) {
-        return Line {
-            answer: 0,
-            field: s.field,
-            size: s.size,
-        };
-    }
-    Line {
-        answer: 22,
-        field: s.field,
-        size: s.size,
-    }
+    Ok(s.size)
 }

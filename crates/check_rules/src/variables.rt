@@ -3,10 +3,12 @@ ghost use Rattle.std.specs.Prelude.{◌≡◌};
 ghost use Rattle.rules.specs.Text.{head_of, rule_of};
 ghost use Rattle.rules.specs.Scan.{fields_from};
 ghost use Rattle.check_rules.specs.Bound.{RuleLine, answers_variables};
+ghost use Rattle.check_rules.specs.Line.{variables_told};
 ghost use Rattle.check_rules.specs.Far.{outside_range, any_outside};
 
 use crate::bound::unbound;
-use crate::far::far_answer;
+use crate::far::far_fault;
+use crate::line::LineFault;
 use checks::kinds::VARIABLES;
 use rules::field::{Head, head_of};
 use text::field::next_at;
@@ -15,11 +17,9 @@ use text::field::next_at;
 fn outside(field: &[u8]) -> bool
     ensures { result ≡ outside_range (head_of field.now) }
 {
-    let first = head_of(field);
-    match first {
-        Head::Variable(v) => VARIABLES <= (v as usize),
-        Head::Constructor(_c) => false,
-        Head::Neither => false,
+    match head_of(field) {
+        Some(Head::Variable(v)) => VARIABLES <= (v as usize),
+        _ => false,
     }
 }
 
@@ -38,17 +38,17 @@ fn any_outside(line: &[u8]) -> bool
     false
 }
 
-// 19 where a variable is used before it is bound, 20 where one is out of range, else 0. A line with a variable out of range is
-// refused in any case, and only such a line is gone through by `far_answer`.
-pub(crate) fn variables_answer(line: &[u8], right: usize, conditions: usize) -> u32
+// Each variable is bound before it is used, and then each is in range. A line with a variable out of range is refused in any case, and
+// only such a line is gone through by `far_fault`.
+pub(crate) fn check_variables(line: &[u8], right: usize, conditions: usize) -> Result<(), LineFault>
     requires { RuleLine line.now right conditions }
-    ensures { answers_variables (rule_of line.now) result }
+    ensures { answers_variables (rule_of line.now) (variables_told result) }
 {
     if unbound(line, right, conditions, 0) {
-        return 19;
+        return Err(LineFault::Unbound);
     }
     if any_outside(line) {
-        return far_answer(line, right, conditions);
+        return Err(far_fault(line, right, conditions));
     }
-    0
+    Ok(())
 }

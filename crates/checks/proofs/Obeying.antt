@@ -16,7 +16,7 @@ use Rattle.words.specs.Words.{rows}
 use Rattle.words.proofs.Tests.{and-true, every_true}
 use Rattle.checks.specs.Good.{kind_of, operand_count, argument_of, constructor_of, child_count}
 use Rattle.checks.specs.Checked.{checked, found}
-use Rattle.checks.specs.declared.Checked.{Checked}
+use Rattle.checks.specs.Checked.{Checked}
 use Rattle.checks.specs.Signature.{signature_fits, declares, entry_obeys, node_obeys, entries_checked, nodes_checked, Declared, EntryObeys}
 use Rattle.checks.specs.Promises as promises
 use Rattle.checks.specs.Promises.{AllGood, Lowest}

@@ -15,7 +15,7 @@ use Rattle.std.specs.Prelude.{if◌then◌else◌}
 use Rattle.words.specs.Tests.{rejected}
 use Rattle.words.specs.Words.{rows}
 use Rattle.words.proofs.Tests.{First, and-true, rejected-none, rejected-some}
-use Rattle.checks.specs.declared.Checked.{Checked}
+use Rattle.checks.specs.Checked.{Checked}
 use Rattle.checks.specs.Good.{fault_by, good_entry_by, good_node}
 use Rattle.checks.specs.Plain.{FaultyBy}
 use Rattle.checks.specs.Checked.{checked, found, faulted_by, table_length_fits, store_length_fits, table_checked_by, store_checked}

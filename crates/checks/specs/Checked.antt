@@ -5,9 +5,12 @@ use Rattle.words.specs.Tests.{every, rejected}
 use Rattle.words.specs.Words.{rows}
 use Rattle.checks.specs.Kinds.{ours}
 use Rattle.checks.specs.Good.{fault_by, good_entry_by, good_node}
-use Rattle.checks.specs.declared.Checked.{Checked}
-use Rattle.checks.specs.declared.Found.{Found}
-use Rattle.checks.specs.declared.Found.TheVariants.{At, Nothing}
+use Rattle.std.specs.Prelude as std
+
+-- an answer from the documents' list, and its place: 0 and 0 where nothing is wrong
+pub record Checked : Type 0 where
+  pub answer : ℕ
+  pub place : ℕ
 
 -- an answer with its place
 abbrev pub checked : ℕ → ℕ → Checked
@@ -19,9 +22,9 @@ found a none = checked 0 0
 found a (some k) = checked a k
 
 -- the place that a search ended at
-abbrev pub place_of : Found → Option ℕ
-place_of (At k) = some k
-place_of Nothing = none
+abbrev pub place_of : std.Option ℕ → Option ℕ
+place_of (std.Some k) = some k
+place_of std.None = none
 
 -- the table is not empty, a multiple of 8, and at most 32,768 words
 unfoldable pub table_length_fits : ℕ → Bool

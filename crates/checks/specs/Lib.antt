@@ -3,5 +3,6 @@ pub mod Kinds
 pub mod Good
 pub mod Plain
 pub mod Checked
+pub mod Numbers
 pub mod Signature
 pub mod Promises

@@ -1,7 +1,7 @@
 -- What the two checks promise, as types. Each is proved in proofs/Promises.antt under its name.
 use Rattle.std.specs.Prelude.{◌≡◌, Bool, true, false, ◌≢◌, ◌↔◌, List, ℕ, ◌≤◌, ◌<◌, length}
 use Rattle.words.specs.Words.{rows}
-use Rattle.checks.specs.declared.Checked.{Checked}
+use Rattle.checks.specs.Checked.{Checked}
 use Rattle.checks.specs.Good.{fault_by, good_entry_by, good_node}
 use Rattle.checks.specs.Plain.{TableLength, StoreLength, EntryBy, FaultyBy, Node}
 use Rattle.checks.specs.Checked.{checked, table_checked_by, store_checked}

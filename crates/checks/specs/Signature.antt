@@ -5,7 +5,7 @@ use Rattle.words.specs.Tests.{every, rejected}
 use Rattle.words.specs.Words.{rows}
 use Rattle.checks.specs.Good.{kind_of, operand_count, argument_of, constructor_of, child_count}
 use Rattle.checks.specs.Checked.{found}
-use Rattle.checks.specs.declared.Checked.{Checked}
+use Rattle.checks.specs.Checked.{Checked}
 
 module _ (g : List ℕ) where
   -- at most 65,536 words, and none above 7

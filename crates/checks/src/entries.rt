@@ -7,8 +7,9 @@ ghost use Rattle.checks.specs.Good.{count_of, argument_fits_by, kind_of, operand
 ghost use Rattle.checks.specs.Kinds as kinds;
 ghost use Rattle.checks.specs.Kinds.{ours, operands_from_by};
 ghost use Rattle.checks.specs.Checked.{faulted_by, table_length_fits, table_checked};
+ghost use Rattle.checks.specs.Numbers.{fault_of, checked_of};
 
-use crate::Checked;
+use crate::refusal::{Fault, Refusal};
 use crate::kinds::{
     SCOPE, Sort, highest_argument, least, lowest_argument, most, operands_from, same, sort_of,
     takes,
@@ -100,73 +101,66 @@ fn operand_sorted(table: &[u32], k: u32, sort: Sort, o: u32) -> bool
     same(sort_of(j), sort)
 }
 
-// The operands' fault of entry e, of the kind k and with n operands: 15 where one is not in its place, else 16 where one has
-// not its sort, else 0. A wrong sort is kept in mind while the places of the rest are looked at.
-fn operands_fault(table: &[u32], e: u32, k: u32, n: u32) -> u32
+// The operands of entry e, of the kind k and with n of them: each is in its place, and then each has its sort. A wrong sort is kept in
+// mind while the places of the rest are looked at.
+fn check_operands(table: &[u32], e: u32, k: u32, n: u32) -> Result<(), Fault>
     requires { (k ≡ kind_of table.now e) × ((n ≡ operand_count table.now e) × ((k ≤ 19) × (operands_from_by ours k + n ≤ 8))) }
-    ensures { result ≡ operands_fault_by ours table.now e }
+    ensures { fault_of result ≡ operands_fault_by ours table.now e }
 {
     if n == 0 {
-        return 0;
+        return Ok(());
     }
     let sort = takes(k);
     let from = operands_from(k);
-    let mut fault: u32 = 0;
+    let mut sorted = Ok(());
     let mut i: u32 = 0;
     while i < n {
         let o = operand(table, e, from, i);
         if !operand_placed(table, e, k, o) {
-            return 15;
+            return Err(Fault::Place);
         }
         if !operand_sorted(table, k, sort, o) {
-            fault = 16;
+            sorted = Err(Fault::Sort);
         }
         i += 1;
     }
-    fault
+    sorted
 }
 
-// What is wrong with entry e, the first in the order of 13 to 17; 0 where nothing is.
-fn entry_fault(table: &[u32], e: u32) -> u32
-    ensures { result ≡ fault table.now e }
+// What is wrong with entry e, the first in the order of `Fault`.
+fn check_entry(table: &[u32], e: u32) -> Result<(), Fault>
+    ensures { fault_of result ≡ fault table.now e }
 {
     let w = word(table, e, 0);
     let k = w / 16;
     let n = w % 16;
     if !count_fits(k, n) {
-        return 13;
+        return Err(Fault::Count);
     }
     if !argument_fits(table, e, k) {
-        return 14;
+        return Err(Fault::Argument);
     }
-    let operands = operands_fault(table, e, k, n);
-    if operands != 0 {
-        return operands;
-    }
+    check_operands(table, e, k, n)?;
     if !unused_zero(table, e, operands_from(k) + n - 2) {
-        return 17;
+        return Err(Fault::Unused);
     }
-    0
+    Ok(())
 }
 
-// The fault of the lowest bad entry of a table that is no longer than the longest, and its place.
-fn lowest_fault(table: &[u32]) -> Checked
+// The fault of the lowest bad entry of a table that is no longer than the longest.
+fn check_all_entries(table: &[u32]) -> Result<(), Refusal>
     requires { length table.now ≤ 32768 }
-    ensures { result ≡ faulted_by ours table.now (rejected (good_entry table.now) 0 (rows table.now)) }
+    ensures { checked_of result ≡ faulted_by ours table.now (rejected (good_entry table.now) 0 (rows table.now)) }
 {
     let n = table.len() / 8;
     let mut e: u32 = 0;
     while (e as usize) < n {
-        let answer = entry_fault(table, e);
-        if answer != 0 {
-            return Checked { answer, place: e };
+        if let Err(fault) = check_entry(table, e) {
+            return Err(Refusal::Entry(fault, e));
         }
         e += 1;
     }
-    Checked {
-        answer: 0,
-        place: 0,
-    }
+    Ok(())
 }
 
 // The table is not empty, a multiple of 8, and at most 32,768 words.
@@ -183,14 +177,11 @@ pub fn table_length_fits(n: usize) -> bool
 }
 
 // The table check.
-pub fn check_table(table: &[u32]) -> Checked
-    ensures { result ≡ table_checked table.now }
+pub fn check_table(table: &[u32]) -> Result<(), Refusal>
+    ensures { checked_of result ≡ table_checked table.now }
 {
     if !table_length_fits(table.len()) {
-        return Checked {
-            answer: 2,
-            place: 0,
-        };
+        return Err(Refusal::Sizes);
     }
-    lowest_fault(table)
+    check_all_entries(table)
 }

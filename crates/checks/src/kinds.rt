@@ -48,7 +48,7 @@ pub const PCON: u32 = 19;
 pub const VARIABLES: usize = 64;
 
 // What an entry may be used as. A kind above 19 has no sort.
-#[derive(Clone, Copy)]
+#[derive(Clone, Copy, PartialEq, Eq)]
 pub enum Sort {
     Strategy,
     Pattern,

@@ -4,8 +4,9 @@ ghost use Rattle.std.specs.Prelude.{◌≡◌, ◌+◌, ◌*◌, ◌≤◌, leng
 ghost use Rattle.words.specs.Tests.{every, rejected};
 ghost use Rattle.checks.specs.Good.{child, held_fits, good_node};
 ghost use Rattle.checks.specs.Checked.{place_of, store_length_fits, store_checked};
+ghost use Rattle.checks.specs.Numbers.{checked_of};
 
-use crate::{Checked, Found, answered};
+use crate::refusal::Refusal;
 
 // The word w fits as word 2 + i of node k, which has n children: a child below it, or a zero after the last.
 fn held_fits(k: u32, n: u32, i: u32, w: u32) -> bool
@@ -42,18 +43,18 @@ fn node_fits(store: &[u32], k: u32) -> bool
 }
 
 // The lowest bad node below the mark, which is at most the store's nodes.
-fn lowest_bad_node(store: &[u32], mark: u32) -> Found
+fn lowest_bad_node(store: &[u32], mark: u32) -> Option<u32>
     requires { 8 * mark ≤ length store.now }
     ensures { place_of result ≡ rejected (good_node store.now) 0 mark }
 {
     let mut k: u32 = 0;
     while k < mark {
         if !node_fits(store, k) {
-            return Found::At(k);
+            return Some(k);
         }
         k += 1;
     }
-    Found::Nothing
+    None
 }
 
 // The store is a multiple of 8 and at most 1,048,576 words.
@@ -67,20 +68,17 @@ pub fn store_length_fits(n: usize) -> bool
 }
 
 // The store check.
-pub fn check_store(store: &[u32], mark: u32) -> Checked
-    ensures { result ≡ store_checked store.now mark }
+pub fn check_store(store: &[u32], mark: u32) -> Result<(), Refusal>
+    ensures { checked_of result ≡ store_checked store.now mark }
 {
     if !store_length_fits(store.len()) {
-        return Checked {
-            answer: 2,
-            place: 0,
-        };
+        return Err(Refusal::Sizes);
     }
     if store.len() / 8 < (mark as usize) {
-        return Checked {
-            answer: 2,
-            place: 0,
-        };
+        return Err(Refusal::Sizes);
     }
-    answered(4, lowest_bad_node(store, mark))
+    match lowest_bad_node(store, mark) {
+        Some(k) => Err(Refusal::Node(k)),
+        None => Ok(()),
+    }
 }

@@ -4,11 +4,12 @@ ghost use Rattle.std.specs.Prelude.{◌≡◌, ◌≤◌, length};
 ghost use Rattle.words.specs.Tests.{rejected};
 ghost use Rattle.words.specs.Words.{rows};
 ghost use Rattle.checks.specs.Checked.{place_of};
+ghost use Rattle.checks.specs.Numbers.{checked_of};
 ghost use Rattle.checks.specs.Signature as obeying;
 ghost use Rattle.checks.specs.Signature.{signature_fits, entry_obeys, node_obeys, entries_checked, nodes_checked};
 
 use crate::kinds::{CONG, PCON};
-use crate::{Checked, Found, answered};
+use crate::refusal::Refusal;
 use words::word;
 
 // At most 65,536 words, and none above 7.
@@ -64,7 +65,7 @@ fn node_obeys(signature: &[u32], store: &[u32], k: u32) -> bool
 }
 
 // The lowest entry that does not obey.
-fn lowest_entry(signature: &[u32], table: &[u32]) -> Found
+fn lowest_entry(signature: &[u32], table: &[u32]) -> Option<u32>
     requires { length table.now ≤ 32768 }
     ensures { place_of result ≡ rejected (entry_obeys signature.now table.now) 0 (rows table.now) }
 {
@@ -72,38 +73,44 @@ fn lowest_entry(signature: &[u32], table: &[u32]) -> Found
     let mut e: u32 = 0;
     while (e as usize) < n {
         if !entry_obeys(signature, table, e) {
-            return Found::At(e);
+            return Some(e);
         }
         e += 1;
     }
-    Found::Nothing
+    None
 }
 
 // The lowest node below the mark that does not obey.
-fn lowest_node(signature: &[u32], store: &[u32], mark: u32) -> Found
+fn lowest_node(signature: &[u32], store: &[u32], mark: u32) -> Option<u32>
     ensures { place_of result ≡ rejected (node_obeys signature.now store.now) 0 mark }
 {
     let mut k: u32 = 0;
     while k < mark {
         if !node_obeys(signature, store, k) {
-            return Found::At(k);
+            return Some(k);
         }
         k += 1;
     }
-    Found::Nothing
+    None
 }
 
 // The check of a table's entries: 10 with the lowest that does not obey.
-pub fn check_entries(signature: &[u32], table: &[u32]) -> Checked
+pub fn check_entries(signature: &[u32], table: &[u32]) -> Result<(), Refusal>
     requires { length table.now ≤ 32768 }
-    ensures { result ≡ entries_checked signature.now table.now }
+    ensures { checked_of result ≡ entries_checked signature.now table.now }
 {
-    answered(10, lowest_entry(signature, table))
+    match lowest_entry(signature, table) {
+        Some(e) => Err(Refusal::EntryDisobeys(e)),
+        None => Ok(()),
+    }
 }
 
 // The check of the nodes below the mark: 11 with the lowest that does not obey.
-pub fn check_nodes(signature: &[u32], store: &[u32], mark: u32) -> Checked
-    ensures { result ≡ nodes_checked signature.now store.now mark }
+pub fn check_nodes(signature: &[u32], store: &[u32], mark: u32) -> Result<(), Refusal>
+    ensures { checked_of result ≡ nodes_checked signature.now store.now mark }
 {
-    answered(11, lowest_node(signature, store, mark))
+    match lowest_node(signature, store, mark) {
+        Some(k) => Err(Refusal::NodeDisobeys(k)),
+        None => Ok(()),
+    }
 }

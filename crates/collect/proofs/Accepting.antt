@@ -18,7 +18,7 @@ use Rattle.words.proofs.Tests.{below-or-from, and-true, every_true}
 use Rattle.checks.specs.Kinds.{variables_by}
 use Rattle.checks.specs.Good.{child_count, child, good_node}
 use Rattle.checks.specs.Checked.{checked, found, store_length_fits, store_checked, bound_below}
-use Rattle.checks.specs.declared.Checked.{Checked}
+use Rattle.checks.specs.Checked.{Checked}
 use Rattle.checks.specs.Plain.{StoreLength}
 use Rattle.checks.proofs.Good.{not-fact, store_length_fits-plain}
 use Rattle.checks.specs.Promises.{AllGood, Lowest}

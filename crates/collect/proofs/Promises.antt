@@ -13,7 +13,7 @@ use borrow.Author.Tests.{eqb-true}
 use Rattle.std.specs.Prelude.{if◌then◌else◌}
 use Rattle.words.proofs.Tests.{below-or-from}
 use Rattle.checks.specs.Good.{child}
-use Rattle.checks.specs.declared.Checked.{Checked}
+use Rattle.checks.specs.Checked.{Checked}
 use Rattle.checks.proofs.Promises.{store_passes}
 use Rattle.meaning.specs.Rules.{apply}
 use Rattle.meaning.specs.Store.{Input, AcceptedBy, term, named, bindings, term_of, meant}

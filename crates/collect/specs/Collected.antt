@@ -1,11 +1,30 @@
 -- What a collection leaves, for every input: its four numbers, and every word of the store, of the bindings and of the work list.
 use Rattle.std.specs.Prelude.{Bool, List, map, ℕ, eqb, length, replicate, if◌then◌else◌}
-use Rattle.checks.specs.declared.Checked.{Checked}
+use Rattle.checks.specs.Checked.{Checked}
 use Rattle.collect.specs.Reachable.{kept}
 use Rattle.collect.specs.Packed.{rank, rebound, store_after}
 use Rattle.checks.specs.Kinds.{ours}
 use Rattle.collect.specs.Refused.{Lent, refused_by}
-use Rattle.collect.specs.declared.Collected.{Collected}
+use Rattle.std.specs.Prelude.{Result, Ok, Err, [], ◌∷◌}
+use Rattle.checks.specs.Numbers.{answer_of, place_of}
+use Rattle.checks.specs.declared.refusal.Refusal.{Refusal}
+use Rattle.collect.specs.declared.Packed.{Packed}
+
+-- the four numbers that a collection comes to
+pub record Collected : Type 0 where
+  pub answer : ℕ
+  pub place : ℕ
+  pub subject : ℕ
+  pub mark : ℕ
+
+-- those of what `collect` returns, which was given the subject k and the mark m
+abbrev pub collected : Result Packed Refusal → (k m : ℕ) → Collected
+collected (Ok r) k m = record { answer = 0; place = 0; subject = r.subject; mark = r.mark }
+collected (Err e) k m = record { answer = answer_of e; place = place_of e; subject = k; mark = m }
+
+-- as a list
+abbrev pub four_of : Collected → List ℕ
+four_of c = c.answer ∷ c.place ∷ c.subject ∷ c.mark ∷ []
 
 -- what is handed over
 abbrev pub lent : List ℕ → List ℕ → List ℕ → ℕ → ℕ → Lent

@@ -4,7 +4,7 @@ use Rattle.std.specs.Prelude.{◌≡◌, Bool, ◌&&◌, List, ℕ, ◌≤◌, �
 use Rattle.words.specs.Words.{rows}
 use Rattle.checks.specs.Kinds.{ours, variables_by}
 use Rattle.checks.specs.Checked.{checked, store_length_fits, store_checked, bound_below}
-use Rattle.checks.specs.declared.Checked.{Checked}
+use Rattle.checks.specs.Checked.{Checked}
 
 -- what is handed over: the store's, the bindings' and the work list's words, the mark, the subject
 pub record Lent : Type 0 where

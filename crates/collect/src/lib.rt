@@ -3,22 +3,21 @@
 #![tactic(auto)]
 
 ghost use Rattle.std.specs.Prelude.{◌≡◌};
-ghost use Rattle.collect.specs.Collected.{lent, at_end, collected_of};
+ghost use Rattle.collect.specs.Collected.{lent, at_end, collected, four_of, collected_of};
 
+use crate::checking::check_collection;
 use crate::marking::mark_reached;
 use crate::moving::{move_bindings, move_kept};
-use crate::refusals::refusal;
+use checks::refusal::Refusal;
 use words::clear_from;
 
 mod marking;
 mod moving;
-mod refusals;
+mod checking;
 
-// The four numbers that a collection returns.
+// The subject's new number, and the new mark.
 #[derive(Clone, Copy)]
-pub struct Collected {
-    pub answer: u32,
-    pub place: u32,
+pub struct Packed {
     pub subject: u32,
     pub mark: u32,
 }
@@ -30,28 +29,28 @@ pub fn collect(
     work: &mut [u32],
     mark: u32,
     subject: u32,
-) -> Collected
-    ensures { at_end result store.new bindings.new work.new ≡ collected_of (lent store.old bindings.old work.old mark subject) }
+) -> Result<Packed, Refusal>
+    ensures { at_end (collected result subject mark) store.new bindings.new work.new ≡ collected_of (lent store.old bindings.old work.old mark subject) }
 {
-    let refused = refusal(store, bindings, work, mark, subject);
-    if refused.answer != 0 {
-        return Collected {
-            answer: refused.answer,
-            place: refused.place,
-            subject,
-            mark,
-        };
-    }
+    check_collection(store, bindings, work, mark, subject)?;
     mark_reached(store, bindings, work, mark, subject);
     let kept = move_kept(store, work, mark);
     let renumbered = work[subject as usize];
     move_bindings(bindings, work);
     clear_from(store, 8 * (kept as usize));
     clear_from(work, 0);
-    Collected {
-        answer: 0,
-        place: 0,
+    Ok(Packed {
         subject: renumbered,
         mark: kept,
+    })
+}
+
+// The four numbers of a collection: answer, place, subject and mark; subject and mark as given where it refuses.
+pub fn four_numbers(r: Result<Packed, Refusal>, subject: u32, mark: u32) -> [u32; 4]
+    ensures { result ≡ four_of (collected r subject mark) }
+{
+    match r {
+        Ok(kept) => [0, 0, kept.subject, kept.mark],
+        Err(e) => [e.answer(), e.place(), subject, mark],
     }
 }

@@ -14,7 +14,7 @@ use Rattle.words.specs.Tests.{rejected}
 use Rattle.words.specs.Words.{rows}
 use Rattle.checks.specs.Kinds.{ours}
 use Rattle.checks.specs.Checked.{checked, found}
-use Rattle.checks.specs.declared.Checked.{Checked}
+use Rattle.checks.specs.Checked.{Checked}
 use Rattle.meaning.specs.Limits.{ended, lost, cut, units, nesting, room, unbound}
 use Rattle.meaning.specs.Mapped.{renoted}
 use Rattle.meaning.specs.Store.{Input, Ran}
@@ -23,12 +23,12 @@ use Rattle.meaning.specs.Answer.{Returned, number, returned, returned_by}
 use Rattle.calls.specs.Refused.{or_else, start_fits, words_refused, refused_with_by}
 use Rattle.calls.specs.Run.{run_with}
 use Rattle.calls.specs.Indexed.{index_fits, indexed_words_refused_by, indexed_refused_by}
-use Rattle.calls.specs.declared.Outcome.{Outcome}
+use Rattle.calls.specs.Outcome.{Outcome}
 use Rattle.calls.specs.Promises.{InList, when-done, when-failed, when-refused, when-cut-off, when-unbound, of-sizes}
 use Rattle.calls.specs.Signed.{listed-without}
 use Rattle.calls.proofs.Promises.{listed_answer}
 use Rattle.calls.proofs.Signed.{listed as listed-signed}
-use Rattle.tallying.specs.declared.Counted.{Counted}
+use Rattle.tallying.specs.Added.{Counted}
 use Rattle.tallying.specs.Added.{CountedReturned, ran_if}
 use Rattle.counting.specs.Counted.{has_room}
 use Rattle.counting.specs.Promises.{Call, plain, indexed, Meets, refusal_of, shares, FourEach, RefusesTwo}

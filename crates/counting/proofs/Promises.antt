@@ -17,7 +17,7 @@ use Rattle.checks.specs.Kinds.{ours, sort_of}
 use Rattle.checks.specs.Good.{kind_of}
 use Rattle.checks.specs.declared.kinds.Sort.TheVariants.{Strategy, Pattern}
 use Rattle.checks.specs.Checked.{checked, found}
-use Rattle.checks.specs.declared.Checked.{Checked}
+use Rattle.checks.specs.Checked.{Checked}
 use Rattle.meaning.specs.Derivation.{What, entry, pattern, pair, Event, began, ended as told, history, places, nowhere}
 use Rattle.meaning.specs.Tallies.{one-if, is_entry, any_pattern, is_pair, counted, begins, wins, loses, Entered, entries_in}
 use Rattle.meaning.specs.Limits.{ended, lost, cut, units, nesting, room, unbound}
@@ -38,7 +38,7 @@ use Rattle.calls.specs.Promises.{Refusal, of-sizes, of_entry, of_node, of-start}
 use Rattle.calls.specs.Signed.{SignedRefusal, as-without, of-disobeying-entry, of-disobeying-node}
 use Rattle.calls.proofs.Accepting.{refusal-with}
 use Rattle.indexed.proofs.Whole.{indexed-refused, indexed-ran, accepted}
-use Rattle.tallying.specs.declared.Counted.{Counted}
+use Rattle.tallying.specs.Added.{Counted}
 use Rattle.tallying.specs.Counts.{highest}
 use Rattle.tallying.specs.Added.{CountedReturned, counted_at_return}
 use Rattle.counting.specs.Counted.{has_room, counts_checked}

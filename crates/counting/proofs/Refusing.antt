@@ -13,7 +13,7 @@ use Rattle.words.specs.Words.{rows}
 use Rattle.words.proofs.Tests.{below-or-from, every_true, rejected-none, Holds}
 use Rattle.checks.specs.Kinds.{ours}
 use Rattle.checks.specs.Checked.{checked, found}
-use Rattle.checks.specs.declared.Checked.{Checked}
+use Rattle.checks.specs.Checked.{Checked}
 use Rattle.checks.proofs.Promises.{table_passes}
 use Rattle.meaning.specs.Store.{Input, Accepted}
 use Rattle.calls.specs.Refused.{refused_with}

@@ -8,7 +8,7 @@ use lib.ListN.{length, take, drop, replicate, length-append, length-drop}
 use lib.Seq.{length-take-le, take-append_seam, drop-append_seam}
 use Rattle.words.specs.Words.{cleared_from}
 use Rattle.words.proofs.Rows.{length-cleared_from, take-cleared_from}
-use Rattle.tallying.specs.declared.Counted.{Counted}
+use Rattle.tallying.specs.Added.{Counted}
 use Rattle.tallying.specs.Added.{CountedReturned, counted_at_return}
 use Rattle.counting.specs.Counted.{indexed_counted_at_return}
 use Rattle.indexed.proofs.Whole.{take_min, drop_min, drop-size, drop-cleared}

@@ -25,7 +25,7 @@ use Rattle.meaning.proofs.Demands.{demand-2, demand-2-values}
 use Rattle.meaning.proofs.Shared.{not-shared, all-shared, demand-2-shared}
 use Rattle.machine.specs.Stack.{Noted}
 use Rattle.machine.proofs.Noting.{all}
-use Rattle.tallying.specs.declared.Counted.{Counted}
+use Rattle.tallying.specs.Added.{Counted}
 use Rattle.tallying.specs.Added.{CountedReturned, ran_if, log_of, added}
 use Rattle.counting.specs.Promises.{Call, plain, indexed, Meets, shares, verdict_of, Does, is-done, has-failed, is_cut, CountOf}
 use Rattle.counting.specs.Promises.{EachACount, EachACountIndexed}

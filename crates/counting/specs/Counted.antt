@@ -6,12 +6,12 @@ use Rattle.std.proofs.Math.Option.{Option}
 use Rattle.words.specs.Tests.{every, rejected}
 use Rattle.words.specs.Words.{rows}
 use Rattle.checks.specs.Checked.{checked, found}
-use Rattle.checks.specs.declared.Checked.{Checked}
+use Rattle.checks.specs.Checked.{Checked}
 use Rattle.meaning.specs.Store.{Input}
 use Rattle.calls.specs.Refused.{or_else, refused_with}
 use Rattle.calls.specs.Run.{refusing}
 use Rattle.calls.specs.Indexed.{indexed_refused}
-use Rattle.tallying.specs.declared.Counted.{Counted}
+use Rattle.tallying.specs.Added.{Counted}
 use Rattle.tallying.specs.Counts.{highest}
 use Rattle.tallying.specs.Added.{CountedReturned, counted_at_return, counted_end, ran_if}
 

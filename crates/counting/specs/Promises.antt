@@ -6,7 +6,7 @@ use Rattle.std.proofs.Math.Option.{Option, none, some}
 use Rattle.words.specs.Words.{rows}
 use Rattle.checks.specs.Kinds.{sort_of}
 use Rattle.checks.specs.Good.{kind_of}
-use Rattle.checks.specs.declared.Checked.{Checked}
+use Rattle.checks.specs.Checked.{Checked}
 use Rattle.checks.specs.declared.kinds.Sort.TheVariants.{Pattern}
 use Rattle.meaning.specs.Term.{Term}
 use Rattle.meaning.specs.Plan.{keep, ret, fail, ask}
@@ -25,7 +25,7 @@ use Rattle.calls.specs.Run.{at_return, run_with}
 use Rattle.calls.specs.Indexed.{indexed_refused, indexed_at_return, indexed_of}
 use Rattle.calls.specs.Promises.{InList}
 use Rattle.calls.specs.Signed.{SignedInList}
-use Rattle.tallying.specs.declared.Counted.{Counted}
+use Rattle.tallying.specs.Added.{Counted}
 use Rattle.tallying.specs.Counts.{highest}
 use Rattle.tallying.specs.Added.{counted_at_return}
 use Rattle.counting.specs.Counted.{refused_counting, counted_of, indexed_counted_at_return, indexed_counted_of}

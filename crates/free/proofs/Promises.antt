@@ -11,13 +11,13 @@ use lib.ListN.{length}
 use borrow.Author.Tests.{ne_eqb, eqb-true, eqb-false}
 use Rattle.std.specs.Prelude.{if◌then◌else◌}
 use Rattle.checks.specs.Kinds.{variables_by}
-use Rattle.checks.specs.declared.Checked.{Checked}
+use Rattle.checks.specs.Checked.{Checked}
 use Rattle.checks.specs.Checked.{checked, table_checked_by}
 use Rattle.checks.proofs.Promises.{Known, passes-all, refuses-length, rejects-at, known}
 use Rattle.checks.proofs.Promises as checks
 use Rattle.meaning.specs.Bindings.{has}
 use Rattle.meaning.proofs.Tests.{decided}
-use Rattle.free.specs.declared.FreeVariables.{FreeVariables}
+use Rattle.free.specs.Answered.{FreeVariables}
 use Rattle.free.specs.Answered.{is_strategy, asked_by, MaskOfBy, AnsweredBy}
 use Rattle.free.specs.Promises as promises
 use Rattle.meaning.proofs.Bits.{same-mask}

@@ -2,7 +2,7 @@
 use Rattle.std.specs.Prelude.{◌≡◌, Bool, true, ◌&&◌, ◌≢◌, ◌↔◌, List, ℕ, ◌^◌, ◌<◌, ltb, if◌then◌else◌}
 use Rattle.std.proofs.Math.Dec.{eqb}
 use Rattle.words.specs.Words.{rows}
-use Rattle.checks.specs.declared.Checked.{Checked}
+use Rattle.checks.specs.Checked.{Checked}
 use Rattle.checks.specs.declared.kinds.Sort.TheVariants.{Strategy}
 use Rattle.checks.specs.Kinds.{ours, variables_by, sort_of, same}
 use Rattle.checks.specs.Good.{kind_of}
@@ -10,11 +10,28 @@ use Rattle.checks.specs.Checked.{checked, table_checked_by}
 use Rattle.meaning.specs.Bindings.{has}
 use Rattle.meaning.specs.Table.{table_by}
 use Rattle.meaning.specs.Free.{Free}
-use Rattle.free.specs.declared.FreeVariables.{FreeVariables}
+use Rattle.std.specs.Prelude.{Result, Ok, Err, [], ◌∷◌}
+use Rattle.checks.specs.Numbers.{answer_of, place_of}
+use Rattle.checks.specs.declared.refusal.Refusal.{Refusal}
+
+-- the three numbers: an answer from document 01's list, its place, and the mask of the free variables
+pub record FreeVariables : Type 0 where
+  pub answer : ℕ
+  pub place : ℕ
+  pub mask : ℕ
 
 -- a refusal's three numbers
 abbrev pub refusal : ℕ → ℕ → FreeVariables
 refusal a p = record { answer = a; place = p; mask = 0 }
+
+-- the three numbers of a mask or a refusal
+abbrev pub free_of : Result ℕ Refusal → FreeVariables
+free_of (Ok m) = record { answer = 0; place = 0; mask = m }
+free_of (Err e) = refusal (answer_of e) (place_of e)
+
+-- as a list
+abbrev pub three_of : FreeVariables → List ℕ
+three_of r = r.answer ∷ r.place ∷ r.mask ∷ []
 
 -- entry e is inside the table, and a strategy
 unfoldable pub is_strategy : List ℕ → ℕ → Bool

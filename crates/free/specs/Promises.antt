@@ -8,7 +8,7 @@ use Rattle.checks.specs.Plain.{TableLength, FaultyBy}
 use Rattle.checks.specs.Promises.{AllGood, Lowest}
 use Rattle.meaning.specs.Table.{table_by}
 use Rattle.meaning.specs.Free.{Free}
-use Rattle.free.specs.declared.FreeVariables.{FreeVariables}
+use Rattle.free.specs.Answered.{FreeVariables}
 use Rattle.free.specs.Answered.{AnsweredBy}
 
 -- two outcomes that satisfy the contract agree

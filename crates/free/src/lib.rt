@@ -3,58 +3,40 @@
 #![tactic(auto)]
 
 ghost use Rattle.std.specs.Prelude.{◌≡◌};
-ghost use Rattle.free.specs.Answered.{is_strategy, refusal, Answered};
+ghost use Rattle.free.specs.Answered.{is_strategy, free_of, three_of, Answered};
 
 use crate::passes::mask_of;
 use checks::entries::{check_table, kind_of};
-use checks::kinds::{Sort, same, sort_of};
+use checks::kinds::{Sort, sort_of};
+use checks::refusal::Refusal;
 
 mod order;
 pub mod passes;
-
-// An answer from document 01's list, its place, and the mask of the free variables.
-#[derive(Clone, Copy)]
-pub struct FreeVariables {
-    pub answer: u32,
-    pub place: u32,
-    pub mask: u64,
-}
 
 // Entry e is inside the table and a strategy.
 fn is_strategy(table: &[u32], e: u32) -> bool
     ensures { result ≡ is_strategy table.now e }
 {
-    if table.len() / 8 <= (e as usize) {
-        return false;
-    }
-    same(sort_of(kind_of(table, e)), Sort::Strategy)
+    (e as usize) < table.len() / 8 && sort_of(kind_of(table, e)) == Sort::Strategy
 }
 
-// A refusal: its mask is empty.
-fn refused(answer: u32, place: u32) -> FreeVariables
-    ensures { result ≡ refusal answer place }
+// The mask of the free variables of the strategy at `entry`.
+pub fn free_variables(table: &[u32], entry: u32) -> Result<u64, Refusal>
+    ensures { Answered table.now entry (free_of result) }
 {
-    FreeVariables {
-        answer,
-        place,
-        mask: 0,
-    }
-}
-
-// The free variables of the strategy at `entry`.
-pub fn free_variables(table: &[u32], entry: u32) -> FreeVariables
-    ensures { Answered table.now entry result }
-{
-    let checked = check_table(table);
-    if checked.answer != 0 {
-        return refused(checked.answer, checked.place);
-    }
+    check_table(table)?;
     if !is_strategy(table, entry) {
-        return refused(5, 0);
+        return Err(Refusal::Start);
     }
-    FreeVariables {
-        answer: 0,
-        place: 0,
-        mask: mask_of(table, entry),
+    Ok(mask_of(table, entry))
+}
+
+// Answer, place and mask, as numbers of 64 bits, for the mask has so many.
+pub fn three_numbers(r: Result<u64, Refusal>) -> [u64; 3]
+    ensures { result ≡ three_of (free_of r) }
+{
+    match r {
+        Ok(mask) => [0, 0, mask],
+        Err(e) => [e.answer() as u64, e.place() as u64, 0],
     }
 }

@@ -6,7 +6,6 @@ ghost use Rattle.index.specs.Key.{home};
 ghost use Rattle.index.specs.Chains.{Indexed, linked, unlinked};
 
 use crate::key::home_of;
-use checks::Found;
 use words::word;
 
 // Node k has these words.
@@ -46,7 +45,7 @@ pub(crate) fn find(
     m: u32,
     top: u32,
     r: [u32; 8],
-) -> Found
+) -> Option<u32>
     requires { Indexed store.now index.now at n top × (m ≤ top) }
     ensures { place_of result ≡ node_with store.now r m }
 {
@@ -57,12 +56,12 @@ pub(crate) fn find(
         let k = x - 1;
         if k < m {
             if has(store, k, r) {
-                return Found::At(k);
+                return Some(k);
             }
         }
         x = index[nexts + (k as usize)];
     }
-    Found::Nothing
+    None
 }
 
 // Node k put first into the chain at p.

@@ -7,7 +7,6 @@ ghost use Rattle.index.specs.Lent.{Held, built, forgotten, made, Asked};
 
 use crate::chains::{find, link, unlink};
 use crate::key::{eight_words, home_of};
-use checks::Found;
 use words::{clear_from, put_row};
 
 // The nodes below the mark put in, from the first to the last, into an index that is zero.
@@ -54,8 +53,8 @@ pub fn ask(lent: &mut [u32], n: u32, mark: u32, top: u32, r: [u32; 8]) -> Node
     let at = 8 * (n as usize);
     let found = find(lent, lent, at, n, mark, top, r);
     match found {
-        Found::At(k) => Node::Stands(k),
-        Found::Nothing => {
+        Some(k) => Node::Stands(k),
+        None => {
             if n <= mark {
                 return Node::Full;
             }

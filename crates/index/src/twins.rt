@@ -7,10 +7,9 @@ ghost use Rattle.index.specs.Chains.{Indexed};
 
 use crate::chains::{find, link};
 use crate::key::{eight_words, home_of};
-use checks::Found;
 
 // The lowest node below the mark with an earlier one's words, by an index that is empty.
-fn twin_by(store: &[u32], index: &mut [u32], n: u32, mark: u32) -> Found
+fn twin_by(store: &[u32], index: &mut [u32], n: u32, mark: u32) -> Option<u32>
     requires { Indexed store.now index.old 0 n 0 × (mark ≤ n) }
     ensures { place_of result ≡ twin store.now mark }
 {
@@ -18,17 +17,17 @@ fn twin_by(store: &[u32], index: &mut [u32], n: u32, mark: u32) -> Found
     while k < mark {
         let r = eight_words(store, k);
         let found = find(store, index, 0, n, k, k, r);
-        if let Found::At(_) = found {
-            return Found::At(k);
+        if let Some(_) = found {
+            return Some(k);
         }
         let p = home_of(n, r);
         link(index, 0, n, p, k);
         k += 1;
     }
-    Found::Nothing
+    None
 }
 
-fn twin_of_few(store: &[u32], mark: u32) -> Found
+fn twin_of_few(store: &[u32], mark: u32) -> Option<u32>
     requires { mark ≤ 512 }
     ensures { place_of result ≡ twin store.now mark }
 {
@@ -38,7 +37,7 @@ fn twin_of_few(store: &[u32], mark: u32) -> Found
 
 // At most 131,072 nodes, which is as many as a store can have. It calls itself where there are more: a function that does is not
 // drawn into its caller, whose frame would hold the index for the whole run.
-fn twin_of_many(store: &[u32], mark: u32) -> Found
+fn twin_of_many(store: &[u32], mark: u32) -> Option<u32>
     ensures { place_of result ≡ twin store.now (min mark 131072) }
 {
     if 131072 < mark {
@@ -49,7 +48,7 @@ fn twin_of_many(store: &[u32], mark: u32) -> Found
 }
 
 // The lowest node below the mark with an earlier one's words.
-pub fn first_twin(store: &[u32], mark: u32) -> Found
+pub fn first_twin(store: &[u32], mark: u32) -> Option<u32>
     requires { mark ≤ 131072 }
     ensures { place_of result ≡ twin store.now mark }
 {

@@ -9,7 +9,7 @@ use lib.ListN.{length, get_or, take, drop}
 use lib.Seq.{paste}
 use Rattle.words.specs.Words.{rows}
 use Rattle.checks.specs.Kinds.{ours}
-use Rattle.checks.specs.declared.Checked.{Checked}
+use Rattle.checks.specs.Checked.{Checked}
 use Rattle.meaning.specs.Table.{table}
 use Rattle.meaning.specs.Store.{Input, Accepted}
 use Rattle.meaning.specs.Shared.{twin}
@@ -23,7 +23,7 @@ use Rattle.cycle.specs.Cycle.{Hinted, Ready}
 use Rattle.loading.specs.Loaded.{Opened}
 use Rattle.calls.specs.Many.{Module, handed, single}
 use Rattle.calls.specs.Indexed.{indexed_many_refused}
-use Rattle.calls.specs.declared.Outcome.{Outcome}
+use Rattle.calls.specs.Outcome.{Outcome}
 use Rattle.calls.proofs.Turns.{words, Given, Stands, accepted-single}
 use Rattle.calls.proofs.IndexedTurns.{Apart, IndexedGoing, indexed-going-first, indexed-going-next}
 use Rattle.running.specs.Ends.{RanAccepted}

@@ -16,7 +16,7 @@ use Rattle.std.specs.Prelude.{if◌then◌else◌}
 use Rattle.words.proofs.Tests.{below-or-from}
 use Rattle.words.proofs.Rows.{length-cleared_from, get_or-cleared_from-below, get_or-cleared_from-from}
 use Rattle.checks.specs.Kinds.{ours}
-use Rattle.checks.specs.declared.Checked.{Checked}
+use Rattle.checks.specs.Checked.{Checked}
 use Rattle.checks.specs.declared.Found.{Found}
 use Rattle.checks.specs.declared.Found.TheVariants.{At, Nothing}
 use Rattle.checks.specs.Checked.{checked, found, place_of}

@@ -1,14 +1,15 @@
 // What the calls with an index refuse: a run's refusals, too short an index among the sizes, and a node with an earlier one's words.
 ghost use Rattle.std.specs.Prelude.{◌≡◌, List, ℕ, min, length};
-ghost use Rattle.calls.specs.Refused.{lent_if};
+ghost use Rattle.calls.specs.Refused.{lent_signature};
 ghost use Rattle.calls.specs.Run.{input};
 ghost use Rattle.calls.specs.Many.{handed};
 ghost use Rattle.calls.specs.Indexed.{indexed_words_refused_by, indexed_refused, indexed_many_refused};
 ghost use Rattle.checks.specs.Kinds.{ours};
+ghost use Rattle.checks.specs.Numbers.{checked_of};
 
-use checks::{Checked, Found};
+use checks::refusal::Refusal;
 use index::twins::first_twin;
-use refusals::{start_fits, starts_fit, words_refusal};
+use refusals::{check_words, start_fits, starts_fit};
 
 // How many of the lent words are the store's: as many as are said, or all.
 pub fn store_words(words: usize, all: usize) -> usize
@@ -21,44 +22,30 @@ pub fn store_words(words: usize, all: usize) -> usize
 }
 
 // What is refused before the start is looked at. The index has `size` words.
-fn indexed_words_refusal(
+fn check_indexed_words(
     table: &[u32],
     store: &[u32],
     bindings: &[u32],
     mark: u32,
     size: usize,
-    signed: bool,
-    signature: &[u32],
-) -> Checked
-    ensures { (x : List ℕ) → length x ≡ size → result
-        ≡ indexed_words_refused_by ours (lent_if signed signature.now) table.now store.now
+    signature: Option<&[u32]>,
+) -> Result<(), Refusal>
+    ensures { (x : List ℕ) → length x ≡ size → checked_of result
+        ≡ indexed_words_refused_by ours (lent_signature signature.entry) table.now store.now
         bindings.now mark x }
 {
     if size / 2 < store.len() / 8 {
-        return Checked {
-            answer: 2,
-            place: 0,
-        };
+        return Err(Refusal::Sizes);
     }
-    let words = words_refusal(table, store, bindings, mark, signed, signature);
-    if words.answer != 0 {
-        return words;
-    }
-    let twin = first_twin(store, mark);
-    match twin {
-        Found::At(k) => Checked {
-            answer: 21,
-            place: k,
-        },
-        Found::Nothing => Checked {
-            answer: 0,
-            place: 0,
-        },
+    check_words(table, store, bindings, mark, signature)?;
+    match first_twin(store, mark) {
+        Some(k) => Err(Refusal::Twin(k)),
+        None => Ok(()),
     }
 }
 
-// The refusal, or 0 with place 0.
-pub fn indexed_refusal(
+// What a run with an index refuses.
+pub fn check_indexed_run(
     table: &[u32],
     store: &[u32],
     bindings: &[u32],
@@ -66,31 +53,21 @@ pub fn indexed_refusal(
     start: u32,
     subject: u32,
     size: usize,
-    signed: bool,
-    signature: &[u32],
-) -> Checked
-    ensures { (x : List ℕ) (units : ℕ) → length x ≡ size → result
-        ≡ indexed_refused (lent_if signed signature.now)
+    signature: Option<&[u32]>,
+) -> Result<(), Refusal>
+    ensures { (x : List ℕ) (units : ℕ) → length x ≡ size → checked_of result
+        ≡ indexed_refused (lent_signature signature.entry)
         (input table.now store.now bindings.now mark start subject units) x }
 {
-    let words = indexed_words_refusal(table, store, bindings, mark, size, signed, signature);
-    if words.answer != 0 {
-        return words;
-    }
+    check_indexed_words(table, store, bindings, mark, size, signature)?;
     if !start_fits(table, bindings, mark, start, subject) {
-        return Checked {
-            answer: 5,
-            place: 0,
-        };
+        return Err(Refusal::Start);
     }
-    Checked {
-        answer: 0,
-        place: 0,
-    }
+    Ok(())
 }
 
-// The refusal of a call over many subjects, whose list of results has n words; or 0 with place 0.
-pub(crate) fn indexed_many_refusal(
+// What a call over many subjects with an index refuses, whose list of results has n words.
+pub(crate) fn check_indexed_many(
     table: &[u32],
     store: &[u32],
     bindings: &[u32],
@@ -99,37 +76,18 @@ pub(crate) fn indexed_many_refusal(
     subjects: &[u32],
     n: usize,
     size: usize,
-    signed: bool,
-    signature: &[u32],
-) -> Checked
-    ensures { (results x : List ℕ) (units : ℕ) → length results ≡ n → length x ≡ size → result
-        ≡ indexed_many_refused (lent_if signed signature.now)
+    signature: Option<&[u32]>,
+) -> Result<(), Refusal>
+    ensures { (results x : List ℕ) (units : ℕ) → length results ≡ n → length x ≡ size → checked_of result
+        ≡ indexed_many_refused (lent_signature signature.entry)
         (handed table.now store.now bindings.now mark start subjects.now units results) x }
 {
-    if n / 5 != subjects.len() {
-        return Checked {
-            answer: 2,
-            place: 0,
-        };
+    if n / 5 != subjects.len() || n % 5 != 0 {
+        return Err(Refusal::Sizes);
     }
-    if n % 5 != 0 {
-        return Checked {
-            answer: 2,
-            place: 0,
-        };
-    }
-    let words = indexed_words_refusal(table, store, bindings, mark, size, signed, signature);
-    if words.answer != 0 {
-        return words;
-    }
+    check_indexed_words(table, store, bindings, mark, size, signature)?;
     if !starts_fit(table, bindings, mark, start, subjects) {
-        return Checked {
-            answer: 5,
-            place: 0,
-        };
+        return Err(Refusal::Start);
     }
-    Checked {
-        answer: 0,
-        place: 0,
-    }
+    Ok(())
 }

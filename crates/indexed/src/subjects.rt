@@ -1,12 +1,12 @@
 // The call over many subjects with an index. The index is built once, before the first subject, and cleared once, at the end.
 ghost use Rattle.std.specs.Prelude.{◌≡◌, take, drop};
-ghost use Rattle.std.proofs.Math.Option.{none, some};
-ghost use Rattle.calls.specs.Refused.{lent_if};
+ghost use Rattle.checks.specs.Numbers.{checked_of};
+ghost use Rattle.calls.specs.Refused.{lent_signature};
 ghost use Rattle.calls.specs.Many.{handed};
 ghost use Rattle.calls.specs.Indexed.{indexed_many_at_return, indexed_many_of};
 
-use crate::refusing::{indexed_many_refusal, store_words};
-use checks::Checked;
+use crate::refusing::{check_indexed_many, store_words};
+use checks::refusal::Refusal;
 use index::lent::build;
 use loading::{load, opened};
 use many::put_five;
@@ -14,9 +14,9 @@ use running::run_accepted;
 use state::record::TOP;
 use words::clear_from;
 
-// Refused by number, with nothing written, or run on each subject in turn. The first `words` of what is lent are the store's, and the rest
-// is the index. Without subjects nothing is written.
-fn run_many_indexed_lent(
+// Refused, with nothing written, or run on each subject in turn. The first `words` of what is lent are the store's, and the rest is the
+// index. Without subjects nothing is written. A signature that is lent may be empty.
+pub fn run_many_indexed(
     table: &[u32],
     lent: &mut [u32],
     words: usize,
@@ -26,11 +26,10 @@ fn run_many_indexed_lent(
     subjects: &[u32],
     units: u32,
     results: &mut [u32],
-    signed: bool,
-    signature: &[u32],
-) -> Checked
-    ensures { indexed_many_at_return result results.new (take words lent.new) (drop words lent.new)
-        ≡ indexed_many_of (lent_if signed signature.now)
+    signature: Option<&[u32]>,
+) -> Result<(), Refusal>
+    ensures { indexed_many_at_return (checked_of result) results.new (take words lent.new) (drop words lent.new)
+        ≡ indexed_many_of (lent_signature signature.entry)
         (handed table.now (take words lent.old) bindings.now mark start subjects.now units
         results.old) (drop words lent.old) }
 {
@@ -38,7 +37,7 @@ fn run_many_indexed_lent(
     let own = store_words(words, all);
     let size = all - own;
     let listed = results.len();
-    let refused = indexed_many_refusal(
+    check_indexed_many(
         table,
         &lent[..own],
         bindings,
@@ -47,17 +46,10 @@ fn run_many_indexed_lent(
         subjects,
         listed,
         size,
-        signed,
         signature,
-    );
-    if refused.answer != 0 {
-        return refused;
-    }
+    )?;
     if subjects.len() == 0 {
-        return Checked {
-            answer: 0,
-            place: 0,
-        };
+        return Ok(());
     }
     let nodes = (own / 8) as u32;
     clear_from(lent, own);
@@ -72,69 +64,9 @@ fn run_many_indexed_lent(
         let r = run_accepted(&code, lent, &mut st, start, subjects[j], units);
         left = r.mark;
         top = st[TOP];
-        put_five(
-            results,
-            5 * j,
-            [r.answer, r.place, r.subject, r.mark, r.units],
-        );
+        put_five(results, 5 * j, r.numbers());
         j += 1;
     }
     clear_from(lent, 8 * (left as usize));
-    Checked {
-        answer: 0,
-        place: 0,
-    }
-}
-
-// The call over many subjects with an index. No signature is lent.
-pub fn run_many_indexed(
-    table: &[u32],
-    lent: &mut [u32],
-    words: usize,
-    bindings: &[u32],
-    mark: u32,
-    start: u32,
-    subjects: &[u32],
-    units: u32,
-    results: &mut [u32],
-) -> Checked
-    ensures { indexed_many_at_return result results.new (take words lent.new) (drop words lent.new)
-        ≡ indexed_many_of none (handed table.now (take words lent.old) bindings.now mark start
-        subjects.now units results.old) (drop words lent.old) }
-{
-    run_many_indexed_lent(
-        table,
-        lent,
-        words,
-        bindings,
-        mark,
-        start,
-        subjects,
-        units,
-        results,
-        false,
-        &table[..0],
-    )
-}
-
-// The same with a signature, which may be empty.
-pub fn run_many_indexed_signed(
-    table: &[u32],
-    lent: &mut [u32],
-    words: usize,
-    bindings: &[u32],
-    mark: u32,
-    start: u32,
-    subjects: &[u32],
-    units: u32,
-    results: &mut [u32],
-    signature: &[u32],
-) -> Checked
-    ensures { indexed_many_at_return result results.new (take words lent.new) (drop words lent.new)
-        ≡ indexed_many_of (some signature.now) (handed table.now (take words lent.old)
-        bindings.now mark start subjects.now units results.old) (drop words lent.old) }
-{
-    run_many_indexed_lent(
-        table, lent, words, bindings, mark, start, subjects, units, results, true, signature,
-    )
+    Ok(())
 }

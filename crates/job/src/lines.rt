@@ -9,7 +9,7 @@ ghost use Rattle.job.specs.Lines.{letter_of, name_of, job_fits, node_fits, bindi
 use crate::Taken;
 use checks::kinds::{SCOPE, VARIABLES};
 use text::Numbers;
-use text::field::{Field, Value, next_at, number, number_within, numbers};
+use text::field::{next_at, number, number_within, numbers};
 use text::reader::line_from;
 
 // The name of one letter; 4 for none.
@@ -166,7 +166,7 @@ fn entry_of(line: &[u8], end: usize, next: usize) -> Taken
     }
     let kind_end = next_at(line, end + 1, 9);
     let kind = number(&line[end + 1..kind_end]);
-    let Field::Number(k) = kind else {
+    let Some(k) = kind else {
         return none(next);
     };
     if line.len() <= kind_end {
@@ -174,7 +174,7 @@ fn entry_of(line: &[u8], end: usize, next: usize) -> Taken
     }
     let argument_end = next_at(line, kind_end + 1, 9);
     let argument = number_within(&line[kind_end + 1..argument_end], 18446744073709551615);
-    let Value::Wide(a) = argument else {
+    let Some(a) = argument else {
         return none(next);
     };
     entry_line(k, a, numbers(line, argument_end), next)

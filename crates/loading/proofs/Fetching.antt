@@ -13,7 +13,7 @@ use Rattle.words.proofs.Tests.{below-or-from}
 use Rattle.checks.specs.Kinds.{ours, variables, lines, line_of, kind, highest_by, argument_words_by, operands_from_by, sort_of, takes}
 use Rattle.checks.specs.Good.{kind_of, operand_count, argument_of, number, operand_by, good_entry}
 use Rattle.checks.specs.Plain.{TableLength, Entry}
-use Rattle.checks.specs.declared.Checked.{Checked}
+use Rattle.checks.specs.Checked.{Checked}
 use Rattle.checks.specs.declared.kinds.Sort.{Sort}
 use Rattle.checks.specs.declared.kinds.Sort.TheVariants.{Strategy, Pattern, Neither}
 use Rattle.checks.specs.Checked.{checked, table_checked}

@@ -15,7 +15,7 @@ use Rattle.words.proofs.Tests.{below-or-from}
 use Rattle.checks.specs.Kinds.{ours, kind, lines, line_of, sort_of, takes, highest_by, argument_words_by, operands_from_by}
 use Rattle.checks.specs.Good.{kind_of, operand_count, argument_of, number, mask_by, good_entry_by}
 use Rattle.checks.specs.Plain.{TableLength, EntryBy}
-use Rattle.checks.specs.declared.Checked.{Checked}
+use Rattle.checks.specs.Checked.{Checked}
 use Rattle.checks.specs.declared.kinds.Sort.{Sort}
 use Rattle.checks.specs.declared.kinds.Sort.TheVariants.{Strategy, Pattern, Neither}
 use Rattle.checks.specs.Checked.{checked, table_checked_by}

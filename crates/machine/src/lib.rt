@@ -7,7 +7,6 @@ ghost use Rattle.machine.specs.Machine.{Lent, Carried, Turned, Gone};
 
 use crate::frames::{copy_words, kept_mask, move_on, open, restore, take_turn};
 use crate::nodes::{put_node, row_inside, standing_leaf, standing_row};
-use checks::Found;
 use turns::turn::{Act, RECORD, Turn};
 
 mod frames;
@@ -98,7 +97,7 @@ fn act(
         Act::Leaf => {
             if shares {
                 let found = standing_leaf(store, m.mark, t.x);
-                if let Found::At(y) = found {
+                if let Some(y) = found {
                     return state(m, i, SUCCEEDED, 0, y);
                 }
             }
@@ -107,7 +106,7 @@ fn act(
         Act::Made => {
             if shares {
                 let found = standing_row(store, work, 10 * i + 1, m.mark);
-                if let Found::At(y) = found {
+                if let Some(y) = found {
                     return state(m, i, SUCCEEDED, 0, y);
                 }
             }

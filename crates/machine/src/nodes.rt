@@ -9,7 +9,6 @@ ghost use Rattle.machine.specs.Stack.{row_at};
 ghost use Rattle.machine.specs.Machine.{child_or0, Node};
 
 use crate::{FULL, Machine, SUCCEEDED};
-use checks::Found;
 use index::chains::has;
 use turns::turn::few;
 use words::put_row;
@@ -69,28 +68,28 @@ fn padded(row: [u32; 8]) -> [u32; 8]
 }
 
 // The node below the mark that has these words.
-fn standing(store: &[u32], mark: u32, row: [u32; 8]) -> Found
+fn standing(store: &[u32], mark: u32, row: [u32; 8]) -> Option<u32>
     ensures { place_of result ≡ node_with store.now row mark }
 {
     let mut k = mark;
     while 0 < k {
         k -= 1;
         if has(store, k, row) {
-            return Found::At(k);
+            return Some(k);
         }
     }
-    Found::Nothing
+    None
 }
 
 // The node of the constructor c without children, where it stands. What is asked for is told by numbers: a row would be in memory.
-pub(crate) fn standing_leaf(store: &[u32], mark: u32, c: u32) -> Found
+pub(crate) fn standing_leaf(store: &[u32], mark: u32, c: u32) -> Option<u32>
     ensures { place_of result ≡ node_with store.now (node_row c []) mark }
 {
     standing(store, mark, padded([c, 0, 0, 0, 0, 0, 0, 0]))
 }
 
 // The node of row r of the list of frames, where it stands.
-pub(crate) fn standing_row(store: &[u32], work: &[u32], r: u32, mark: u32) -> Found
+pub(crate) fn standing_row(store: &[u32], work: &[u32], r: u32, mark: u32) -> Option<u32>
     requires { 8 * r + 8 ≤ length work.now }
     ensures { place_of result ≡ node_with store.now (node_row (word_at work.now r 0) (kids (row_at work.now r))) mark }
 {

@@ -3,14 +3,14 @@
 #![tactic(auto)]
 
 ghost use Rattle.std.specs.Prelude.{◌≡◌, ◌+◌, ◌≤◌, length};
-ghost use Rattle.std.proofs.Math.Option.{none, some};
 ghost use Rattle.std.proofs.Math.Seq.{paste};
-ghost use Rattle.calls.specs.Refused.{lent_if};
+ghost use Rattle.checks.specs.Numbers.{checked_of};
+ghost use Rattle.calls.specs.Refused.{lent_signature};
 ghost use Rattle.calls.specs.Many.{handed, many_at_return, many_of};
 
-use checks::Checked;
+use checks::refusal::Refusal;
 use loading::{load, opened};
-use refusals::many_refusal;
+use refusals::check_many;
 use running::run_accepted;
 use words::clear_from;
 
@@ -26,9 +26,10 @@ pub fn put_five(results: &mut [u32], at: usize, numbers: [u32; 5])
     }
 }
 
-// Refused by number, with nothing written, or run on each subject in turn. A subject begins with the given bindings, its own units and
-// the mark that the one before left; words from the mark on are of no account to it. Without subjects nothing is written.
-fn run_many_lent(
+// Refused, with nothing written, or run on each subject in turn. A subject begins with the given bindings, its own units and the mark that
+// the one before left; words from the mark on are of no account to it. Without subjects nothing is written. A signature that is lent may
+// be empty.
+pub fn run_many(
     table: &[u32],
     store: &mut [u32],
     bindings: &[u32],
@@ -37,32 +38,18 @@ fn run_many_lent(
     subjects: &[u32],
     units: u32,
     results: &mut [u32],
-    signed: bool,
-    signature: &[u32],
-) -> Checked
-    ensures { many_at_return result results.new store.new
-        ≡ many_of (lent_if signed signature.now) (handed table.now store.old bindings.now mark
+    signature: Option<&[u32]>,
+) -> Result<(), Refusal>
+    ensures { many_at_return (checked_of result) results.new store.new
+        ≡ many_of (lent_signature signature.entry) (handed table.now store.old bindings.now mark
         start subjects.now units results.old) }
 {
-    let refused = many_refusal(
-        table,
-        store,
-        bindings,
-        mark,
-        start,
-        subjects,
-        results.len(),
-        signed,
-        signature,
-    );
-    if refused.answer != 0 {
-        return refused;
-    }
+    let listed = results.len();
+    check_many(
+        table, store, bindings, mark, start, subjects, listed, signature,
+    )?;
     if subjects.len() == 0 {
-        return Checked {
-            answer: 0,
-            place: 0,
-        };
+        return Ok(());
     }
     let mut code = [0u32; 32768];
     load(&mut code, table);
@@ -73,66 +60,9 @@ fn run_many_lent(
         let mut st = opened(bindings, left, nodes, 0, 0);
         let r = run_accepted(&code, store, &mut st, start, subjects[j], units);
         left = r.mark;
-        put_five(
-            results,
-            5 * j,
-            [r.answer, r.place, r.subject, r.mark, r.units],
-        );
+        put_five(results, 5 * j, r.numbers());
         j += 1;
     }
     clear_from(store, 8 * (left as usize));
-    Checked {
-        answer: 0,
-        place: 0,
-    }
-}
-
-// The call over many subjects. No signature is lent.
-pub fn run_many(
-    table: &[u32],
-    store: &mut [u32],
-    bindings: &[u32],
-    mark: u32,
-    start: u32,
-    subjects: &[u32],
-    units: u32,
-    results: &mut [u32],
-) -> Checked
-    ensures { many_at_return result results.new store.new
-        ≡ many_of none (handed table.now store.old bindings.now mark start subjects.now units
-        results.old) }
-{
-    run_many_lent(
-        table,
-        store,
-        bindings,
-        mark,
-        start,
-        subjects,
-        units,
-        results,
-        false,
-        &table[..0],
-    )
-}
-
-// The call over many subjects with a signature, which may be empty.
-pub fn run_many_signed(
-    table: &[u32],
-    store: &mut [u32],
-    bindings: &[u32],
-    mark: u32,
-    start: u32,
-    subjects: &[u32],
-    units: u32,
-    results: &mut [u32],
-    signature: &[u32],
-) -> Checked
-    ensures { many_at_return result results.new store.new
-        ≡ many_of (some signature.now) (handed table.now store.old bindings.now mark start
-        subjects.now units results.old) }
-{
-    run_many_lent(
-        table, store, bindings, mark, start, subjects, units, results, true, signature,
-    )
+    Ok(())
 }

@@ -2,7 +2,7 @@
 use mathlib.Core.Path.{◌≡◌}
 use mathlib.Core.List.{List}
 use Prim.Native.Nat.{ℕ}
-use Rattle.tallying.specs.declared.Counted.{Counted}
+use Rattle.tallying.specs.Added.{Counted}
 use Rattle.tallying.specs.Added.{CountedReturned, counted_at_return}
 use Rattle.counting.specs.Counted.{IndexedCountedReturned, indexed_counted_at_return}
 

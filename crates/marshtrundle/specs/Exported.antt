@@ -1,12 +1,12 @@
 -- The numbers that an exported function leaves in the array that its caller lends, as what the function itself returns.
 use Rattle.std.specs.Prelude.{List, ℕ, get_or}
-use Rattle.checks.specs.declared.Checked.{Checked}
-use Rattle.collect.specs.declared.Collected.{Collected}
-use Rattle.free.specs.declared.FreeVariables.{FreeVariables}
-use Rattle.calls.specs.declared.Outcome.{Outcome}
-use Rattle.tallying.specs.declared.Counted.{Counted}
-use Rattle.check_rules.specs.declared.check.Translated.{Translated}
-use Rattle.write_rules.specs.declared.rule.Written.{Written}
+use Rattle.checks.specs.Checked.{Checked}
+use Rattle.collect.specs.Collected.{Collected}
+use Rattle.free.specs.Answered.{FreeVariables}
+use Rattle.calls.specs.Outcome.{Outcome}
+use Rattle.tallying.specs.Added.{Counted}
+use Rattle.check_rules.specs.Check.{Translated}
+use Rattle.write_rules.specs.Written.{Written}
 
 -- answer and place
 abbrev pub two : List ℕ → Checked

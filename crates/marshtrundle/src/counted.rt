@@ -3,28 +3,33 @@
 ghost use Rattle.std.specs.Prelude.{◌≡◌, take, drop};
 ghost use Rattle.std.proofs.Math.Option.{none, some};
 ghost use Rattle.calls.specs.Run.{input};
-ghost use Rattle.tallying.specs.Added.{counted_at_return};
+ghost use Rattle.tallying.specs.Added.{counted_at_return, counted_outcome};
 ghost use Rattle.counting.specs.Counted.{counted_of, indexed_counted_at_return, indexed_counted_of};
 ghost use Rattle.marshtrundle.specs.Exported.{seven};
 
-use counting::{run_counted, run_counted_signed, run_indexed_counted, run_indexed_counted_signed};
-use tallying::Counted;
+use checks::refusal::Refusal;
+use counting::{run_counted, run_indexed_counted};
+use tallying::RanCounted;
 
-// What a run returns, as an array.
-fn numbers_of(r: Counted) -> [u32; 7]
-    ensures { seven result ≡ r }
+// What a counted run comes to, as an array; subject and mark as given and no visits where it is refused.
+fn seven_numbers(r: Result<RanCounted, Refusal>, subject: u32, mark: u32) -> [u32; 7]
+    ensures { seven result ≡ counted_outcome r subject mark }
 {
-    let ended = r.ended;
-    let seen = r.seen;
-    [
-        ended.answer,
-        ended.place,
-        ended.subject,
-        ended.mark,
-        ended.units,
-        seen.patterns,
-        seen.pairs,
-    ]
+    match r {
+        Ok(counted) => {
+            let [answer, place, k, m, units] = counted.ran.numbers();
+            [
+                answer,
+                place,
+                k,
+                m,
+                units,
+                counted.seen.patterns,
+                counted.seen.pairs,
+            ]
+        }
+        Err(e) => [e.answer(), e.place(), subject, mark, 0, 0, 0],
+    }
 }
 
 // The run: answer, place, subject, mark and units used, then the visits of patterns and of pairs.
@@ -42,8 +47,8 @@ pub fn marshtrundle_run_counted(
     ensures { counted_at_return (seven numbers.new) store.new bindings.new counts.new
         ≡ counted_of none (input table.now store.old bindings.old mark start subject units) counts.old }
 {
-    let r = run_counted(table, store, bindings, mark, start, subject, units, counts);
-    *numbers = numbers_of(r);
+    let r = run_counted(table, store, bindings, mark, start, subject, units, counts, None);
+    *numbers = seven_numbers(r, subject, mark);
 }
 
 // The same with a signature.
@@ -62,10 +67,9 @@ pub fn marshtrundle_run_counted_signed(
     ensures { counted_at_return (seven numbers.new) store.new bindings.new counts.new
         ≡ counted_of (some signature.now) (input table.now store.old bindings.old mark start subject units) counts.old }
 {
-    let r = run_counted_signed(
-        table, store, bindings, mark, start, subject, units, counts, signature,
-    );
-    *numbers = numbers_of(r);
+    let r = run_counted(
+        table, store, bindings, mark, start, subject, units, counts, Some(signature));
+    *numbers = seven_numbers(r, subject, mark);
 }
 
 // The run with an index: the first `words` of `lent` are the store's, and the rest is the index.
@@ -94,9 +98,8 @@ pub fn marshtrundle_run_indexed_counted(
         start,
         subject,
         units,
-        counts,
-    );
-    *numbers = numbers_of(r);
+        counts, None);
+    *numbers = seven_numbers(r, subject, mark);
 }
 
 // The same with a signature.
@@ -117,7 +120,7 @@ pub fn marshtrundle_run_indexed_counted_signed(
         ≡ indexed_counted_of (some signature.now) (input table.now (take words lent.old) bindings.old mark start subject units)
         (drop words lent.old) counts.old }
 {
-    let r = run_indexed_counted_signed(
+    let r = run_indexed_counted(
         table,
         lent,
         words as usize,
@@ -127,7 +130,6 @@ pub fn marshtrundle_run_indexed_counted_signed(
         subject,
         units,
         counts,
-        signature,
-    );
-    *numbers = numbers_of(r);
+        Some(signature));
+    *numbers = seven_numbers(r, subject, mark);
 }

@@ -11,14 +11,17 @@ ghost use Rattle.translate.specs.Added.{Translating};
 ghost use Rattle.write_rules.specs.Written.{RuleWritten};
 ghost use Rattle.marshtrundle.specs.Exported.{two, three, four, five, translation, writing};
 
+use calls::five_numbers;
+use check_rules::check::four_numbers as translation_numbers;
 use checks::entries::check_table;
 use checks::nodes::check_store;
-use collect::collect;
-use free::free_variables;
-use many::{run_many, run_many_signed};
-use running::{run, run_signed};
+use checks::refusal::numbers_of;
+use collect::{collect, four_numbers};
+use free::{free_variables, three_numbers};
+use many::run_many;
+use running::run;
 use translate::translate::translate;
-use write_rules::rule::write_rule;
+use write_rules::rule::{three_numbers as writing_numbers, write_rule};
 
 // The run: answer, place, subject, mark and units used.
 pub fn marshtrundle_run(
@@ -34,8 +37,10 @@ pub fn marshtrundle_run(
     ensures { at_return (five numbers.new) store.new bindings.new
         ≡ run_of (input table.now store.old bindings.old mark start subject units) }
 {
-    let r = run(table, store, bindings, mark, start, subject, units);
-    *numbers = [r.answer, r.place, r.subject, r.mark, r.units];
+    let r = run(
+        table, store, bindings, mark, start, subject, units, None,
+    );
+    *numbers = five_numbers(r, subject, mark);
 }
 
 // The run with a signature: the same five numbers.
@@ -54,16 +59,17 @@ pub fn marshtrundle_run_signed(
         ≡ run_with (some signature.now) (input table.now store.old bindings.old mark start
         subject units) }
 {
-    let ended = run_signed(
-        table, store, bindings, mark, start, subject, units, signature,
+    let r = run(
+        table,
+        store,
+        bindings,
+        mark,
+        start,
+        subject,
+        units,
+        Some(signature),
     );
-    *numbers = [
-        ended.answer,
-        ended.place,
-        ended.subject,
-        ended.mark,
-        ended.units,
-    ];
+    *numbers = five_numbers(r, subject, mark);
 }
 
 // A whole module in one call: answer and place. Five numbers for each subject go into `results`.
@@ -83,9 +89,9 @@ pub fn marshtrundle_run_many(
         results.old) }
 {
     let r = run_many(
-        table, store, bindings, mark, start, subjects, units, results,
+        table, store, bindings, mark, start, subjects, units, results, None,
     );
-    *numbers = [r.answer, r.place];
+    *numbers = numbers_of(r);
 }
 
 // The same with a signature.
@@ -105,10 +111,18 @@ pub fn marshtrundle_run_many_signed(
         ≡ many_of (some signature.now) (handed table.now store.old bindings.now mark start
         subjects.now units results.old) }
 {
-    let r = run_many_signed(
-        table, store, bindings, mark, start, subjects, units, results, signature,
+    let r = run_many(
+        table,
+        store,
+        bindings,
+        mark,
+        start,
+        subjects,
+        units,
+        results,
+        Some(signature),
     );
-    *numbers = [r.answer, r.place];
+    *numbers = numbers_of(r);
 }
 
 // The collection: answer, place, subject and mark.
@@ -123,32 +137,28 @@ pub fn marshtrundle_collect(
     ensures { at_end (four numbers.new) store.new bindings.new work.new
         ≡ collected_of (lent store.old bindings.old work.old mark subject) }
 {
-    let r = collect(store, bindings, work, mark, subject);
-    *numbers = [r.answer, r.place, r.subject, r.mark];
+    *numbers = four_numbers(collect(store, bindings, work, mark, subject), subject, mark);
 }
 
 // The question of free variables: answer, place and mask, as numbers of 64 bits, for the mask has so many.
 pub fn marshtrundle_free_variables(table: &[u32], entry: u32, numbers: &mut [u64; 3])
     ensures { Answered table.now entry (three numbers.new) }
 {
-    let r = free_variables(table, entry);
-    *numbers = [r.answer as u64, r.place as u64, r.mask];
+    *numbers = three_numbers(free_variables(table, entry));
 }
 
 // The table check: answer and place.
 pub fn marshtrundle_check_table(table: &[u32], numbers: &mut [u32; 2])
     ensures { two numbers.new ≡ table_checked table.now }
 {
-    let r = check_table(table);
-    *numbers = [r.answer, r.place];
+    *numbers = numbers_of(check_table(table));
 }
 
 // The store check: answer and place.
 pub fn marshtrundle_check_store(store: &[u32], mark: u32, numbers: &mut [u32; 2])
     ensures { two numbers.new ≡ store_checked store.now mark }
 {
-    let r = check_store(store, mark);
-    *numbers = [r.answer, r.place];
+    *numbers = numbers_of(check_store(store, mark));
 }
 
 // Rules as text into a table: answer, line, field and the entries in use, as numbers of 64 bits, for a line has as many fields as it
@@ -161,13 +171,7 @@ pub fn marshtrundle_translate_rules(
 )
     ensures { Translating table.old used text.now (translation numbers.new) table.new }
 {
-    let r = translate(table, used, text);
-    *numbers = [
-        r.answer as u64,
-        r.line as u64,
-        r.field as u64,
-        r.used as u64,
-    ];
+    *numbers = translation_numbers(translate(table, used, text), used);
 }
 
 // A rule of a table as a line of text: answer, place and length, as numbers of 64 bits.
@@ -180,6 +184,5 @@ pub fn marshtrundle_write_rule(
 )
     ensures { RuleWritten table.now used entry buffer.old (writing numbers.new) buffer.new }
 {
-    let r = write_rule(table, used, entry, buffer);
-    *numbers = [r.answer as u64, r.place as u64, r.length as u64];
+    *numbers = writing_numbers(write_rule(table, used, entry, buffer));
 }

@@ -6,8 +6,10 @@ ghost use Rattle.calls.specs.Many.{handed};
 ghost use Rattle.calls.specs.Indexed.{indexed_at_return, indexed_of, indexed_many_at_return, indexed_many_of};
 ghost use Rattle.marshtrundle.specs.Exported.{two, five};
 
-use indexed::run::{run_indexed, run_indexed_signed};
-use indexed::subjects::{run_many_indexed, run_many_indexed_signed};
+use calls::five_numbers;
+use checks::refusal::numbers_of;
+use indexed::run::run_indexed;
+use indexed::subjects::run_many_indexed;
 
 // The run: answer, place, subject, mark and units used. The first `words` of `lent` are the store's, and the rest is the index.
 pub fn marshtrundle_run_indexed(
@@ -32,9 +34,8 @@ pub fn marshtrundle_run_indexed(
         mark,
         start,
         subject,
-        units,
-    );
-    *numbers = [r.answer, r.place, r.subject, r.mark, r.units];
+        units, None);
+    *numbers = five_numbers(r, subject, mark);
 }
 
 // The same with a signature.
@@ -53,7 +54,7 @@ pub fn marshtrundle_run_indexed_signed(
     ensures { indexed_at_return (five numbers.new) (take words lent.new) bindings.new (drop words lent.new)
         ≡ indexed_of (some signature.now) (input table.now (take words lent.old) bindings.old mark start subject units) (drop words lent.old) }
 {
-    let r = run_indexed_signed(
+    let r = run_indexed(
         table,
         lent,
         words as usize,
@@ -62,9 +63,8 @@ pub fn marshtrundle_run_indexed_signed(
         start,
         subject,
         units,
-        signature,
-    );
-    *numbers = [r.answer, r.place, r.subject, r.mark, r.units];
+        Some(signature));
+    *numbers = five_numbers(r, subject, mark);
 }
 
 // A whole module in one call, with an index: answer and place.
@@ -93,9 +93,8 @@ pub fn marshtrundle_run_many_indexed(
         start,
         subjects,
         units,
-        results,
-    );
-    *numbers = [r.answer, r.place];
+        results, None);
+    *numbers = numbers_of(r);
 }
 
 // The same with a signature.
@@ -116,7 +115,7 @@ pub fn marshtrundle_run_many_indexed_signed(
         ≡ indexed_many_of (some signature.now) (handed table.now (take words lent.old)
         bindings.now mark start subjects.now units results.old) (drop words lent.old) }
 {
-    let r = run_many_indexed_signed(
+    let r = run_many_indexed(
         table,
         lent,
         words as usize,
@@ -126,7 +125,6 @@ pub fn marshtrundle_run_many_indexed_signed(
         subjects,
         units,
         results,
-        signature,
-    );
-    *numbers = [r.answer, r.place];
+        Some(signature));
+    *numbers = numbers_of(r);
 }

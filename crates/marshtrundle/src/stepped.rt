@@ -5,7 +5,8 @@ ghost use Rattle.calls.specs.Run.{input};
 ghost use Rattle.stepping.specs.Stepping.{lists, Starts, StepsOn};
 ghost use Rattle.marshtrundle.specs.Exported.{five};
 
-use stepping::{start_run, start_run_signed, step_run};
+use calls::five_numbers;
+use stepping::{start_run, step_run};
 
 // The start: answer, place, subject, mark and units used. 25, or a refusal.
 pub fn marshtrundle_start(
@@ -22,8 +23,8 @@ pub fn marshtrundle_start(
     ensures { Starts none (input table.now store.now bindings.now mark start subject units)
         work.old (five numbers.new) work.new }
 {
-    let r = start_run(table, store, bindings, work, mark, start, subject, units);
-    *numbers = [r.answer, r.place, r.subject, r.mark, r.units];
+    let r = start_run(table, store, bindings, work, mark, start, subject, units, None);
+    *numbers = five_numbers(r, subject, mark);
 }
 
 // The same with a signature.
@@ -43,10 +44,9 @@ pub fn marshtrundle_start_signed(
         (input table.now store.now bindings.now mark start subject units) work.old
         (five numbers.new) work.new }
 {
-    let r = start_run_signed(
-        table, store, bindings, work, mark, start, subject, units, signature,
-    );
-    *numbers = [r.answer, r.place, r.subject, r.mark, r.units];
+    let r = start_run(
+        table, store, bindings, work, mark, start, subject, units, Some(signature));
+    *numbers = five_numbers(r, subject, mark);
 }
 
 // The step: so many visits, or fewer if the run ends. The same five numbers.
@@ -61,6 +61,5 @@ pub fn marshtrundle_step(
     ensures { StepsOn table.now (lists store.old bindings.old work.old) visits
         (five numbers.new) (lists store.new bindings.new work.new) }
 {
-    let r = step_run(table, store, bindings, work, visits);
-    *numbers = [r.answer, r.place, r.subject, r.mark, r.units];
+    *numbers = five_numbers(step_run(table, store, bindings, work, visits), 0, 0);
 }

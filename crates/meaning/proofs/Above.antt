@@ -16,7 +16,7 @@ use Rattle.words.proofs.Rows.{length-put_row}
 use Rattle.words.proofs.Tests.{below-or-from}
 use Rattle.checks.specs.Good.{kind_of, argument_of, operand_count, constructor_of, child_count}
 use Rattle.checks.specs.Signature.{Declared, entry_obeys, node_obeys}
-use Rattle.checks.specs.declared.Checked.{Checked}
+use Rattle.checks.specs.Checked.{Checked}
 use Rattle.checks.specs.Checked.{checked, table_checked_by}
 use Rattle.checks.specs.Promises.{AllGood}
 use Rattle.checks.proofs.Promises.{table_passes}

@@ -3,7 +3,7 @@
 use Rattle.std.specs.Prelude.{◌≡◌, List, [], ◌∷◌, ◌++◌, map, ℕ, zero, suc, ◌+◌, ◌-◌, ◌*◌, ◌/◌, ◌%◌, length, replicate, set}
 use Rattle.checks.specs.Kinds.{variables_by, argument_words_by}
 use Rattle.checks.specs.Checked.{table_checked_by, store_checked}
-use Rattle.checks.specs.declared.Checked.{Checked}
+use Rattle.checks.specs.Checked.{Checked}
 use Rattle.meaning.specs.Derivation.{places, nowhere}
 use Rattle.meaning.specs.Store.{Input, row, ran_by}
 use Rattle.meaning.specs.Answer.{Returned, returned_by}

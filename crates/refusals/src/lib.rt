@@ -2,14 +2,15 @@
 #![tactic(auto)]
 
 ghost use Rattle.std.specs.Prelude.{◌≡◌, List, ℕ, ◌≤◌, length};
+ghost use Rattle.checks.specs.Numbers.{checked_of};
 ghost use Rattle.calls.specs.Many.{handed, many_refused};
-ghost use Rattle.calls.specs.Refused.{sizes_fit, is_start, start_fits, subjects_below, starts_fit, lent_if, lent_fits, signature_obeyed, words_refused, refused_with};
+ghost use Rattle.calls.specs.Refused.{sizes_fit, is_start, start_fits, subjects_below, starts_fit, lent_signature, lent_fits, signature_obeyed, words_refused, refused_with};
 
-use checks::Checked;
 use checks::bindings::bindings_below;
 use checks::entries::{check_table, kind_of, table_length_fits};
 use checks::kinds::{Sort, VARIABLES, sort_of};
 use checks::nodes::{check_store, store_length_fits};
+use checks::refusal::Refusal;
 use checks::signature::{check_entries, check_nodes, signature_fits};
 
 // The lengths, and the mark within the store.
@@ -83,99 +84,71 @@ pub fn starts_fit(table: &[u32], bindings: &[u32], mark: u32, start: u32, subjec
 }
 
 // A lent signature fits; where none is lent there is nothing to fit.
-fn lent_fits(signed: bool, signature: &[u32]) -> bool
-    ensures { result ≡ lent_fits (lent_if signed signature.now) }
+fn lent_fits(signature: Option<&[u32]>) -> bool
+    ensures { result ≡ lent_fits (lent_signature signature.entry) }
 {
-    if !signed {
-        return true;
+    match signature {
+        Some(words) => signature_fits(words),
+        None => true,
     }
-    signature_fits(signature)
 }
 
-// The entries and the nodes below the mark obey a lent signature: 10 or 11 with the lowest that does not.
-fn obeyed(table: &[u32], store: &[u32], mark: u32, signed: bool, signature: &[u32]) -> Checked
+// The entries and the nodes below the mark obey a lent signature.
+fn check_obeyed(
+    table: &[u32],
+    store: &[u32],
+    mark: u32,
+    signature: Option<&[u32]>,
+) -> Result<(), Refusal>
     requires { length table.now ≤ 32768 }
-    ensures { result ≡ signature_obeyed (lent_if signed signature.now) table.now store.now mark }
+    ensures { checked_of result ≡ signature_obeyed (lent_signature signature.entry) table.now store.now mark }
 {
-    if !signed {
-        return Checked {
-            answer: 0,
-            place: 0,
-        };
-    }
-    let entry = check_entries(signature, table);
-    if entry.answer != 0 {
-        return entry;
-    }
-    check_nodes(signature, store, mark)
+    let Some(words) = signature else {
+        return Ok(());
+    };
+    check_entries(words, table)?;
+    check_nodes(words, store, mark)
 }
 
-// What every call that runs refuses before it looks at its start. The signature is looked at only where `signed` says that one is
-// lent.
-pub fn words_refusal(
+// What every call that runs refuses before it looks at its start.
+pub fn check_words(
     table: &[u32],
     store: &[u32],
     bindings: &[u32],
     mark: u32,
-    signed: bool,
-    signature: &[u32],
-) -> Checked
-    ensures { result ≡ words_refused (lent_if signed signature.now) table.now store.now bindings.now mark }
+    signature: Option<&[u32]>,
+) -> Result<(), Refusal>
+    ensures { checked_of result ≡ words_refused (lent_signature signature.entry) table.now store.now bindings.now mark }
 {
-    if !sizes_fit(table, store, bindings, mark) {
-        return Checked {
-            answer: 2,
-            place: 0,
-        };
+    if !sizes_fit(table, store, bindings, mark) || !lent_fits(signature) {
+        return Err(Refusal::Sizes);
     }
-    if !lent_fits(signed, signature) {
-        return Checked {
-            answer: 2,
-            place: 0,
-        };
-    }
-    let entry = check_table(table);
-    if entry.answer != 0 {
-        return entry;
-    }
-    let node = check_store(store, mark);
-    if node.answer != 0 {
-        return node;
-    }
-    obeyed(table, store, mark, signed, signature)
+    check_table(table)?;
+    check_store(store, mark)?;
+    check_obeyed(table, store, mark, signature)
 }
 
-// The refusal, or 0 with place 0.
-pub fn refusal(
+// What a run refuses.
+pub fn check_run(
     table: &[u32],
     store: &[u32],
     bindings: &[u32],
     mark: u32,
     start: u32,
     subject: u32,
-    signed: bool,
-    signature: &[u32],
-) -> Checked
-    ensures { result ≡ refused_with (lent_if signed signature.now) table.now store.now bindings.now mark start subject }
+    signature: Option<&[u32]>,
+) -> Result<(), Refusal>
+    ensures { checked_of result ≡ refused_with (lent_signature signature.entry) table.now store.now bindings.now mark start subject }
 {
-    let words = words_refusal(table, store, bindings, mark, signed, signature);
-    if words.answer != 0 {
-        return words;
-    }
+    check_words(table, store, bindings, mark, signature)?;
     if !start_fits(table, bindings, mark, start, subject) {
-        return Checked {
-            answer: 5,
-            place: 0,
-        };
+        return Err(Refusal::Start);
     }
-    Checked {
-        answer: 0,
-        place: 0,
-    }
+    Ok(())
 }
 
-// The refusal of a call over many subjects, whose list of results has n words; or 0 with place 0.
-pub fn many_refusal(
+// What a call over many subjects refuses, whose list of results has n words.
+pub fn check_many(
     table: &[u32],
     store: &[u32],
     bindings: &[u32],
@@ -183,37 +156,18 @@ pub fn many_refusal(
     start: u32,
     subjects: &[u32],
     n: usize,
-    signed: bool,
-    signature: &[u32],
-) -> Checked
-    ensures { (results : List ℕ) (units : ℕ) → length results ≡ n → result
-        ≡ many_refused (lent_if signed signature.now)
+    signature: Option<&[u32]>,
+) -> Result<(), Refusal>
+    ensures { (results : List ℕ) (units : ℕ) → length results ≡ n → checked_of result
+        ≡ many_refused (lent_signature signature.entry)
         (handed table.now store.now bindings.now mark start subjects.now units results) }
 {
-    if n / 5 != subjects.len() {
-        return Checked {
-            answer: 2,
-            place: 0,
-        };
+    if n / 5 != subjects.len() || n % 5 != 0 {
+        return Err(Refusal::Sizes);
     }
-    if n % 5 != 0 {
-        return Checked {
-            answer: 2,
-            place: 0,
-        };
-    }
-    let words = words_refusal(table, store, bindings, mark, signed, signature);
-    if words.answer != 0 {
-        return words;
-    }
+    check_words(table, store, bindings, mark, signature)?;
     if !starts_fit(table, bindings, mark, start, subjects) {
-        return Checked {
-            answer: 5,
-            place: 0,
-        };
+        return Err(Refusal::Start);
     }
-    Checked {
-        answer: 0,
-        place: 0,
-    }
+    Ok(())
 }

@@ -14,8 +14,8 @@ use Rattle.rules.specs.Rule.{Pat, Condition, none as no-pats, more as more-pats}
 use Rattle.rules.specs.Text.{Fields, pat_fields, conditions_fields, plain_end, plain-next, Read, bad, later, condition_of, read}
 use Rattle.rules.specs.Scan.{width, fields_from}
 use Rattle.rules.specs.Condition.{after_it, lost_after, ConditionAt, condition, none as no-condition}
-use Rattle.rules.specs.declared.condition.Found.{Found}
-use Rattle.rules.specs.declared.term.Term.{Term}
+use Rattle.rules.specs.Condition.{Found}
+use Rattle.rules.specs.Scan.{Term}
 use Rattle.rules.proofs.Reading.{ahead, pat-read}
 use Rattle.rules.proofs.Scanning.{fields-here, field-length}
 use Rattle.rules.proofs.Terms.{TermFound, term-good, term-bad}

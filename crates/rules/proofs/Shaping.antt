@@ -19,8 +19,8 @@ use Rattle.rules.specs.Entries.{size, sizes, code_size, condition_code, conditio
 use Rattle.rules.specs.Scan.{width, fields_from}
 use Rattle.rules.specs.Condition.{after_it, found_at, ConditionAt, condition, none as no-condition}
 use Rattle.rules.specs.Shape.{right_at, conditions_at, rule_size, shape_of}
-use Rattle.rules.specs.declared.condition.Found.{Found}
-use Rattle.rules.specs.declared.term.Term.{Term}
+use Rattle.rules.specs.Condition.{Found}
+use Rattle.rules.specs.Scan.{Term}
 use Rattle.rules.proofs.Reading.{ahead, pat-read, rule-read}
 use Rattle.rules.proofs.Bad.{read-within}
 use Rattle.rules.proofs.Scanning.{fields-past}

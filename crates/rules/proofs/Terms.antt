@@ -16,7 +16,7 @@ use Rattle.rules.specs.Rule.{Pat, Pats, var, con, none as no-pats, more as more-
 use Rattle.rules.specs.Text.{Fields, pat_fields, pats_fields, Plain, Plains, plain_more, Head, variable, constructor, neither, head_of, up_to_six, bad, read}
 use Rattle.rules.specs.Entries.{size, sizes}
 use Rattle.rules.specs.Scan.{width, fields_from, scanned, scanned_count, by_head, by_own_count, finished, stopped}
-use Rattle.rules.specs.declared.term.Term.{Term}
+use Rattle.rules.specs.Scan.{Term}
 use Rattle.rules.proofs.Scanning.{fields-here, field-length, fields-past}
 use Rattle.rules.proofs.Told.{same_end, told, Told, told-good, told-bad}
 

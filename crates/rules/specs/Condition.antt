@@ -5,7 +5,19 @@ use Rattle.rules.specs.Rule.{Condition}
 use Rattle.rules.specs.Text.{pat_fields, conditions_fields, PlainConditions, bad, read}
 use Rattle.rules.specs.Entries.{size}
 use Rattle.rules.specs.Scan.{width, fields_from}
-use Rattle.rules.specs.declared.condition.Found.{Found}
+use Rattle.std.specs.Prelude.{Bool, Result, Ok, Err}
+use Rattle.rules.specs.declared.condition.Condition as held
+
+-- what was read: whether the fields are good; the entry's number; where the starting term, the outcome and the field after it begin; how
+-- many fields were good; the entries of both terms
+pub record Found : Type 0 where
+  pub good : Bool
+  pub callee : ℕ
+  pub start : ℕ
+  pub outcome : ℕ
+  pub next : ℕ
+  pub fields : ℕ
+  pub size : ℕ
 
 -- where its starting term, its outcome and the field after it begin
 abbrev pub start_at : ℕ → Condition → ℕ
@@ -31,6 +43,11 @@ found_at i c = record {
 -- no condition: n fields were good
 abbrev pub lost_after : ℕ → Found
 lost_after n = record { good = false; callee = 0; start = 0; outcome = 0; next = 0; fields = n; size = 0 }
+
+-- what the code tells of it
+abbrev pub found_of : Result held.Condition ℕ → Found
+found_of (Ok c) = record { good = true; callee = c.callee; start = c.start; outcome = c.outcome; next = c.next; fields = c.fields; size = c.size }
+found_of (Err n) = lost_after n
 
 -- the fields from place i on begin with a condition, or they are read as none
 pub data ConditionAt (l : List ℕ) (i : ℕ) (r : Found) : Type 0 where

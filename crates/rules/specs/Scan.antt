@@ -4,7 +4,20 @@ use Rattle.std.specs.Prelude.{true, false, List, [], ◌∷◌, ℕ, zero, suc, 
 use Rattle.std.proofs.Math.Option.{Option, none, some}
 use Rattle.text.specs.Text.{parts, one_word, number_of}
 use Rattle.rules.specs.Text.{Fields, Head, variable, constructor, neither, head_of, up_to_six}
-use Rattle.rules.specs.declared.term.Term.{Term}
+use Rattle.std.specs.Prelude.{Bool, Result, Ok, Err}
+use Rattle.rules.specs.declared.term.Term as held
+
+-- a term that was gone through: whether it is good; where the field after it begins, or the first bad field; how many fields were good;
+-- the entries made
+pub record Term : Type 0 where
+  pub good : Bool
+  pub at : ℕ
+  pub fields : ℕ
+  pub size : ℕ
+
+-- what the code tells of it: of a bad one how many fields were good
+abbrev pub term_told : Term → Result held.Term ℕ
+term_told t = if t.good then Ok (record { at = t.at; fields = t.fields; size = t.size }) else Err t.fields
 
 -- the fields that begin at a place; none past the line's end
 unfoldable pub fields_from : List ℕ → ℕ → Fields

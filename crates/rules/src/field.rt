@@ -2,48 +2,39 @@
 ghost use Rattle.std.specs.Prelude.{◌≡◌};
 ghost use Rattle.text.specs.Text.{one_word, number_of};
 ghost use Rattle.rules.specs.Text.{head_of, up_to_six};
-ghost use Rattle.rules.specs.Held.{head_held, count_held};
+ghost use Rattle.text.specs.Held.{value_of};
+ghost use Rattle.rules.specs.Held.{head_held};
 
-use text::field::{Field, number};
+use text::field::number;
 
 // A term's first field.
 #[derive(Clone, Copy)]
 pub enum Head {
     Variable(u32),
     Constructor(u32),
-    Neither,
 }
 
-pub fn head_of(field: &[u8]) -> Head
+// What a term's first field is, or nothing.
+pub fn head_of(field: &[u8]) -> Option<Head>
     ensures { head_held result ≡ head_of field.now }
 {
     if field.len() == 0 {
-        return Head::Neither;
+        return None;
     }
     if field[0] == 118 {
-        let value = number(&field[1..]);
-        let Field::Number(v) = value else {
-            return Head::Neither;
-        };
-        return Head::Variable(v);
+        return Some(Head::Variable(number(&field[1..])?));
     }
-    let value = number(field);
-    let Field::Number(c) = value else {
-        return Head::Neither;
-    };
+    let c = number(field)?;
     if 65535 < c {
-        return Head::Neither;
+        return None;
     }
-    Head::Constructor(c)
+    Some(Head::Constructor(c))
 }
 
-// A constructor's child count; 7 where the field is none.
-pub fn children(field: &[u8]) -> u32
-    ensures { result ≡ count_held (up_to_six (number_of one_word field.now)) }
+// A constructor's child count, or nothing.
+pub fn children(field: &[u8]) -> Option<u32>
+    ensures { value_of result ≡ up_to_six (number_of one_word field.now) }
 {
-    let value = number(field);
-    let Field::Number(n) = value else {
-        return 7;
-    };
-    if n <= 6 { n } else { 7 }
+    let n = number(field)?;
+    if n <= 6 { Some(n) } else { None }
 }

@@ -1,23 +1,21 @@
 // One term of a line, in prefix form: no stack, only the number of terms still wanted.
 ghost use Rattle.std.specs.Prelude.{◌≡◌};
-ghost use Rattle.rules.specs.Scan.{scanned, fields_from};
+ghost use Rattle.rules.specs.Scan.{scanned, term_told, fields_from};
 
 use crate::field::{Head, children, head_of};
 use text::field::next_at;
 
-// Whether the term is good; where the field after it begins, one past the line's end where there is none, or the first bad
-// field; how many fields were good; its entries.
+// Where the field after a term begins, one past the line's end where there is none; how many fields it has; its entries.
 #[derive(Clone, Copy)]
 pub struct Term {
-    pub good: bool,
     pub at: usize,
     pub fields: usize,
     pub size: usize,
 }
 
-// The term whose first field begins at `from`.
-pub(crate) fn term_at(line: &[u8], from: usize) -> Term
-    ensures { result ≡ scanned (fields_from line.now from) 1 from 0 0 }
+// The term whose first field begins at `from`, or how many of its fields were good.
+pub(crate) fn term_at(line: &[u8], from: usize) -> Result<Term, usize>
+    ensures { result ≡ term_told (scanned (fields_from line.now from) 1 from 0 0) }
 {
     let mut wanted: usize = 1;
     let mut at = from;
@@ -25,51 +23,29 @@ pub(crate) fn term_at(line: &[u8], from: usize) -> Term
     let mut size: usize = 0;
     while 0 < wanted {
         if line.len() < at {
-            return Term {
-                good: false,
-                at,
-                fields,
-                size,
-            };
+            return Err(fields);
         }
         let end = next_at(line, at, 9);
-        let first = head_of(&line[at..end]);
-        match first {
-            Head::Neither => {
-                return Term {
-                    good: false,
-                    at,
-                    fields,
-                    size,
-                };
+        match head_of(&line[at..end]) {
+            None => {
+                return Err(fields);
             }
-            Head::Variable(_v) => {
+            Some(Head::Variable(_)) => {
                 at = end + 1;
                 fields += 1;
                 size += 1;
                 wanted -= 1;
             }
-            Head::Constructor(_c) => {
+            Some(Head::Constructor(_)) => {
                 at = end + 1;
                 fields += 1;
                 if line.len() < at {
-                    return Term {
-                        good: false,
-                        at,
-                        fields,
-                        size,
-                    };
+                    return Err(fields);
                 }
                 let stop = next_at(line, at, 9);
-                let n = children(&line[at..stop]);
-                if n == 7 {
-                    return Term {
-                        good: false,
-                        at,
-                        fields,
-                        size,
-                    };
-                }
+                let Some(n) = children(&line[at..stop]) else {
+                    return Err(fields);
+                };
                 at = stop + 1;
                 fields += 1;
                 size += 1;
@@ -77,10 +53,5 @@ pub(crate) fn term_at(line: &[u8], from: usize) -> Term
             }
         }
     }
-    Term {
-        good: true,
-        at,
-        fields,
-        size,
-    }
+    Ok(Term { at, fields, size })
 }

@@ -11,7 +11,7 @@ use borrow.Author.Tests.{eq-eqb, ne_eqb, lt-ltb, le-ltb}
 use Rattle.checks.specs.Kinds.{ours, variables}
 use Rattle.words.specs.Words.{word_at, rows, cleared_from}
 use Rattle.std.specs.Prelude.{if◌then◌else◌}
-use Rattle.checks.specs.declared.Checked.{Checked}
+use Rattle.checks.specs.Checked.{Checked}
 use Rattle.checks.specs.Good.{good_node}
 use Rattle.checks.specs.Checked.{checked, table_checked}
 use Rattle.checks.specs.Promises.{AllGood, StoreFits}
@@ -47,7 +47,7 @@ use Rattle.loading.specs.Loaded.{Opened}
 use Rattle.calls.specs.Refused.{refused_with}
 use Rattle.calls.specs.Run.{at_return, refusing, run_with, run_with_by, numbers, words_of}
 use Rattle.running.specs.Ends.{cut_number, cut_place, Ends, own_run, RanAccepted}
-use Rattle.calls.specs.declared.Outcome.{Outcome}
+use Rattle.calls.specs.Outcome.{Outcome}
 
 -- a binding's word that is not above the mark names a node below it
 below : (n j m : ℕ) → n ≤ m → named n ≡ some j → j < m

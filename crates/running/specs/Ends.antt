@@ -11,7 +11,7 @@ use Rattle.state.specs.Noted.{missed_at}
 use Rattle.state.specs.Record.{mark_of, room_of, top_of, nodes_of, standing, held}
 use Rattle.state.specs.Visits.{limit_of, visit}
 use Rattle.calls.specs.Run.{numbers as numbers_of, words_of}
-use Rattle.calls.specs.declared.Outcome.{Outcome}
+use Rattle.calls.specs.Outcome.{Outcome}
 
 -- the answer of a cut-off's word, and its place
 abbrev pub cut_number : ℕ → ℕ

@@ -4,7 +4,7 @@ use mathlib.Core.Option.{some}
 use Rattle.words.specs.Words.{word_at, cleared_from}
 use Rattle.words.proofs.Tests.{below-or-from, and-true}
 use Rattle.words.proofs.Rows.{get_or-cleared_from-from}
-use Rattle.checks.specs.declared.Checked.{Checked}
+use Rattle.checks.specs.Checked.{Checked}
 use Rattle.checks.specs.Checked.{checked, table_length_fits, store_length_fits, table_checked_by}
 use Rattle.checks.specs.Kinds.{ours, variables}
 use Rattle.checks.proofs.Promises.{store_passes}
@@ -23,7 +23,7 @@ use Rattle.meaning.proofs.Mapped.{renotes}
 use Rattle.meaning.proofs.Shared.{not-shared, all-shared, shared-leaves}
 use Rattle.meaning.proofs.Steps.{steps-in-parts, over-stays, one_end}
 use Rattle.calls.specs.Run.{at_return}
-use Rattle.calls.specs.declared.Outcome.{Outcome}
+use Rattle.calls.specs.Outcome.{Outcome}
 use Rattle.turns.specs.Ways.{record_from, visit_of}
 use Rattle.machine.specs.Stack.{present, Noted, Open, Run, Pending, Stack, Asks, Ends, Stands, Fair}
 use Rattle.machine.specs.Machine.{own_from, Lent, OwnStay, Went as Goes}

@@ -9,7 +9,7 @@ use Rattle.meaning.specs.Steps.{over, next}
 use Rattle.meaning.specs.Store.{Input, Accepted, Ran, ran}
 use Rattle.meaning.specs.Answer.{Returned, number, returned, returned_by}
 use Rattle.calls.specs.Run.{at_return, run_with, run_with_by}
-use Rattle.calls.specs.declared.Outcome.{Outcome}
+use Rattle.calls.specs.Outcome.{Outcome}
 use Rattle.calls.proofs.Accepting.{refusal-with}
 use Rattle.machine.specs.Stack.{Run}
 use Rattle.stepping.specs.Stepping.{numbers, start_refused, start_numbers, Lists, lists, run_after, Holds, Zero, AnswersAt}

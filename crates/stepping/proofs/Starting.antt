@@ -3,7 +3,7 @@ use Rattle.std.proofs.Common.{◌≡◌, ℕ, ◌+◌, ◌<◌, ◌≤◌, Bool,
 use mathlib.Core.Option.{Option}
 use borrow.Author.Tests.{lt-leb}
 use Rattle.checks.specs.Kinds.{ours}
-use Rattle.checks.specs.declared.Checked.{Checked}
+use Rattle.checks.specs.Checked.{Checked}
 use Rattle.checks.proofs.Promises.{store_passes}
 use Rattle.meaning.specs.Derivation.{nowhere}
 use Rattle.meaning.specs.Rules.{apply}

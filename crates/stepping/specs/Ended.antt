@@ -3,7 +3,7 @@ use Rattle.std.specs.Prelude.{◌≡◌, ℕ, ◌+◌, ◌*◌, ◌/◌, ◌%◌
 use Rattle.words.specs.Words.{word_at, cleared_from}
 use Rattle.meaning.specs.Bindings.{has}
 use Rattle.meaning.specs.Store.{bindings}
-use Rattle.calls.specs.declared.Outcome.{Outcome}
+use Rattle.calls.specs.Outcome.{Outcome}
 use Rattle.turns.specs.Ways.{record_from, held_at}
 use Rattle.machine.specs.Stack.{row_at}
 use Rattle.machine.specs.Machine.{own_from}

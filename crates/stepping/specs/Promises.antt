@@ -3,7 +3,7 @@ use Rattle.std.specs.Prelude.{◌≡◌, ℕ, ◌+◌, ◌<◌, true, List, [], 
 use Rattle.std.proofs.Math.Option.{Option}
 use Rattle.meaning.specs.Store.{Input, Accepted}
 use Rattle.calls.specs.Run.{at_return, run_with}
-use Rattle.calls.specs.declared.Outcome.{Outcome}
+use Rattle.calls.specs.Outcome.{Outcome}
 use Rattle.stepping.specs.Stepping.{Lists, lists, numbers, Holds, Starts, Zero, StepsOn, lengths_fit}
 
 -- the visits of the steps together

@@ -4,7 +4,7 @@ use Rattle.std.proofs.Math.Option.{Option}
 use Rattle.words.specs.Words.{word_at}
 use Rattle.checks.specs.Kinds.{variables}
 use Rattle.checks.specs.Checked.{checked, table_length_fits, store_length_fits}
-use Rattle.checks.specs.declared.Checked.{Checked}
+use Rattle.checks.specs.Checked.{Checked}
 use Rattle.meaning.specs.Derivation.{What, Event, history, nowhere}
 use Rattle.meaning.specs.Mapped.{renoted}
 use Rattle.meaning.specs.Table.{table}
@@ -15,7 +15,7 @@ use Rattle.meaning.specs.Shared.{store_by}
 use Rattle.meaning.specs.Answer.{returned}
 use Rattle.calls.specs.Refused.{refused_with}
 use Rattle.calls.specs.Run.{at_return}
-use Rattle.calls.specs.declared.Outcome.{Outcome}
+use Rattle.calls.specs.Outcome.{Outcome}
 use Rattle.machine.specs.Stack.{Run, Stands}
 use Rattle.machine.specs.Machine.{Lent}
 use Rattle.machine.specs.declared.Machine.{Machine}

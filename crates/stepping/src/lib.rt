@@ -2,20 +2,22 @@
 #![tactic(auto)]
 
 ghost use Rattle.std.specs.Prelude.{◌≡◌, ℕ, ◌+◌, ◌-◌, ◌*◌, ◌<◌, ◌≤◌, Bool, length};
-ghost use Rattle.std.proofs.Math.Option.{none, some};
 ghost use Rattle.words.specs.Words.{word_at, cleared_from};
-ghost use Rattle.calls.specs.Refused.{lent_if};
+ghost use Rattle.calls.specs.Outcome.{end_number, end_place, outcome_of, ran_of};
+ghost use Rattle.calls.specs.Refused.{lent_signature};
 ghost use Rattle.calls.specs.Run.{input};
 ghost use Rattle.stepping.specs.Stepping.{lists, lengths_fit, Starts, StepsOn};
 ghost use Rattle.stepping.specs.Ended.{Ended, Finished, Went};
 
-use crate::own::{given, load_bindings, put_bindings, save, saved};
-use calls::Outcome;
+use crate::own::{OWN, given, load_bindings, put_bindings, save, saved};
+use calls::{End, Ran};
 use checks::entries::table_length_fits;
 use checks::kinds::VARIABLES;
 use checks::nodes::store_length_fits;
+use checks::refusal::Refusal;
 use machine::{FAILED, FULL, Machine, SUCCEEDED, go};
-use refusals::refusal;
+use refusals::check_run;
+use turns::turn::APPLY;
 use words::{clear_from, word};
 
 pub mod own;
@@ -26,66 +28,7 @@ pub const WORK: usize = 327680;
 // The place of a failed run in which no match gave up: no table has such an entry.
 pub const NOWHERE: u32 = 4096;
 
-// The start. The signature is looked at only where `signed` says that one is lent.
-fn start_lent(
-    table: &[u32],
-    store: &[u32],
-    bindings: &[u32],
-    work: &mut [u32],
-    mark: u32,
-    start: u32,
-    subject: u32,
-    units: u32,
-    signed: bool,
-    signature: &[u32],
-) -> Outcome
-    ensures { Starts (lent_if signed signature.now)
-        (input table.now store.now bindings.now mark start subject units) work.old result
-        work.new }
-{
-    if work.len() < WORK {
-        return Outcome {
-            answer: 2,
-            place: 0,
-            subject,
-            mark,
-            units: 0,
-        };
-    }
-    let refused = refusal(
-        table, store, bindings, mark, start, subject, signed, signature,
-    );
-    if refused.answer != 0 {
-        return Outcome {
-            answer: refused.answer,
-            place: refused.place,
-            subject,
-            mark,
-            units: 0,
-        };
-    }
-    let mask = load_bindings(work, bindings);
-    let m = Machine {
-        x: start,
-        mode: 0,
-        y: subject,
-        level: 0,
-        mark,
-        place: NOWHERE,
-        fuel: units,
-        mask,
-    };
-    save(work, m, units, subject, mark);
-    Outcome {
-        answer: 25,
-        place: 0,
-        subject,
-        mark,
-        units: 0,
-    }
-}
-
-// The start. No signature is lent.
+// The start. A signature that is lent may be empty: then every constructor is beyond the list.
 pub fn start_run(
     table: &[u32],
     store: &[u32],
@@ -95,42 +38,34 @@ pub fn start_run(
     start: u32,
     subject: u32,
     units: u32,
-) -> Outcome
-    ensures { Starts none (input table.now store.now bindings.now mark start subject units) work.old result work.new }
+    signature: Option<&[u32]>,
+) -> Result<Ran, Refusal>
+    ensures { Starts (lent_signature signature.entry)
+        (input table.now store.now bindings.now mark start subject units) work.old
+        (outcome_of result subject mark) work.new }
 {
-    start_lent(
-        table,
-        store,
-        bindings,
-        work,
+    if work.len() < WORK {
+        return Err(Refusal::Sizes);
+    }
+    check_run(table, store, bindings, mark, start, subject, signature)?;
+    let mask = load_bindings(work, bindings);
+    let m = Machine {
+        x: start,
+        mode: APPLY,
+        y: subject,
+        level: 0,
         mark,
-        start,
+        place: NOWHERE,
+        fuel: units,
+        mask,
+    };
+    save(work, m, units, subject, mark);
+    Ok(Ran {
+        end: End::Unfinished,
         subject,
-        units,
-        false,
-        &table[..0],
-    )
-}
-
-// The start with a signature, which may be empty: then every constructor is beyond the list.
-pub fn start_run_signed(
-    table: &[u32],
-    store: &[u32],
-    bindings: &[u32],
-    work: &mut [u32],
-    mark: u32,
-    start: u32,
-    subject: u32,
-    units: u32,
-    signature: &[u32],
-) -> Outcome
-    ensures { Starts (some signature.now)
-        (input table.now store.now bindings.now mark start subject units) work.old result
-        work.new }
-{
-    start_lent(
-        table, store, bindings, work, mark, start, subject, units, true, signature,
-    )
+        mark,
+        units: 0,
+    })
 }
 
 // The lengths that a start asks for.
@@ -157,39 +92,37 @@ fn clear_list(work: &mut [u32])
 }
 
 // A run ends that is not done: subject and mark as given, the store cleared from the mark on, the work list zero.
-fn end_run(store: &mut [u32], work: &mut [u32], answer: u32, place: u32, left: u32) -> Outcome
+fn end_run(store: &mut [u32], work: &mut [u32], end: End, left: u32) -> Ran
     requires { 327680 ≤ length work.old }
-    ensures { Ended store.old work.old answer place left result store.new work.new }
+    ensures { Ended store.old work.old (end_number end) (end_place end) left (ran_of result) store.new work.new }
 {
     let units = given(work, 1);
     let subject = given(work, 2);
     let mark = given(work, 3);
     clear_from(store, 8 * (mark as usize));
     clear_list(work);
-    Outcome {
-        answer,
-        place,
+    Ran {
+        end,
         subject,
         mark,
-        units: std::num::wrapping_sub_u32(units, left),
+        units: units.wrapping_sub(left),
     }
 }
 
 // A run is done: the new subject, mark and bindings.
-fn finish(store: &mut [u32], bindings: &mut [u32], work: &mut [u32], m: Machine) -> Outcome
+fn finish(store: &mut [u32], bindings: &mut [u32], work: &mut [u32], m: Machine) -> Ran
     requires { (length bindings.old ≡ 64) × (327680 ≤ length work.old) }
-    ensures { Finished store.old work.old m result store.new bindings.new work.new }
+    ensures { Finished store.old work.old m (ran_of result) store.new bindings.new work.new }
 {
     let units = given(work, 1);
     put_bindings(bindings, work, m.mask);
     clear_from(store, 8 * (m.mark as usize));
     clear_list(work);
-    Outcome {
-        answer: 0,
-        place: 0,
+    Ran {
+        end: End::Done,
         subject: m.y,
         mark: m.mark,
-        units: std::num::wrapping_sub_u32(units, m.fuel),
+        units: units.wrapping_sub(m.fuel),
     }
 }
 
@@ -202,39 +135,34 @@ pub fn conclude(
     visits: u32,
     stop: u32,
     m: Machine,
-) -> Outcome
+) -> Ran
     requires { (length bindings.old ≡ 64) × (327680 ≤ length work.old) }
-    ensures { Went store.old bindings.old work.old had visits stop m result store.new bindings.new work.new }
+    ensures { Went store.old bindings.old work.old had visits stop m (ran_of result) store.new bindings.new work.new }
 {
     if m.mode < SUCCEEDED {
         if m.fuel != stop {
-            return end_run(store, work, 8, 0, m.fuel);
+            return end_run(store, work, End::Nesting, m.fuel);
         }
         if had < visits {
-            return end_run(store, work, 6, 0, m.fuel);
+            return end_run(store, work, End::Units, m.fuel);
         }
         let units = given(work, 1);
         let subject = given(work, 2);
         let mark = given(work, 3);
         save(work, m, units, subject, mark);
-        return Outcome {
-            answer: 25,
-            place: 0,
+        return Ran {
+            end: End::Unfinished,
             subject,
             mark,
-            units: std::num::wrapping_sub_u32(units, m.fuel),
+            units: units.wrapping_sub(m.fuel),
         };
     }
-    if m.mode == SUCCEEDED {
-        return finish(store, bindings, work, m);
+    match m.mode {
+        SUCCEEDED => finish(store, bindings, work, m),
+        FAILED => end_run(store, work, End::Failed(m.place), m.fuel),
+        FULL => end_run(store, work, End::Room, m.fuel),
+        _ => end_run(store, work, End::Unbound(m.x), m.fuel),
     }
-    if m.mode == FAILED {
-        return end_run(store, work, 1, m.place, m.fuel);
-    }
-    if m.mode == FULL {
-        return end_run(store, work, 7, 0, m.fuel);
-    }
-    end_run(store, work, 12, m.x, m.fuel)
 }
 
 // The step: so many visits, and what follows them up to the next one's limit test; or fewer, if the run ends.
@@ -244,30 +172,18 @@ pub fn step_run(
     bindings: &mut [u32],
     work: &mut [u32],
     visits: u32,
-) -> Outcome
-    ensures { StepsOn table.now (lists store.old bindings.old work.old) visits result
+) -> Result<Ran, Refusal>
+    ensures { StepsOn table.now (lists store.old bindings.old work.old) visits (outcome_of result 0 0)
         (lists store.new bindings.new work.new) }
 {
     if !lengths_fit(table, store, bindings, work) {
-        return Outcome {
-            answer: 2,
-            place: 0,
-            subject: 0,
-            mark: 0,
-            units: 0,
-        };
+        return Err(Refusal::Sizes);
     }
-    if word(work, 40950, 0) == 0 {
-        return Outcome {
-            answer: 27,
-            place: 0,
-            subject: 0,
-            mark: 0,
-            units: 0,
-        };
+    if word(work, OWN, 0) == 0 {
+        return Err(Refusal::NoRun);
     }
     let a = saved(work);
-    let stop = if visits < a.fuel { a.fuel - visits } else { 0 };
+    let stop = a.fuel.saturating_sub(visits);
     let m = go(table, store, work, a, stop, false, false);
-    conclude(store, bindings, work, a.fuel, visits, stop, m)
+    Ok(conclude(store, bindings, work, a.fuel, visits, stop, m))
 }

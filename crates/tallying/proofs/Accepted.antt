@@ -7,10 +7,10 @@ use Rattle.meaning.specs.Mapped.{renoted}
 use Rattle.meaning.specs.Steps.{over}
 use Rattle.meaning.specs.Store.{Input, Accepted, Ran, on, rest}
 use Rattle.meaning.specs.Answer.{number, place_of, returned}
-use Rattle.checks.specs.declared.Checked.{Checked}
+use Rattle.checks.specs.Checked.{Checked}
 use Rattle.checks.proofs.Promises.{store_passes}
 use Rattle.calls.specs.Run.{at_return}
-use Rattle.calls.specs.declared.Outcome.{Outcome}
+use Rattle.calls.specs.Outcome.{Outcome}
 use Rattle.turns.specs.Ways.{visit_of}
 use Rattle.machine.specs.Stack.{present, Noted, first_of, Asks, Ends, Stands, Fair}
 use Rattle.machine.specs.Machine.{Lent}

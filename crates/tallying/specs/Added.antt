@@ -10,7 +10,25 @@ use Rattle.meaning.specs.Store.{Input, Ran}
 use Rattle.meaning.specs.Shared.{ran_sharing}
 use Rattle.meaning.specs.Answer.{Returned, returned}
 use Rattle.calls.specs.Run.{at_return}
-use Rattle.tallying.specs.declared.Counted.{Counted}
+use Rattle.std.specs.Prelude.{Result, Ok, Err}
+use Rattle.checks.specs.declared.refusal.Refusal.{Refusal}
+use Rattle.calls.specs.Outcome.{Outcome, ran_of, outcome_of}
+use Rattle.tallying.specs.declared.RanCounted.{RanCounted}
+use Rattle.tallying.specs.declared.Seen.{Seen}
+
+-- the seven numbers: those of a run, and its visits of patterns and of pairs
+pub record Counted : Type 0 where
+  pub ended : Outcome
+  pub seen : Seen
+
+-- those of an accepted run with counts
+abbrev pub counted_ran : RanCounted → Counted
+counted_ran r = record { ended = ran_of r.ran; seen = r.seen }
+
+-- those of a run with counts that was given the subject k and the mark m, and may be refused: then it has no visits
+abbrev pub counted_outcome : Result RanCounted Refusal → (k m : ℕ) → Counted
+counted_outcome (Ok r) k m = counted_ran r
+counted_outcome (Err e) k m = record { ended = outcome_of (Err e) k m; seen = record { patterns = 0; pairs = 0 } }
 
 -- ---- what is added
 

@@ -9,9 +9,9 @@ ghost use Rattle.calls.specs.Run.{input};
 ghost use Rattle.machine.specs.Machine.{Lent};
 ghost use Rattle.tallying.specs.Counts.{bumped, visited_code, flown, rest_counted, Room};
 ghost use Rattle.tallying.specs.Tally.{seen_at, CountedOn, Stopped};
-ghost use Rattle.tallying.specs.Added.{counted_at_return, counted_end, ran_if};
+ghost use Rattle.tallying.specs.Added.{counted_at_return, counted_end, counted_ran, ran_if};
 
-use calls::Outcome;
+use calls::Ran;
 use machine::{FULL, Machine, SUCCEEDED, go};
 use stepping::own::{load_bindings, save};
 use stepping::{NOWHERE, WORK, conclude};
@@ -169,10 +169,10 @@ fn count_rest(kept: &[u32], counts: &mut [u64], m: Machine)
     fly(kept, counts, m.level + 1);
 }
 
-// What a counted run returns: the run's five numbers, and the visits of patterns and of pairs.
+// What a counted run comes to, and its visits of patterns and of pairs.
 #[derive(Clone, Copy)]
-pub struct Counted {
-    pub ended: Outcome,
+pub struct RanCounted {
+    pub ran: Ran,
     pub seen: Seen,
 }
 
@@ -187,9 +187,9 @@ pub fn run_on(
     units: u32,
     counts: &mut [u64],
     shares: bool,
-) -> Counted
+) -> RanCounted
     requires { Accepted (input table.now store.old bindings.old mark start subject units) × (length counts.old ≡ 4 * rows table.now) × Room counts.old }
-    ensures { counted_at_return result store.new bindings.new counts.new
+    ensures { counted_at_return (counted_ran result) store.new bindings.new counts.new
         ≡ counted_end (input table.now store.old bindings.old mark start subject units)
         (ran_if shares (input table.now store.old bindings.old mark start subject units)) counts.old }
 {
@@ -211,6 +211,6 @@ pub fn run_on(
     let m = t.machine;
     let seen = t.seen;
     count_rest(&kept, counts, m);
-    let ended = conclude(store, bindings, &mut work, 0, 1, 0, m);
-    Counted { ended, seen }
+    let ran = conclude(store, bindings, &mut work, 0, 1, 0, m);
+    RanCounted { ran, seen }
 }

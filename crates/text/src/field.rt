@@ -2,22 +2,9 @@
 ghost use Rattle.std.specs.Prelude.{◌≡◌, ◌+◌, ◌≤◌, ◌<◌, length, drop, get_or};
 ghost use mathlib.Core.List.{tail};
 ghost use Rattle.text.specs.Text.{up_to, parts, one_word, valued, number_of, numbers_of};
-ghost use Rattle.text.specs.Held.{value_of, wide_of, numbers_held};
+ghost use Rattle.text.specs.Held.{value_of, numbers_held};
 
 use crate::Numbers;
-
-// The number of a field, or none: of 32 bits, and of 64.
-#[derive(Clone, Copy)]
-pub enum Field {
-    Number(u32),
-    Other,
-}
-
-#[derive(Clone, Copy)]
-pub enum Value {
-    Wide(u64),
-    None,
-}
 
 // Where the next c stands, from a place on; the end where there is none.
 pub fn next_at(s: &[u8], from: usize, c: u8) -> usize
@@ -35,56 +22,53 @@ pub fn next_at(s: &[u8], from: usize, c: u8) -> usize
 }
 
 // The number of digits, the first of which is no zero.
-fn digits(field: &[u8], most: u64) -> Value
+fn digits(field: &[u8], most: u64) -> Option<u64>
     requires { 9 ≤ most }
-    ensures { wide_of result ≡ valued most 0 field.now }
+    ensures { value_of result ≡ valued most 0 field.now }
 {
     let mut value: u64 = 0;
     let mut i = 0;
     while i < field.len() {
         let b = field[i];
         if b < 48 {
-            return Value::None;
+            return None;
         }
         if 57 < b {
-            return Value::None;
+            return None;
         }
         let digit = (b - 48) as u64;
         if (most - digit) / 10 < value {
-            return Value::None;
+            return None;
         }
         value = value * 10 + digit;
         i += 1;
     }
-    Value::Wide(value)
+    Some(value)
 }
 
 // The number of a field, at most a limit.
-pub fn number_within(field: &[u8], most: u64) -> Value
+pub fn number_within(field: &[u8], most: u64) -> Option<u64>
     requires { 9 ≤ most }
-    ensures { wide_of result ≡ number_of most field.now }
+    ensures { value_of result ≡ number_of most field.now }
 {
     if field.len() == 0 {
-        return Value::None;
+        return None;
     }
     if field[0] != 48 {
         return digits(field, most);
     }
     if field.len() == 1 {
-        return Value::Wide(0);
+        return Some(0);
     }
-    Value::None
+    None
 }
 
 // The number of a field, of one word.
-pub fn number(field: &[u8]) -> Field
+pub fn number(field: &[u8]) -> Option<u32>
     ensures { value_of result ≡ number_of one_word field.now }
 {
-    let value = number_within(field, 4294967295);
-    let Value::Wide(v) = value else {
-        return Field::Other;
-    };
-    Field::Number(v as u32)
+    let v = number_within(field, 4294967295)?;
+    Some(v as u32)
 }
 
 // The numbers of a line from a tab, or the end, on.
@@ -105,7 +89,7 @@ pub fn numbers(line: &[u8], from: usize) -> Numbers
         let start = i + 1;
         let end = next_at(line, start, 9);
         let field = number(&line[start..end]);
-        let Field::Number(v) = field else {
+        let Some(v) = field else {
             return Numbers {
                 count: 9,
                 at: [0u32; 8],

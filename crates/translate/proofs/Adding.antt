@@ -12,7 +12,7 @@ use Rattle.rules.specs.Entries.{Entry, mask_of, rule_code, code_size, code_entri
 use Rattle.rules.specs.Scan.{fields_from}
 use Rattle.rules.specs.Shape.{shape_of, rule_size}
 use Rattle.check_rules.specs.Bound.{window, all_below, marks_from, RuleLine}
-use Rattle.rules.specs.declared.shape.Shape.{Shape}
+use Rattle.rules.specs.Shape.{Shape}
 use Rattle.rules.proofs.Sizes.{length-code}
 use Rattle.check_rules.proofs.Calling.{rule-line}
 use Rattle.check_rules.proofs.Early.{its-rule}

@@ -11,7 +11,7 @@ use Rattle.rules.specs.Text.{pat_fields, conditions_fields, rule_fields, PlainCo
 use Rattle.rules.specs.Entries.{Entry}
 use Rattle.rules.specs.Scan.{fields_from}
 use Rattle.rules.specs.Condition.{after_it, ConditionAt}
-use Rattle.rules.specs.declared.condition.Found.{Found}
+use Rattle.rules.specs.Condition.{Found}
 use Rattle.rules.proofs.Scanning.{fields-past}
 use Rattle.check_rules.proofs.Early.{First, first_of, no-conditions, its-rule, right-text, conditions-text, conditions-inside}
 use Rattle.translate.specs.Added.{put_entries, Placed}

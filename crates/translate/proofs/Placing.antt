@@ -15,7 +15,7 @@ use Rattle.rules.specs.Entries.{Entry, strategy, row_of}
 use Rattle.rules.specs.Scan.{fields_from}
 use Rattle.translate.specs.Added.{put_entries, Placed}
 use Rattle.translate.specs.Bare.{scope_put, bare_pat, bare_pats, bare_of, bare_count, condition_opened, call_put, bare_condition, bare_found}
-use Rattle.rules.specs.declared.condition.Found.{Found}
+use Rattle.rules.specs.Condition.{Found}
 use Rattle.rules.proofs.Reading.{head-variable, head-constructor, count-number}
 use Rattle.check_rules.proofs.Early.{First}
 

@@ -28,7 +28,7 @@ use Rattle.rules.specs.Shape.{rule_size}
 use Rattle.check_rules.specs.Answer.{in_use, used_checked}
 use Rattle.rules.specs.Promises.{Among, ClosedCalls}
 use Rattle.check_rules.specs.Promises.{Allowed, AllAllowed, and-more, entries_of, Accepted}
-use Rattle.check_rules.specs.declared.check.Translated.{Translated}
+use Rattle.check_rules.specs.Check.{Translated}
 use Rattle.rules.proofs.Sizes.{length-code}
 use Rattle.rules.proofs.Words.{rows_append, rows-has}
 use Rattle.rules.proofs.Added.{closed-stays}

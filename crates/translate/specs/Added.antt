@@ -7,7 +7,7 @@ use Rattle.rules.specs.Entries.{Entry, row_of, rule_entries}
 use Rattle.rules.specs.Shape.{rule_size}
 use Rattle.check_rules.specs.Bound.{all_below}
 use Rattle.check_rules.specs.Answer.{RulesChecked}
-use Rattle.check_rules.specs.declared.check.Translated.{Translated}
+use Rattle.check_rules.specs.Check.{Translated}
 
 -- the table with entries from e on
 unfoldable pub put_entries : List ℕ → ℕ → List Entry → List ℕ

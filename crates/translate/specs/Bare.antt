@@ -8,7 +8,7 @@ use Rattle.rules.specs.Text.{Fields, Head, variable, constructor, neither, head_
 use Rattle.rules.specs.Entries.{Entry, strategy, pattern}
 use Rattle.rules.specs.Scan.{fields_from}
 use Rattle.check_rules.specs.Bound.{RuleLine}
-use Rattle.rules.specs.declared.condition.Found.{Found}
+use Rattle.rules.specs.Condition.{Found}
 use Rattle.translate.specs.Added.{Placed}
 
 unfoldable mutual

@@ -12,7 +12,7 @@ use Rattle.rules.specs.Text.{rules, meant}
 use Rattle.rules.specs.Shape.{rule_size}
 use Rattle.check_rules.specs.Answer.{in_use, used_checked}
 use Rattle.rules.specs.Promises.{Inside}
-use Rattle.check_rules.specs.declared.check.Translated.{Translated}
+use Rattle.check_rules.specs.Check.{Translated}
 use Rattle.translate.specs.Added.{Translating}
 
 -- two outcomes for one table and one text agree in all numbers and in every word of the table

@@ -6,7 +6,7 @@ ghost use Rattle.rules.specs.Scan.{fields_from};
 ghost use Rattle.translate.specs.Added.{Placed};
 ghost use Rattle.translate.specs.Bare.{scope_put, bare_of, body_opened, condition_opened, call_put, build_put, bare_found, bare_body, its_conditions, Fits, PlacedIn};
 
-use rules::condition::{Found, condition_at};
+use rules::condition::{Condition, condition_at};
 use rules::field::{Head, children, head_of};
 use text::field::next_at;
 use words::put_row;
@@ -24,27 +24,25 @@ fn put_term(table: &mut [u32], line: &[u8], from: usize, first: u32) -> u32
             return e;
         }
         let end = next_at(line, at, 9);
-        let head = head_of(&line[at..end]);
-        match head {
-            Head::Neither => {
+        match head_of(&line[at..end]) {
+            None => {
                 return e;
             }
-            Head::Variable(v) => {
+            Some(Head::Variable(v)) => {
                 put_row(table, e, [288, v, 0, 0, 0, 0, 0, 0]);
                 at = end + 1;
                 e += 1;
                 wanted -= 1;
             }
-            Head::Constructor(c) => {
+            Some(Head::Constructor(c)) => {
                 at = end + 1;
                 if line.len() < at {
                     return e;
                 }
                 let stop = next_at(line, at, 9);
-                let n = children(&line[at..stop]);
-                if n == 7 {
+                let Some(n) = children(&line[at..stop]) else {
                     return e;
-                }
+                };
                 put_row(table, e, [304 + n, c, 0, 0, 0, 0, 0, 0]);
                 at = stop + 1;
                 e += 1;
@@ -109,7 +107,7 @@ fn put_build(table: &mut [u32], e: u32) -> u32
 }
 
 // The entries of a condition.
-fn put_condition(table: &mut [u32], line: &[u8], c: Found, first: u32) -> u32
+fn put_condition(table: &mut [u32], line: &[u8], c: Condition, first: u32) -> u32
     requires { (first + length (bare_found line.now c) ≤ rows table.old) × (length table.old ≤ 32768) }
     ensures { Placed table.old first (bare_found line.now c) table.new result }
 {
@@ -133,7 +131,9 @@ fn put_conditions(
     let mut e = first;
     let mut at = conditions;
     while at <= line.len() {
-        let c = condition_at(line, at);
+        let Ok(c) = condition_at(line, at) else {
+            unreachable!();
+        };
         e = put_condition(table, line, c, e);
         at = c.next;
     }

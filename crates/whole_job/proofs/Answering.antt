@@ -10,7 +10,7 @@ use lib.Seq.{length-take-le}
 use Rattle.std.specs.Prelude.{if◌then◌else◌}
 use Rattle.words.specs.Words.{rows}
 use Rattle.checks.specs.Kinds.{ours}
-use Rattle.checks.specs.declared.Checked.{Checked}
+use Rattle.checks.specs.Checked.{Checked}
 use Rattle.meaning.specs.Limits.{ended, lost, cut}
 use Rattle.meaning.specs.Derivation.{places, nowhere}
 use Rattle.meaning.specs.Store.{Input, Leaves, ran, Ran}

@@ -15,7 +15,7 @@ use Rattle.words.specs.Words.{word_at, rows, cleared_from}
 use Rattle.words.proofs.Tests.{below-or-from}
 use Rattle.words.proofs.Rows.{length-cleared_from, take-cleared_from, get_or-cleared_from-from}
 use Rattle.checks.specs.Kinds.{ours}
-use Rattle.checks.specs.declared.Checked.{Checked}
+use Rattle.checks.specs.Checked.{Checked}
 use Rattle.checks.specs.Good.{child_count}
 use Rattle.checks.specs.Checked.{checked}
 use Rattle.meaning.specs.Bindings.{Bindings}

@@ -12,7 +12,7 @@ use borrow.Author.Tests.{lt-ltb, lt-leb, eqb-false}
 use Rattle.checks.specs.Kinds.{variables}
 use Rattle.std.specs.Prelude.{if◌then◌else◌}
 use Rattle.words.specs.Words.{rows}
-use Rattle.checks.specs.declared.Checked.{Checked}
+use Rattle.checks.specs.Checked.{Checked}
 use Rattle.checks.specs.Checked.{checked, table_length_fits, store_length_fits}
 use Rattle.calls.specs.Refused.{sizes_fit_by, or_else, words_refused_by, refused_with_by, refused}
 use Rattle.meaning.specs.Store.{Input}

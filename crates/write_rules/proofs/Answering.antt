@@ -10,13 +10,13 @@ use Rattle.meaning.proofs.Tests.{impossible}
 use Rattle.text.specs.Text.{joined, joined_after}
 use Rattle.rules.specs.Rule.{Rule}
 use Rattle.rules.specs.Text.{Fields, rule_fields, rule_text, rule, rule_of}
-use Rattle.checks.specs.declared.Checked.{Checked}
+use Rattle.checks.specs.Checked.{Checked}
 use Rattle.check_rules.specs.Answer.{used_checked}
 use Rattle.check_rules.proofs.Answering.{used-sizes}
 use Rattle.rules.proofs.Texts.{line_read, line_wrote, fields-line, rule-some}
 use Rattle.write_rules.specs.Written.{RuleAt, wrote, RuleWritten, entries, none, short, line}
 use Rattle.write_rules.specs.Lines.{ended, HasLine, IsRule, yes, no}
-use Rattle.write_rules.specs.declared.rule.Written.{Written}
+use Rattle.write_rules.specs.Written.{Written}
 use Rattle.write_rules.proofs.Finding.{size-some}
 
 -- Fields with a tab after each are fields with a tab between them, and one tab more.

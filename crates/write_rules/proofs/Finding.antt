@@ -19,7 +19,7 @@ use Rattle.rules.specs.Shape.{rule_size}
 use Rattle.check_rules.specs.Line.{callable, rule_answer, line_of}
 use Rattle.check_rules.specs.Answer.{used_checked, Callable, MasksOf}
 use Rattle.check_rules.specs.Promises.{Allowed}
-use Rattle.check_rules.specs.declared.line.Line.{Line}
+use Rattle.check_rules.specs.Line.{Line}
 use Rattle.rules.proofs.Sizes.{length-code}
 use Rattle.rules.proofs.Texts.{line_wrote}
 use Rattle.check_rules.proofs.Answering.{used-sizes, masks-callable}

@@ -23,7 +23,7 @@ use Rattle.translate.proofs.Promises.{rule-eights, all-stand, faultless}
 use Rattle.write_rules.specs.Written.{RuleAt, wrote, RuleWritten, entries, none, short, line}
 use Rattle.write_rules.specs.Lines.{TermAt, ConditionHere, condition_size, conditions_size, ConditionsAt}
 use Rattle.write_rules.specs.Promises.{Agree, OneRuleThere, SameBytes, TranslatedThenWritten, WrittenThenTranslated}
-use Rattle.write_rules.specs.declared.rule.Written.{Written}
+use Rattle.write_rules.specs.Written.{Written}
 use Rattle.write_rules.proofs.Walking.{variable-words, constructor-words}
 use Rattle.write_rules.proofs.Listing.{opened, at-build, last-term, rule-parts}
 use Rattle.write_rules.proofs.Finding.{length-rule, rows-equal}

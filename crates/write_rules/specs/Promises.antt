@@ -2,11 +2,11 @@
 use Rattle.std.specs.Prelude.{◌≡◌, List, [], ◌∷◌, ℕ, ◌≤◌, length, take}
 use Rattle.rules.specs.Rule.{Rule}
 use Rattle.rules.specs.Text.{rule_text, rules, meant}
-use Rattle.check_rules.specs.declared.check.Translated.{Translated}
+use Rattle.check_rules.specs.Check.{Translated}
 use Rattle.translate.specs.Added.{with_rules, Translating}
 use Rattle.translate.specs.Promises.{Begins}
 use Rattle.write_rules.specs.Written.{RuleAt, RuleWritten}
-use Rattle.write_rules.specs.declared.rule.Written.{Written}
+use Rattle.write_rules.specs.Written.{Written}
 
 -- two outcomes for one table, one entry and one buffer agree in all numbers and in every byte
 abbrev pub Agree : Type 0

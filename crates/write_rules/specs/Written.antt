@@ -7,7 +7,16 @@ use Rattle.rules.specs.Entries.{rule_entries, Rows}
 use Rattle.rules.specs.Shape.{rule_size}
 use Rattle.check_rules.specs.Answer.{used_checked}
 use Rattle.check_rules.specs.Promises.{Allowed}
-use Rattle.write_rules.specs.declared.rule.Written.{Written}
+use Rattle.std.specs.Prelude.{Result, Ok, Err, [], ◌∷◌}
+use Rattle.checks.specs.Numbers.{answer_of, place_of}
+use Rattle.write_rules.specs.declared.rule.WriteRefusal.{WriteRefusal}
+use Rattle.write_rules.specs.declared.rule.WriteRefusal.TheVariants.{Table, NoRule, Short}
+
+-- the answer, the entry that it is about, and how many bytes were written
+pub record Written : Type 0 where
+  pub answer : ℕ
+  pub place : ℕ
+  pub length : ℕ
 
 -- the entries from e on are those of a rule that the translator would take, all in use
 pub record RuleAt (t : List ℕ) (u e : ℕ) (q : Rule) : Type 0 where
@@ -18,6 +27,17 @@ pub record RuleAt (t : List ℕ) (u e : ℕ) (q : Rule) : Type 0 where
 
 abbrev pub wrote : (answer place length : ℕ) → Written
 wrote a p n = record { answer = a; place = p; length = n }
+
+-- the three numbers of what `write_rule` returns
+abbrev pub written_of : Result ℕ WriteRefusal → Written
+written_of (Ok n) = wrote 0 0 n
+written_of (Err (Table e)) = wrote (answer_of e) (place_of e) 0
+written_of (Err NoRule) = wrote 5 0 0
+written_of (Err Short) = wrote 26 0 0
+
+-- as a list
+abbrev pub three_of : Written → List ℕ
+three_of r = r.answer ∷ r.place ∷ r.length ∷ []
 
 -- the numbers and the buffer for a table with u entries in use, an entry and a buffer
 pub data RuleWritten (t : List ℕ) (u e : ℕ) (b : List ℕ) (r : Written) (b' : List ℕ) : Type 0 where

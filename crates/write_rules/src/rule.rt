@@ -2,29 +2,44 @@
 // own functions say whether that line gives these entries.
 ghost use Rattle.std.specs.Prelude.{◌≡◌, ◌∷◌, ◌++◌, ◌+◌, ◌*◌, ◌≤◌, ◌<◌, length, get_or, drop};
 ghost use Rattle.check_rules.specs.Answer.{used_checked};
-ghost use Rattle.write_rules.specs.Written.{RuleWritten, wrote};
+ghost use Rattle.write_rules.specs.Written.{RuleWritten, written_of, three_of};
+ghost use Rattle.write_rules.specs.declared.rule.WriteRefusal.TheVariants.{Table};
 ghost use Rattle.write_rules.specs.Lines.{HasLine, SameWords, IsRule};
 
 use crate::line::write_line;
 use check_rules::answer::{check_used, fill_masks};
 use check_rules::line::check_line;
+use checks::refusal::Refusal;
 use translate::lines::put_line;
 
-// The answer, the entry that it is about, and how many bytes were written.
-#[derive(Clone, Copy)]
-pub struct Written {
-    pub answer: u32,
-    pub place: u32,
-    pub length: usize,
+// Why no line is written.
+#[derive(Clone, Copy, PartialEq, Eq)]
+pub enum WriteRefusal {
+    // The entries in use.
+    Table(Refusal),
+    // No rule starts at the entry.
+    NoRule,
+    // The buffer is too short.
+    Short,
 }
 
-fn answered(answer: u32, place: u32, length: usize) -> Written
-    ensures { result ≡ wrote answer place length }
+impl From<Refusal> for WriteRefusal {
+    ghost from_gives = { λ r e. e ≡ Table r };
+
+    fn from(r: Refusal) -> WriteRefusal {
+        WriteRefusal::Table(r)
+    }
+}
+
+// Answer, place and length: what a writing comes to.
+pub fn three_numbers(r: Result<usize, WriteRefusal>) -> [u64; 3]
+    ensures { result ≡ three_of (written_of r) }
 {
-    Written {
-        answer,
-        place,
-        length,
+    match r {
+        Ok(n) => [0, 0, n as u64],
+        Err(WriteRefusal::Table(e)) => [e.answer() as u64, e.place() as u64, 0],
+        Err(WriteRefusal::NoRule) => [5, 0, 0],
+        Err(WriteRefusal::Short) => [26, 0, 0],
     }
 }
 
@@ -56,11 +71,10 @@ fn is_rule(table: &[u32], used: u32, entry: u32, line: &[u8]) -> bool
 {
     let mut masks = [0u64; 4096];
     fill_masks(table, used, &mut masks);
-    let got = check_line(line, table, &masks, used);
-    if got.answer != 0 {
+    let Ok(size) = check_line(line, table, &masks, used) else {
         return false;
-    }
-    if ((used - entry) as usize) < got.size {
+    };
+    if ((used - entry) as usize) < size {
         return false;
     }
     let mut made = [0u32; 32768];
@@ -90,34 +104,31 @@ fn write_out(
     line: &[u8],
     n: usize,
     buffer: &mut [u8],
-) -> Written
+) -> Result<usize, WriteRefusal>
     requires { ((used_checked table.now used).answer ≡ 0) × (entry < used) × (n ≤ length line.now) × HasLine table.now used entry line.now n }
-    ensures { RuleWritten table.now used entry buffer.old result buffer.new }
+    ensures { RuleWritten table.now used entry buffer.old (written_of result) buffer.new }
 {
     if n == 0 {
-        return answered(5, 0, 0);
+        return Err(WriteRefusal::NoRule);
     }
     let end = n - 1;
     if !is_rule(table, used, entry, &line[..end]) {
-        return answered(5, 0, 0);
+        return Err(WriteRefusal::NoRule);
     }
     if buffer.len() < n {
-        return answered(26, 0, 0);
+        return Err(WriteRefusal::Short);
     }
     copy_line(buffer, &line[..end]);
-    answered(0, 0, n)
+    Ok(n)
 }
 
 // The rule whose entries begin at an entry of a table, whose first `used` entries are in use, as a line in the buffer.
-pub fn write_rule(table: &[u32], used: u32, entry: u32, buffer: &mut [u8]) -> Written
-    ensures { RuleWritten table.now used entry buffer.old result buffer.new }
+pub fn write_rule(table: &[u32], used: u32, entry: u32, buffer: &mut [u8]) -> Result<usize, WriteRefusal>
+    ensures { RuleWritten table.now used entry buffer.old (written_of result) buffer.new }
 {
-    let entries = check_used(table, used);
-    if entries.answer != 0 {
-        return answered(entries.answer, entries.place, 0);
-    }
+    check_used(table, used)?;
     if used <= entry {
-        return answered(5, 0, 0);
+        return Err(WriteRefusal::NoRule);
     }
     let mut line = [0u8; 53272];
     let n = write_line(table, used, entry, &mut line);

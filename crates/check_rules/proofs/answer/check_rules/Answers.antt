@@ -2,7 +2,7 @@
 use Rattle.check_rules.proofs.Answering.{used-sizes, masks-callable}
 use Rattle.check_rules.specs.Answer.{entries, lines}
 use Rattle.check_rules.specs.Check.{told}
-use Rattle.checks.specs.declared.Checked.{Checked}
+use Rattle.checks.specs.Checked.{Checked}
 use mathlib.Core.Path.{refl, sym, ◌∙◌, ap}
 use Rattle.check_rules.proofs.answer.check_rules.Goals as goal
 

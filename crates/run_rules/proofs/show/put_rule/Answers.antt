@@ -3,7 +3,7 @@ use Rattle.std.proofs.Common.{List, ℕ, ◌≤◌, length, drop, ap, sym, arith
 use Rattle.std.proofs.lemmas.List.{length-append, length-take-le}
 use Rattle.rules.specs.Text.{rule_text}
 use Rattle.write_rules.specs.Written.{RuleWritten}
-use Rattle.write_rules.specs.declared.rule.Written.{Written}
+use Rattle.write_rules.specs.Written.{Written}
 use Rattle.run_rules.proofs.show.put_rule.Goals as goal
 
 written-fits : {t : List ℕ} {u e : ℕ} {b : List ℕ} {r : Written} {b' : List ℕ} → RuleWritten t u e b r b' → r.length ≤ length b'

@@ -1,6 +1,6 @@
 -- `write_rules::rule::write_rule` meets its contract, test by test. Assumes nothing.
 use Rattle.write_rules.proofs.Answering.{refused-entries, used-few, not-used}
-use Rattle.checks.specs.declared.Checked.{Checked}
+use Rattle.checks.specs.Checked.{Checked}
 use mathlib.Core.Path.{ap, sym, ◌∙◌}
 use borrow.Author.Rules.{rules}
 use Rattle.write_rules.proofs.rule.write_rule.Goals as goal

@@ -8,7 +8,7 @@ use Rattle.meaning.specs.Store.{Input}
 use Prim.Native.Nat.{ℕ, ◌*◌}
 use native.Mathlib.Omega.{arith}
 use Rattle.checks.specs.Checked.{checked}
-use Rattle.checks.specs.declared.Checked.{Checked}
+use Rattle.checks.specs.Checked.{Checked}
 use Rattle.calls.specs.Refused.{lent_if}
 use Rattle.calls.specs.Run.{input}
 use Rattle.tallying.specs.Added.{counted_at_return}

@@ -2,12 +2,13 @@
 ghost use Rattle.std.specs.Prelude.{◌≡◌};
 ghost use Rattle.collect.specs.Refused.{sizes_fit_by, refused_by};
 ghost use Rattle.checks.specs.Kinds.{ours};
+ghost use Rattle.checks.specs.Numbers.{checked_of};
 ghost use Rattle.collect.specs.Collected.{lent};
 
-use checks::Checked;
 use checks::bindings::bindings_below;
 use checks::kinds::VARIABLES;
 use checks::nodes::{check_store, store_length_fits};
+use checks::refusal::Refusal;
 
 // The lengths, and the mark within the store.
 fn sizes_fit(store: &[u32], bindings: &[u32], work: &[u32], mark: u32, subject: u32) -> bool
@@ -25,40 +26,22 @@ fn sizes_fit(store: &[u32], bindings: &[u32], work: &[u32], mark: u32, subject: 
     store.len() / 8 <= work.len()
 }
 
-// The refusal, or 0 with place 0.
-pub(crate) fn refusal(
+// The lengths and the mark, then the nodes, then the subject and the bindings.
+pub(crate) fn check_collection(
     store: &[u32],
     bindings: &[u32],
     work: &[u32],
     mark: u32,
     subject: u32,
-) -> Checked
-    ensures { result ≡ refused_by ours (lent store.now bindings.now work.now mark subject) }
+) -> Result<(), Refusal>
+    ensures { checked_of result ≡ refused_by ours (lent store.now bindings.now work.now mark subject) }
 {
     if !sizes_fit(store, bindings, work, mark, subject) {
-        return Checked {
-            answer: 2,
-            place: 0,
-        };
+        return Err(Refusal::Sizes);
     }
-    let node = check_store(store, mark);
-    if node.answer != 0 {
-        return node;
+    check_store(store, mark)?;
+    if mark <= subject || !bindings_below(bindings, mark) {
+        return Err(Refusal::Start);
     }
-    if mark <= subject {
-        return Checked {
-            answer: 5,
-            place: 0,
-        };
-    }
-    if !bindings_below(bindings, mark) {
-        return Checked {
-            answer: 5,
-            place: 0,
-        };
-    }
-    Checked {
-        answer: 0,
-        place: 0,
-    }
+    Ok(())
 }

@@ -9,7 +9,7 @@ use lib.ListN.{length, take, drop}
 use lib.Seq.{length-take-le}
 use Rattle.words.specs.Words.{rows, cleared_from}
 use Rattle.checks.specs.Checked.{checked}
-use Rattle.checks.specs.declared.Checked.{Checked}
+use Rattle.checks.specs.Checked.{Checked}
 use Rattle.meaning.specs.Store.{Input, Accepted}
 use Rattle.calls.specs.Refused.{lent_if}
 use Rattle.calls.specs.Run.{input}
