@@ -2,13 +2,14 @@
 -- Assumes nothing.
 use mathlib.Core.Path.{◌≡◌, ap, sym, ◌∙◌}
 use mathlib.Core.Logic.{◌≢◌, ⊎_elim}
-use mathlib.Core.List.{List, ◌++◌, append_assoc, append-nil}
-use Prim.Native.Nat.{ℕ, suc, ◌+◌, ◌-◌, ◌*◌, ◌≤◌, ◌<◌}
+use mathlib.Core.List.{List, [], ◌++◌, append_assoc, append-nil}
+use Prim.Native.Nat.{ℕ, ◌+◌, ◌-◌, ◌*◌, ◌≤◌, ◌<◌, min}
 use native.Mathlib.Nat.{eq-or-lt_of_le}
-use native.Mathlib.Numerals.{add-one}
 use native.Mathlib.Omega.{arith}
-use lib.ListN.{length, get_or, set, take, drop, replicate, length-append, length-take, length-drop, length-set, length-replicate, get_or-replicate, get_or-append, get_or-eq_default}
-use lib.Seq.{paste, take_all, take_at, take-take, take-append-le, take-suc-set, get_or-take, get_or-drop, get_or-append-add, append_snoc, length-take-le}
+use lib.ListN.{length, get_or, take, drop, replicate, length-append, length-take, length-drop, length-replicate, get_or-replicate, get_or-append, get_or-eq_default}
+use borrow.Rule.Slice.PartMut.{mid_of, post_of, put_mid, mid_len, Post-is}
+use Rattle.std.proofs.lemmas.List.{drop_all}
+use lib.Seq.{take_all, take_at, take-take, take-append-le, get_or-take, get_or-drop, get_or-append-add, length-take-le}
 use Rattle.words.proofs.Tests.{below-or-from}
 use Rattle.words.specs.Words.{word_at, put_row, cleared_from}
 
@@ -24,13 +25,6 @@ module _ (w : List ℕ) (k : ℕ) (r : List ℕ) (inside : 8 * k + 8 ≤ length 
   -- So are those through its end.
   through : length (take (8 * k) w ++ r) ≡ 8 * k + 8
   through = length-append (take (8 * k) w) r ∙ omega (arith, before)
-
-  -- Eight words of r pasted at place 8k are the row put.
-  pub paste-put_row : paste w (8 * k) r 8 ≡ put_row w k r
-  unfolding put_row
-  paste-put_row =
-      let e : take 8 r ≡ r = take_all 8 r (omega arith) in
-      rw (append_assoc, e)
 
   -- The words stay as many.
   pub length-put_row : length (put_row w k r) ≡ length w
@@ -117,17 +111,19 @@ module _ (w : List ℕ) where
           ∙ get_or-second (take i w) (replicate (length w - i) 0) i (j - i) (length-take-le i w (omega arith))
           ∙ get_or-replicate (length w - i) (j - i) 0 0 (omega arith)
 
-  -- A zero put at place i leaves what is to be cleared after it.
-  pub cleared_from-set : (i : ℕ) → i < length w → cleared_from (set w i 0) (i + 1) ≡ cleared_from w i
+  -- Zeros filled in from a place on, which is not past the end, are what is cleared.
+  pub cleared_from-filled : (i m : ℕ) (v : List ℕ) → m ≡ min i (length w)
+      → v ≡ replicate (length (mid_of m (length w - m) w)) 0 → put_mid m (length w - m) w v ≡ cleared_from w i
   unfolding cleared_from
-  cleared_from-set i h =
-      let e : length w - i ≡ suc (length w - suc i) = omega arith in
-      rw (add-one, length-set, e, take-suc-set) (append_snoc (take i w) 0 (replicate (length w - suc i) 0))
+  cleared_from-filled i m v e f =
+      let inside : m ≤ length w = omega arith in
+      let many : length (mid_of m (length w - m) w) ≡ length w - m = mid_len m (length w) w (omega arith) in
+      let none : post_of m (length w - m) w ≡ [] = Post-is m (length w) w inside ∙ drop_all (length w) w (omega arith) in
+      let same : length w - m ≡ length w - i = omega arith in
+      rw (f, many, none, append-nil, same) (ap (λ (l : List ℕ). l ++ replicate (length w - i) 0) (⊎_elim short long (below-or-from i (length w))))
+    where
+      short : i < length w → take m w ≡ take i w
+      short l = let z : m ≡ i = omega arith in rw z
 
-  -- From the end on there is nothing to clear.
-  pub cleared_from-end : (i : ℕ) → length w ≤ i → cleared_from w i ≡ w
-  unfolding cleared_from
-  cleared_from-end i h =
-      let none : length w - i ≡ 0 = omega arith in
-      let whole : take i w ≡ w = take_all i w h in
-      rw (none, whole, append-nil)
+      long : length w ≤ i → take m w ≡ take i w
+      long l = take_all m w (omega arith) ∙ sym (take_all i w l)

@@ -1,6 +1,6 @@
 -- Tests on numbers, and what is done with them: a test at each number below a bound, the first number that a
 -- test rejects. Every definition here computes.
-use Rattle.std.specs.Prelude.{Bool, true, false, ◌&&◌, ℕ, zero, suc, ◌+◌, if◌then◌else◌}
+use Rattle.std.specs.Prelude.{Bool, true, ◌&&◌, ℕ, zero, suc, ◌+◌, if◌then◌else◌}
 use Rattle.std.proofs.Math.Option.{Option, none, some}
 
 -- the test holds at i, i + 1 and so on, at k numbers
