@@ -8,4 +8,5 @@ pub mod kinds;
 pub mod nodes;
 pub mod refusal;
 pub mod rows;
+pub mod search;
 pub mod signature;

@@ -159,6 +159,28 @@ module _ (p : ℕ → Bool) where
   pub rejected-some : (i k e : ℕ) → rejected p i k ≡ some e ↔ First p i k e
   rejected-some i k e = (λ z. subst (Told i k) z (told i k), first_some i k e (rejected p i k) (told i k))
 
+-- What a search and a test of the numbers below n come to, by facts on each number.
+module _ (p : ℕ → Bool) (n : ℕ) where
+  -- Every number passes: nothing is found.
+  pub nothing_rejected : ((j : ℕ) → j < n → p j ≡ true) → none ≡ rejected p 0 n
+  nothing_rejected h = sym ((rejected-none p 0 n).1 (λ j l m. h j (omega arith)))
+
+  -- k is the first that fails: it is found.
+  pub first_rejected : (k : ℕ) → k < n → p k ≡ false → ((j : ℕ) → j < k → p j ≡ true) → some k ≡ rejected p 0 n
+  first_rejected k l e h =
+      sym ((rejected-some p 0 n k).1 record { from = omega arith; below = omega arith; rejects = e; before = λ j i m. h j m })
+
+  -- Every number passes, or one fails.
+  pub every_passes : ((j : ℕ) → j < n → p j ≡ true) → true ≡ every p 0 n
+  every_passes h = sym ((every_true p 0 n).1 (λ j l m. h j (omega arith)))
+
+  pub one_fails : (k : ℕ) → k < n → p k ≡ false → false ≡ every p 0 n
+  one_fails k l e = go (every p 0 n) refl
+    where
+      go : (t : Bool) → every p 0 n ≡ t → false ≡ t
+      go true q = absurd (true≢false (sym ((every_true p 0 n).0 q k (omega arith) (omega arith)) ∙ e))
+      go false q = refl
+
 -- A loop that tests the numbers from i up to n, one a turn: what is left of the range decides what the whole gives.
 module _ (p : ℕ → Bool) (i n : ℕ) where
   -- There is one more number before the end.
