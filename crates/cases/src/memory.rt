@@ -22,16 +22,16 @@
 // byte of each store word.
 ghost use Rattle.std.specs.Prelude.{◌+◌, ◌*◌, ◌≤◌, length};
 
-use crate::numbers::{number, read_words};
-use checks::kinds::SCOPE;
-use words::{clear_from, put_row};
+use crate::numbers::Numbers;
+use checks::kinds::{CALL, REC, SCOPE};
+use words::put_row;
 
-// The twelve numbers that a case begins with, and the place after them.
+// The numbers that a case begins with, but for its patches.
 #[derive(Clone, Copy)]
 pub struct Given {
-    pub table: u32,
-    pub store: u32,
-    pub bindings: u32,
+    pub table: usize,
+    pub store: usize,
+    pub bindings: usize,
     pub mark: u32,
     pub start: u32,
     pub subject: u32,
@@ -41,58 +41,100 @@ pub struct Given {
     pub argument: u32,
     pub second: u32,
     pub patches: u32,
-    pub next: usize,
 }
 
-// The numbers that the text begins with.
-pub fn heads(text: &[u8]) -> Given {
-    let mut words = [0u32; 12];
-    let next = read_words(text, 0, &mut words);
-    Given {
-        table: words[0],
-        store: words[1],
-        bindings: words[2],
-        mark: words[3],
-        start: words[4],
-        subject: words[5],
-        units: words[6],
-        fill: words[7],
-        head: words[8],
-        argument: words[9],
-        second: words[10],
-        patches: words[11],
-        next,
+// The three slices that a case lends.
+#[derive(Drop)]
+pub struct Memory<'a> {
+    pub table: &'a mut [u32],
+    pub store: &'a mut [u32],
+    pub bindings: &'a mut [u32],
+}
+
+// What FILL asks for.
+const PAST: u32 = 1;
+
+const CHAIN: u32 = 2;
+
+const SIX: u32 = 4;
+
+const RECS: u32 = 8;
+
+const BEHIND: u32 = 16;
+
+impl Given {
+    // Reads them.
+    pub fn read(numbers: &mut Numbers) -> Given {
+        Given {
+            table: numbers.number() as usize,
+            store: numbers.number() as usize,
+            bindings: numbers.number() as usize,
+            mark: numbers.number(),
+            start: numbers.number(),
+            subject: numbers.number(),
+            units: numbers.number(),
+            fill: numbers.number(),
+            head: numbers.number(),
+            argument: numbers.number(),
+            second: numbers.number(),
+            patches: numbers.number(),
+        }
+    }
+
+    // The table of a case, and the signature that stands behind its first words where one is lent, if there are so many words.
+    pub fn table_of<'a>(
+        &self,
+        words: &'a [u32],
+        signed: bool,
+    ) -> Option<(&'a [u32], Option<&'a [u32]>)> {
+        if !signed {
+            return Some((words, None));
+        }
+        let at = self.argument as usize;
+        if words.len() < at {
+            return None;
+        }
+        let (table, signature) = words.split_at(at);
+        Some((table, Some(signature)))
+    }
+
+    fn asks(&self, what: u32) -> bool {
+        self.fill & what != 0
+    }
+
+    // An entry whose first operand is given; a scope has its operand after both words of its mask, of which the second is given too.
+    fn entry(&self, operand: u32) -> [u32; 8] {
+        let Given {
+            head,
+            argument,
+            second,
+            ..
+        } = *self;
+        if head / 16 == SCOPE {
+            [head, argument, second, operand, 0, 0, 0, 0]
+        } else {
+            [head, argument, operand, second, 0, 0, 0, 0]
+        }
     }
 }
 
-// An entry whose first operand is given; a scope has its operand after both words of its mask, of which the second is given too.
-fn entry_of(head: u32, argument: u32, operand: u32, second: u32) -> [u32; 8] {
-    if head / 16 == SCOPE {
-        return [head, argument, second, operand, 0, 0, 0, 0];
-    }
-    [head, argument, operand, second, 0, 0, 0, 0]
-}
-
-// The n entries of which each but the last has these words and the next entry as its first operand.
-fn fill_entries(table: &mut [u32], n: u32, head: u32, argument: u32, second: u32)
+// The n entries of which each but the last has the words given and the next entry as its first operand.
+fn fill_entries(table: &mut [u32], n: u32, given: &Given)
     requires { 8 * n ≤ length table.old }
 {
-    let mut e: u32 = 1;
-    while e < n {
-        put_row(table, e - 1, entry_of(head, argument, e, second));
-        e += 1;
+    for e in 1..n {
+        put_row(table, e - 1, given.entry(e));
     }
 }
 
 // The entries below n from entry 2 on: each REC's body calls the REC before.
 fn fill_recs(table: &mut [u32], n: u32)
-    requires { (n ≤ 8192) × (8 * n ≤ length table.old) }
+    requires { 8 * n ≤ length table.old }
 {
-    let mut e: u32 = 3;
-    while e < n {
-        put_row(table, e - 1, [113, 0, e, 0, 0, 0, 0, 0]);
-        put_row(table, e, [129, 0, e - 3, 0, 0, 0, 0, 0]);
-        e += 2;
+    for pair in 1..n / 2 {
+        let rec = 2 * pair;
+        put_row(table, rec, [16 * REC + 1, 0, rec + 1, 0, 0, 0, 0, 0]);
+        put_row(table, rec + 1, [16 * CALL + 1, 0, rec - 2, 0, 0, 0, 0, 0]);
     }
 }
 
@@ -100,10 +142,8 @@ fn fill_recs(table: &mut [u32], n: u32)
 fn fill_chain(store: &mut [u32], n: u32)
     requires { 8 * n ≤ length store.old }
 {
-    let mut k: u32 = 1;
-    while k < n {
+    for k in 1..n {
         put_row(store, k, [1, 1, k - 1, 0, 0, 0, 0, 0]);
-        k += 1;
     }
 }
 
@@ -111,193 +151,112 @@ fn fill_chain(store: &mut [u32], n: u32)
 fn fill_six(store: &mut [u32], n: u32)
     requires { 8 * n ≤ length store.old }
 {
-    let mut k: u32 = 6;
-    while k < n {
+    for k in 6..n {
         put_row(
             store,
             k,
             [k % 65536, 6, k - 1, k - 2, k - 3, k - 4, k - 5, k - 6],
         );
-        k += 1;
     }
 }
 
 // Sets every word from `from` on.
-pub fn spoil(words: &mut [u32], from: usize, word: u32) {
-    let mut i = from;
-    while i < words.len() {
-        words[i] = word;
-        i += 1;
-    }
-}
-
-// Sets the words from the mark on, if the case asks for it.
-fn past(store: &mut [u32], fill: u32, mark: u32) {
-    if fill % 2 == 1 {
-        spoil(store, 8 * (mark as usize), 4294967295);
-    }
-}
-
-// Sets the words behind the table, if the case asks for it.
-fn behind(table: &mut [u32], fill: u32, from: u32, word: u32) {
-    if fill / 16 % 2 == 1 {
-        spoil(table, from as usize, word);
-    }
-}
-
-// Makes the chain of nodes, if the case asks for it.
-fn chain(store: &mut [u32], fill: u32, mark: u32) {
-    if fill / 2 % 2 == 0 {
-        return;
-    }
-    if mark as usize <= store.len() / 8 {
-        fill_chain(store, mark);
-    }
-}
-
-// Makes the nodes of six children, if the case asks for it.
-fn six(store: &mut [u32], fill: u32, mark: u32) {
-    if fill / 4 % 2 == 0 {
-        return;
-    }
-    if mark as usize <= store.len() / 8 {
-        fill_six(store, mark);
-    }
-}
-
-// Makes the RECs, if the case asks for it.
-fn recs(table: &mut [u32], fill: u32) {
-    let rows = table.len() / 8;
-    if 4097 < rows {
-        return;
-    }
-    if fill / 8 % 2 == 1 {
-        fill_recs(table, rows as u32);
-    }
-}
-
-// Makes the entries that the head asks for.
-fn entries(table: &mut [u32], head: u32, argument: u32, second: u32) {
-    let rows = table.len() / 8;
-    if 4097 < rows {
-        return;
-    }
-    if head != 0 {
-        fill_entries(table, rows as u32, head, argument, second);
+fn spoil(words: &mut [u32], from: usize, word: u32) {
+    if from <= words.len() {
+        words[from..].fill(word);
     }
 }
 
 // Sets word k, if there is one.
-fn set(words: &mut [u32], k: u32, value: u32) {
+pub(crate) fn set<N: Copy>(words: &mut [N], k: u32, value: N) {
     if (k as usize) < words.len() {
         words[k as usize] = value;
     }
 }
 
-// Sets word k of the slice named, if there is one.
-fn set_in(
-    slice: u32,
-    k: u32,
-    value: u32,
-    table: &mut [u32],
-    store: &mut [u32],
-    bindings: &mut [u32],
-) {
-    if slice == 0 {
-        set(table, k, value);
-        return;
-    }
-    if slice == 1 {
-        set(store, k, value);
-        return;
-    }
-    set(bindings, k, value);
-}
-
-// Sets each word that the text names, and gives the place after the last.
-fn patch(
-    text: &[u8],
-    start: usize,
-    count: u32,
-    table: &mut [u32],
-    store: &mut [u32],
-    bindings: &mut [u32],
-) -> usize {
-    let mut at = start;
-    let mut i: u32 = 0;
-    while i < count {
-        let slice = number(text, at);
-        let word = number(text, slice.next);
-        let value = number(text, word.next);
-        set_in(slice.value, word.value, value.value, table, store, bindings);
-        at = value.next;
-        i += 1;
-    }
-    at
-}
-
-// Sets byte i, if there is one, to the lowest of a word.
-fn set_byte(bytes: &mut [u8], i: usize, w: u32) {
-    if i < bytes.len() {
-        bytes[i] = (w % 256) as u8;
-    }
-}
-
 // The lowest byte of each word.
 pub fn put_bytes(bytes: &mut [u8], words: &[u32]) {
-    let mut i: usize = 0;
-    while i < words.len() {
-        set_byte(bytes, i, words[i]);
-        i += 1;
-    }
-}
-
-// Sets word i, if there is one, to a byte.
-fn set_word(words: &mut [u32], i: usize, b: u8) {
-    if i < words.len() {
-        words[i] = b as u32;
+    for (b, w) in bytes.iter_mut().zip(words) {
+        *b = (*w % 256) as u8;
     }
 }
 
 // A word for each byte.
 pub fn put_words(words: &mut [u32], bytes: &[u8]) {
-    let mut i: usize = 0;
-    while i < bytes.len() {
-        set_word(words, i, bytes[i]);
-        i += 1;
+    for (w, b) in words.iter_mut().zip(bytes) {
+        *w = *b as u32;
     }
 }
 
 // Makes the words of the store, but for those that the text names.
-fn make_store(given: Given, store: &mut [u32]) {
-    past(store, given.fill, given.mark);
-    chain(store, given.fill, given.mark);
-    six(store, given.fill, given.mark);
+fn make_store(given: &Given, store: &mut [u32]) {
+    let mark = given.mark as usize;
+    if given.asks(PAST) {
+        spoil(store, 8 * mark, 4294967295);
+    }
+    if given.asks(CHAIN) && mark <= store.len() / 8 {
+        fill_chain(store, given.mark);
+    }
+    if given.asks(SIX) && mark <= store.len() / 8 {
+        fill_six(store, given.mark);
+    }
 }
 
 // Makes the words of the table, but for those that the text names.
-fn make_table(given: Given, table: &mut [u32]) {
-    recs(table, given.fill);
-    entries(table, given.head, given.argument, given.second);
-    behind(table, given.fill, given.argument, given.second);
+fn make_table(given: &Given, table: &mut [u32]) {
+    let rows = table.len() / 8;
+    if given.asks(RECS) && rows <= 4097 {
+        fill_recs(table, rows as u32);
+    }
+    if given.head != 0 && rows <= 4097 {
+        fill_entries(table, rows as u32, given);
+    }
+    if given.asks(BEHIND) {
+        spoil(table, given.argument as usize, given.second);
+    }
 }
 
-// Makes the words of a case, and gives the place after its numbers.
-pub fn make(
-    text: &[u8],
-    given: Given,
-    table: &mut [u32],
-    store: &mut [u32],
-    bindings: &mut [u32],
-) -> usize {
-    make_store(given, store);
-    make_table(given, table);
-    patch(text, given.next, given.patches, table, store, bindings)
-}
+impl Memory<'_> {
+    // The parts that a case asks for, if it asks for no more than there is.
+    pub fn part(&mut self, given: &Given) -> Option<Memory<'_>> {
+        if self.table.len() < given.table
+            || self.store.len() < given.store
+            || self.bindings.len() < given.bindings
+        {
+            return None;
+        }
+        Some(Memory {
+            table: &mut self.table[..given.table],
+            store: &mut self.store[..given.store],
+            bindings: &mut self.bindings[..given.bindings],
+        })
+    }
 
-// Clears the words of a case.
-pub fn clear_words(table: &mut [u32], store: &mut [u32], bindings: &mut [u32]) {
-    clear_from(table, 0);
-    clear_from(store, 0);
-    clear_from(bindings, 0);
+    // Sets each word that the text names.
+    fn patch(&mut self, numbers: &mut Numbers, count: u32) {
+        for _ in 0..count {
+            let slice = numbers.number();
+            let k = numbers.number();
+            let value = numbers.number();
+            match slice {
+                0 => set(self.table, k, value),
+                1 => set(self.store, k, value),
+                _ => set(self.bindings, k, value),
+            }
+        }
+    }
+
+    // Makes the words of a case.
+    pub fn make(&mut self, given: &Given, numbers: &mut Numbers) {
+        make_store(given, self.store);
+        make_table(given, self.table);
+        self.patch(numbers, given.patches);
+    }
+
+    // Clears them.
+    pub fn clear(&mut self) {
+        self.table.fill(0);
+        self.store.fill(0);
+        self.bindings.fill(0);
+    }
 }

@@ -1,56 +1,44 @@
-// The numbers of a case.
-ghost use Rattle.std.specs.Prelude.{◌≤◌};
+// The numbers of a case, read one after the other.
 
-// A number of the text, and the place after it and the byte that ends it.
+// What is left of the text of a case.
 #[derive(Clone, Copy)]
-pub struct Digits {
-    pub value: u32,
-    pub next: usize,
+pub struct Numbers<'a> {
+    pub rest: &'a [u8],
 }
 
-// The digit that a byte is; 10 where it is none.
-fn digit(b: u8) -> u64
-    ensures { result ≤ 10 }
-{
-    if b < 48 {
-        return 10;
+// The digit that a byte is, if it is one.
+fn digit(b: u8) -> Option<u32> {
+    match b {
+        b'0'..=b'9' => Some((b - b'0') as u32),
+        _ => None,
     }
-    if 57 < b {
-        return 10;
-    }
-    (b - 48) as u64
 }
 
-// The number at `start`, modulo 2^32; 0 where there is no digit.
-pub fn number(text: &[u8], start: usize) -> Digits {
-    let mut value: u64 = 0;
-    let mut i = start;
-    while i < text.len() {
-        let d = digit(text[i]);
-        i += 1;
-        if d == 10 {
-            return Digits {
-                value: value as u32,
-                next: i,
-            };
+impl<'a> Numbers<'a> {
+    // The next number, modulo 2^32, and past the byte that ends it; 0 where there is no digit.
+    pub fn number(&mut self) -> u32 {
+        let mut value: u32 = 0;
+        while let Some((b, rest)) = self.rest.split_first() {
+            self.rest = rest;
+            match digit(*b) {
+                Some(d) => value = value.wrapping_mul(10).wrapping_add(d),
+                None => break,
+            }
         }
-        value = (value * 10 + d) % 4294967296;
+        value
     }
-    Digits {
-        value: value as u32,
-        next: i,
-    }
-}
 
-// Reads a number of the text for each word, and gives the place after the last.
-pub fn read_words(text: &[u8], start: usize, words: &mut [u32]) -> usize {
-    let mut at = start;
-    let mut i: usize = 0;
-    while i < words.len() {
-        let d = number(text, at);
-        words[i] = d.value;
-        at = d.next;
-        i += 1;
+    // The next two numbers as one of 64 bits, the upper half first.
+    pub fn wide(&mut self) -> u64 {
+        let high = self.number() as u64;
+        let low = self.number() as u64;
+        high * 4294967296 + low
     }
-    at
+
+    // Reads a number for each word.
+    pub fn read(&mut self, words: &mut [u32]) {
+        for w in words.iter_mut() {
+            *w = self.number();
+        }
+    }
 }

@@ -1,13 +1,13 @@
 // The cases of every call but a run in steps and a run with counts.
 #![tactic(auto)]
 
-use cases::memory::Given;
-use cases::show::show_label;
+use cases::memory::{Given, Memory};
+use cases::numbers::Numbers;
 use rule::{call_translate, call_write};
-use single::call_single;
+use single::{call_collect, call_question, call_run};
 use std::io;
 use std::io::Write;
-use subjects::{call_many, is_many};
+use subjects::call_many;
 use whole_job::answer_job;
 
 mod rule;
@@ -19,24 +19,24 @@ mod subjects;
 pub fn answer_plain(
     out: &mut impl Write,
     tag: u8,
-    text: &[u8],
-    next: usize,
-    given: Given,
-    table: &mut [u32],
-    store: &mut [u32],
-    bindings: &mut [u32],
+    numbers: &mut Numbers,
+    given: &Given,
+    memory: &mut Memory,
 ) -> io::Result<bool> {
-    if is_many(tag) {
-        return call_many(out, tag, text, next, given, table, store, bindings);
+    if let b'm' | b'n' | b'k' = tag {
+        return call_many(out, tag, numbers, given, memory);
     }
     if tag == b'a' {
-        return call_translate(out, text, next, given, table);
+        return call_translate(out, numbers.rest, given, memory.table);
     }
-    show_label(out, text, next)?;
-    if tag == b'w' {
-        return call_write(out, given, table, store);
+    out.write_all(numbers.rest)?;
+    match tag {
+        b'w' => call_write(out, given, memory),
+        b'c' => call_collect(out, given, memory),
+        b't' | b's' | b'f' => call_question(out, tag, given, memory),
+        b'r' | b'g' | b'i' => call_run(out, tag, given, memory),
+        _ => Ok(false),
     }
-    call_single(out, tag, given, table, store, bindings)
 }
 
 // Answers a job: a line `# LENGTH`, then the answer's text.

@@ -1,77 +1,56 @@
 // The translator of rules and the writer of one.
-use cases::memory::{Given, put_bytes, put_words};
-use cases::show::{show_label, show_number, show_slice};
-use check_rules::check::Translated;
+use cases::memory::{Given, Memory, put_bytes, put_words};
+use cases::show::{show_numbers, show_slice};
+use check_rules::check::four_numbers;
 use std::io;
 use std::io::Write;
 use translate::translate::translate;
-use write_rules::rule::{Written, write_rule};
+use write_rules::rule::{three_numbers, write_rule};
 
-// Prints what the translator of rules returns, and the table that it leaves.
-fn show_translated(out: &mut impl Write, r: Translated, table: &[u32]) -> io::Result<()> {
-    show_number(out, r.answer as u64)?;
-    show_number(out, r.line as u64)?;
-    show_number(out, r.field as u64)?;
-    show_number(out, r.used as u64)?;
-    show_slice(out, table)
-}
-
-// Prints what the writer of a rule returns, and the bytes of the buffer that it leaves, one in each word.
-fn show_written(out: &mut impl Write, r: Written, bytes: &[u32]) -> io::Result<()> {
-    show_number(out, r.answer as u64)?;
-    show_number(out, r.place as u64)?;
-    show_number(out, r.length as u64)?;
-    show_slice(out, bytes)
-}
-
-// The rules of the n bytes from place `at` on, behind which the label stands: whether there are so many.
+// The rules of a text, behind which the label stands, and the table that the translator leaves: whether the text is so long.
 pub(crate) fn call_translate(
     out: &mut impl Write,
-    text: &[u8],
-    at: usize,
-    given: Given,
+    rest: &[u8],
+    given: &Given,
     table: &mut [u32],
 ) -> io::Result<bool> {
     let k = given.start as usize;
-    if text.len() < at {
-        return Ok(false);
-    }
-    let rest = &text[at..];
     if rest.len() < k {
         return Ok(false);
     }
-    show_label(out, rest, k)?;
-    let r = translate(table, given.subject, &rest[..k]);
-    show_translated(out, r, table)?;
+    let (text, label) = rest.split_at(k);
+    out.write_all(label)?;
+    let r = translate(table, given.subject, text);
+    show_numbers(out, &four_numbers(r, given.subject))?;
+    show_slice(out, table)?;
     Ok(true)
 }
 
 // The writer into the bytes of the store's words, one in each.
 fn write_bytes(
     out: &mut impl Write,
-    given: Given,
-    table: &[u32],
-    store: &mut [u32],
+    given: &Given,
+    memory: &mut Memory,
     buffer: &mut [u8],
 ) -> io::Result<()> {
-    put_bytes(buffer, store);
-    let r = write_rule(table, given.subject, given.start, buffer);
-    put_words(store, buffer);
-    show_written(out, r, store)
+    put_bytes(buffer, memory.store);
+    let r = write_rule(memory.table, given.subject, given.start, buffer);
+    put_words(memory.store, buffer);
+    show_numbers(out, &three_numbers(r))?;
+    show_slice(out, memory.store)
 }
 
 // The same with a buffer of its own: whether it is as long as the store.
 pub(crate) fn call_write(
     out: &mut impl Write,
-    given: Given,
-    table: &[u32],
-    store: &mut [u32],
+    given: &Given,
+    memory: &mut Memory,
 ) -> io::Result<bool> {
     let mut buffer = [0u8; 65536];
-    let k = store.len();
-    if 65536 < k {
+    let k = memory.store.len();
+    if buffer.len() < k {
         return Ok(false);
     }
-    write_bytes(out, given, table, store, &mut buffer[..k])?;
+    write_bytes(out, given, memory, &mut buffer[..k])?;
     Ok(true)
 }

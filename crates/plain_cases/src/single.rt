@@ -1,155 +1,97 @@
 // The checks, the question of free variables, a run and a collection.
-use cases::memory::Given;
-use cases::show::{show_checked, show_collected, show_free, show_run};
+use calls::five_numbers;
+use cases::memory::{Given, Memory};
+use cases::show::{show_memory, show_numbers, show_set};
 use checks::entries::check_table;
 use checks::nodes::check_store;
-use collect::collect;
-use free::free_variables;
+use checks::refusal::numbers_of;
+use collect::{collect, four_numbers};
+use free::{free_variables, three_numbers};
 use indexed::run::run_indexed;
-use running::{run, run_signed};
+use running::run;
 use std::io;
 use std::io::Write;
 
-// A run.
-fn call_run(
+// The run of a tag: with the signature that stands behind the table's first words for `g`, with the index that stands behind the store's
+// for `i`. Whether there are so many words.
+pub(crate) fn call_run(
     out: &mut impl Write,
-    given: Given,
-    table: &[u32],
-    store: &mut [u32],
-    bindings: &mut [u32],
-) -> io::Result<()> {
-    let r = run(
-        table,
-        store,
-        bindings,
-        given.mark,
-        given.start,
-        given.subject,
-        given.units,
-    );
-    show_run(out, r, store, bindings)
-}
-
-// A run with the index that stands behind the store's first words.
-fn call_indexed(
-    out: &mut impl Write,
-    given: Given,
-    table: &[u32],
-    store: &mut [u32],
-    bindings: &mut [u32],
-) -> io::Result<()> {
-    let r = run_indexed(
-        table,
-        store,
-        given.argument as usize,
-        bindings,
-        given.mark,
-        given.start,
-        given.subject,
-        given.units,
-    );
-    show_run(out, r, store, bindings)
-}
-
-// A run with the signature that stands behind the first `at` words, which are the table: whether there are so many.
-fn call_signed(
-    out: &mut impl Write,
-    given: Given,
-    words: &[u32],
-    store: &mut [u32],
-    bindings: &mut [u32],
+    tag: u8,
+    given: &Given,
+    memory: &mut Memory,
 ) -> io::Result<bool> {
-    let at = given.argument as usize;
-    if words.len() < at {
+    let Some((table, signature)) = given.table_of(memory.table, tag == b'g') else {
         return Ok(false);
-    }
-    let r = run_signed(
-        &words[..at],
+    };
+    let Given {
+        mark,
+        start,
+        subject,
+        units,
+        argument,
+        ..
+    } = *given;
+    let Memory {
         store,
         bindings,
-        given.mark,
-        given.start,
-        given.subject,
-        given.units,
-        &words[at..],
-    );
-    show_run(out, r, store, bindings)?;
+        ..
+    } = memory;
+    let r = if tag == b'i' {
+        run_indexed(
+            table,
+            store,
+            argument as usize,
+            bindings,
+            mark,
+            start,
+            subject,
+            units,
+            signature,
+        )
+    } else {
+        run(
+            table, store, bindings, mark, start, subject, units, signature,
+        )
+    };
+    show_numbers(out, &five_numbers(r, subject, mark))?;
+    show_memory(out, store, bindings)?;
     Ok(true)
 }
 
 // A collection, with the table as its work list.
-fn call_collect(
+pub(crate) fn call_collect(
     out: &mut impl Write,
-    given: Given,
-    work: &mut [u32],
-    store: &mut [u32],
-    bindings: &mut [u32],
-) -> io::Result<()> {
-    let r = collect(store, bindings, work, given.mark, given.subject);
-    show_collected(out, r, store, bindings, work)
-}
-
-// Makes the run of a tag on the words lent, and prints what it gives back: whether the tag has one.
-fn call_any_run(
-    out: &mut impl Write,
-    tag: u8,
-    given: Given,
-    table: &[u32],
-    store: &mut [u32],
-    bindings: &mut [u32],
+    given: &Given,
+    memory: &mut Memory,
 ) -> io::Result<bool> {
-    if tag == b'r' {
-        call_run(out, given, table, store, bindings)?;
-        return Ok(true);
-    }
-    if tag == b'i' {
-        call_indexed(out, given, table, store, bindings)?;
-        return Ok(true);
-    }
-    if tag == b'g' {
-        return call_signed(out, given, table, store, bindings);
-    }
-    Ok(false)
+    let Memory {
+        table: work,
+        store,
+        bindings,
+    } = memory;
+    let r = collect(store, bindings, work, given.mark, given.subject);
+    show_numbers(out, &four_numbers(r, given.subject, given.mark))?;
+    show_memory(out, store, bindings)?;
+    out.write_all(b" :")?;
+    show_set(out, work)?;
+    Ok(true)
 }
 
 // Prints what the question of a tag answers, which changes no word: whether the tag has one.
-fn call_question(
+pub(crate) fn call_question(
     out: &mut impl Write,
     tag: u8,
-    given: Given,
-    table: &[u32],
-    store: &[u32],
+    given: &Given,
+    memory: &Memory,
 ) -> io::Result<bool> {
-    if tag == b't' {
-        show_checked(out, check_table(table))?;
-        return Ok(true);
+    match tag {
+        b't' => show_numbers(out, &numbers_of(check_table(memory.table)))?,
+        b's' => show_numbers(out, &numbers_of(check_store(memory.store, given.mark)))?,
+        b'f' => show_numbers(
+            out,
+            &three_numbers(free_variables(memory.table, given.start)),
+        )?,
+        _ => return Ok(false),
     }
-    if tag == b's' {
-        show_checked(out, check_store(store, given.mark))?;
-        return Ok(true);
-    }
-    if tag == b'f' {
-        show_free(out, free_variables(table, given.start))?;
-        return Ok(true);
-    }
-    Ok(false)
-}
-
-// Makes the call of a tag on the words lent, and prints what it gives back: whether the tag has a call.
-pub(crate) fn call_single(
-    out: &mut impl Write,
-    tag: u8,
-    given: Given,
-    table: &mut [u32],
-    store: &mut [u32],
-    bindings: &mut [u32],
-) -> io::Result<bool> {
-    if tag == b'c' {
-        call_collect(out, given, table, store, bindings)?;
-        return Ok(true);
-    }
-    if call_question(out, tag, given, table, store)? {
-        return Ok(true);
-    }
-    call_any_run(out, tag, given, table, store, bindings)
+    Ok(true)
 }

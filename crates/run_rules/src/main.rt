@@ -23,7 +23,7 @@ fn answer_text(rt: &(impl Print + Eprint), text: &[u8]) -> io::Result<()> {
     let base = read_entries(text, &mut table);
     let rules = base.rules;
     let told = translate(&mut table, base.used, &text[rules..]);
-    if show_answer(&mut io::writer(rt), &table, told).is_err() {
+    if show_answer(&mut io::writer(rt), &table, base.used, told).is_err() {
         return rt.eprintln("run_rules: the answer is not written whole");
     }
     Ok(())

@@ -18,9 +18,8 @@ pub(crate) fn read_entries(text: &[u8], table: &mut [u32]) -> Base
     requires { length table.old ≡ 32768 }
     ensures { result.rules ≤ length text.now }
 {
-    let mut used: u32 = 0;
     let mut at: usize = 0;
-    while used < 4096 {
+    for used in 0..4096 {
         let line = line_at(text, at);
         if line.name != 1 {
             return Base { used, rules: at };
@@ -29,7 +28,9 @@ pub(crate) fn read_entries(text: &[u8], table: &mut [u32]) -> Base
         let row = entry_row(line.count, numbers, line.high);
         put_row(table, used, row);
         at = line.next;
-        used += 1;
     }
-    Base { used, rules: at }
+    Base {
+        used: 4096,
+        rules: at,
+    }
 }

@@ -1,296 +1,86 @@
 // A run with counts.
+use calls::five_numbers;
 use cases::counts::make_counts;
-use cases::memory::Given;
-use cases::numbers::number;
-use cases::show::{show_counted, show_label};
-use counting::{run_counted, run_counted_signed, run_indexed_counted, run_indexed_counted_signed};
+use cases::memory::{Given, Memory};
+use cases::numbers::Numbers;
+use cases::show::{show_lists, show_numbers};
+use checks::refusal::Refusal;
+use counting::{run_counted, run_indexed_counted};
 use std::io;
 use std::io::Write;
+use tallying::RanCounted;
 
-// A run with counts.
-fn run_plain(
+// Prints what a run with counts returns, with how many patterns and pairs were seen.
+fn show_counted(
     out: &mut impl Write,
-    given: Given,
-    table: &[u32],
-    store: &mut [u32],
-    bindings: &mut [u32],
-    counts: &mut [u64],
+    r: Result<RanCounted, Refusal>,
+    given: &Given,
 ) -> io::Result<()> {
-    let r = run_counted(
-        table,
-        store,
-        bindings,
-        given.mark,
-        given.start,
-        given.subject,
-        given.units,
-        counts,
-    );
-    show_counted(
-        out,
-        r.ended,
-        r.seen.patterns,
-        r.seen.pairs,
-        store,
-        bindings,
-        counts,
-    )
+    let (ran, seen) = match r {
+        Ok(counted) => (Ok(counted.ran), [counted.seen.patterns, counted.seen.pairs]),
+        Err(e) => (Err(e), [0, 0]),
+    };
+    show_numbers(out, &five_numbers(ran, given.subject, given.mark))?;
+    show_numbers(out, &seen)
 }
 
-// The same with the index that stands behind the store's first words.
-fn run_shared(
-    out: &mut impl Write,
-    given: Given,
-    own: usize,
-    table: &[u32],
-    store: &mut [u32],
-    bindings: &mut [u32],
-    counts: &mut [u64],
-) -> io::Result<()> {
-    let r = run_indexed_counted(
-        table,
-        store,
-        own,
-        bindings,
-        given.mark,
-        given.start,
-        given.subject,
-        given.units,
-        counts,
-    );
-    show_counted(
-        out,
-        r.ended,
-        r.seen.patterns,
-        r.seen.pairs,
-        store,
-        bindings,
-        counts,
-    )
-}
-
-// A run with counts and a signature.
-fn run_signed(
-    out: &mut impl Write,
-    given: Given,
-    table: &[u32],
-    store: &mut [u32],
-    bindings: &mut [u32],
-    counts: &mut [u64],
-    signature: &[u32],
-) -> io::Result<()> {
-    let r = run_counted_signed(
-        table,
-        store,
-        bindings,
-        given.mark,
-        given.start,
-        given.subject,
-        given.units,
-        counts,
-        signature,
-    );
-    show_counted(
-        out,
-        r.ended,
-        r.seen.patterns,
-        r.seen.pairs,
-        store,
-        bindings,
-        counts,
-    )
-}
-
-// The same with the index that stands behind the store's first words.
-fn run_shared_signed(
-    out: &mut impl Write,
-    given: Given,
-    own: usize,
-    table: &[u32],
-    store: &mut [u32],
-    bindings: &mut [u32],
-    counts: &mut [u64],
-    signature: &[u32],
-) -> io::Result<()> {
-    let r = run_indexed_counted_signed(
-        table,
-        store,
-        own,
-        bindings,
-        given.mark,
-        given.start,
-        given.subject,
-        given.units,
-        counts,
-        signature,
-    );
-    show_counted(
-        out,
-        r.ended,
-        r.seen.patterns,
-        r.seen.pairs,
-        store,
-        bindings,
-        counts,
-    )
-}
-
-// The run of a tag with a signature.
-fn run_obeying(
-    out: &mut impl Write,
-    tag: u8,
-    given: Given,
-    own: usize,
-    table: &[u32],
-    store: &mut [u32],
-    bindings: &mut [u32],
-    counts: &mut [u64],
-    signature: &[u32],
-) -> io::Result<()> {
-    if tag == b'x' {
-        run_signed(out, given, table, store, bindings, counts, signature)
-    } else {
-        run_shared_signed(out, given, own, table, store, bindings, counts, signature)
-    }
-}
-
-// The same with the signature that stands behind the first `at` words, which are the table: whether there are so many.
-fn run_behind(
-    out: &mut impl Write,
-    tag: u8,
-    given: Given,
-    own: usize,
-    words: &[u32],
-    store: &mut [u32],
-    bindings: &mut [u32],
-    counts: &mut [u64],
-) -> io::Result<bool> {
-    let at = given.argument as usize;
-    if words.len() < at {
-        return Ok(false);
-    }
-    run_obeying(
-        out,
-        tag,
-        given,
-        own,
-        &words[..at],
-        store,
-        bindings,
-        counts,
-        &words[at..],
-    )?;
-    Ok(true)
-}
-
-// The run of a tag.
+// The run of a tag: with the signature that stands behind the table's first words for `x` and `z`, with the index that stands behind the
+// store's first `own` words for `y` and `z`. Whether there are so many words.
 fn run_tag(
     out: &mut impl Write,
     tag: u8,
-    given: Given,
+    given: &Given,
     own: usize,
-    words: &[u32],
-    store: &mut [u32],
-    bindings: &mut [u32],
+    memory: &mut Memory,
     counts: &mut [u64],
 ) -> io::Result<bool> {
-    if tag == b'v' {
-        run_plain(out, given, words, store, bindings, counts)?;
-        return Ok(true);
-    }
-    if tag == b'y' {
-        run_shared(out, given, own, words, store, bindings, counts)?;
-        return Ok(true);
-    }
-    run_behind(out, tag, given, own, words, store, bindings, counts)
-}
-
-// The same with the counts that the text from `start` on asks for, the label behind them printed first.
-fn call_lent(
-    out: &mut impl Write,
-    tag: u8,
-    text: &[u8],
-    start: usize,
-    given: Given,
-    own: usize,
-    table: &[u32],
-    store: &mut [u32],
-    bindings: &mut [u32],
-    counts: &mut [u64],
-) -> io::Result<bool> {
-    let label = make_counts(text, start, counts);
-    show_label(out, text, label)?;
-    run_tag(out, tag, given, own, table, store, bindings, counts)
-}
-
-// The same in the part of a list that the case asks for, the words of the store standing at `start` and the length of the counts behind them:
-// whether it asks for no more than there is.
-fn call_parts(
-    out: &mut impl Write,
-    tag: u8,
-    text: &[u8],
-    start: usize,
-    given: Given,
-    table: &[u32],
-    store: &mut [u32],
-    bindings: &mut [u32],
-    counts: &mut [u64],
-) -> io::Result<bool> {
-    let own = number(text, start);
-    let length = number(text, own.next);
-    let k = length.value as usize;
-    if counts.len() < k {
+    let signed = matches!(tag, b'x' | b'z');
+    let Some((table, signature)) = given.table_of(memory.table, signed) else {
         return Ok(false);
-    }
-    call_lent(
-        out,
-        tag,
-        text,
-        length.next,
-        given,
-        own.value as usize,
-        table,
+    };
+    let Given {
+        mark,
+        start,
+        subject,
+        units,
+        ..
+    } = *given;
+    let Memory {
         store,
         bindings,
-        &mut counts[..k],
-    )
+        ..
+    } = memory;
+    let r = if let b'y' | b'z' = tag {
+        run_indexed_counted(
+            table, store, own, bindings, mark, start, subject, units, counts, signature,
+        )
+    } else {
+        run_counted(
+            table, store, bindings, mark, start, subject, units, counts, signature,
+        )
+    };
+    show_counted(out, r, given)?;
+    show_lists(out, store, bindings, counts)?;
+    Ok(true)
 }
 
-// The same with a list of its own: more than the counts of 4,096 entries.
+// The same with a list of counts of its own, more than those of 4,096 entries, of which the case asks for a part; the label behind its
+// counts is printed first. Whether it asks for no more than there is.
 pub(crate) fn call_counted(
     out: &mut impl Write,
     tag: u8,
-    text: &[u8],
-    start: usize,
-    given: Given,
-    table: &[u32],
-    store: &mut [u32],
-    bindings: &mut [u32],
+    numbers: &mut Numbers,
+    given: &Given,
+    memory: &mut Memory,
 ) -> io::Result<bool> {
     let mut counts = [0u64; 16400];
-    call_parts(
-        out,
-        tag,
-        text,
-        start,
-        given,
-        table,
-        store,
-        bindings,
-        &mut counts,
-    )
-}
-
-// Whether the tag is that of a run with counts.
-pub(crate) fn is_counted(tag: u8) -> bool {
-    if tag == b'v' {
-        return true;
+    let own = numbers.number() as usize;
+    let k = numbers.number() as usize;
+    if counts.len() < k {
+        return Ok(false);
     }
-    if tag == b'x' {
-        return true;
-    }
-    if tag == b'y' {
-        return true;
-    }
-    tag == b'z'
+    let counts = &mut counts[..k];
+    make_counts(numbers, counts);
+    out.write_all(numbers.rest)?;
+    run_tag(out, tag, given, own, memory, counts)
 }

@@ -1,6 +1,7 @@
 // The call of each tag.
-use crate::counted::{call_counted, is_counted};
-use cases::memory::{Given, clear_words, heads, make};
+use crate::counted::call_counted;
+use cases::memory::{Given, Memory};
+use cases::numbers::Numbers;
 use plain_cases::{answer_plain, answer_text};
 use std::io;
 use std::io::Write;
@@ -11,73 +12,45 @@ use stepped_cases::call_steps;
 fn answer_made(
     out: &mut impl Write,
     tag: u8,
-    text: &[u8],
-    next: usize,
-    given: Given,
-    table: &mut [u32],
-    store: &mut [u32],
-    bindings: &mut [u32],
+    numbers: &mut Numbers,
+    given: &Given,
+    memory: &mut Memory,
 ) -> io::Result<bool> {
-    if tag == b'p' {
-        return call_steps(out, text, next, given, table, store, bindings, false);
+    match tag {
+        b'p' | b'q' => call_steps(out, numbers, given, memory, tag == b'q'),
+        b'v' | b'x' | b'y' | b'z' => call_counted(out, tag, numbers, given, memory),
+        _ => answer_plain(out, tag, numbers, given, memory),
     }
-    if tag == b'q' {
-        return call_steps(out, text, next, given, table, store, bindings, true);
-    }
-    if is_counted(tag) {
-        return call_counted(out, tag, text, next, given, table, store, bindings);
-    }
-    answer_plain(out, tag, text, next, given, table, store, bindings)
 }
 
 // Makes the words of a case, prints its label and what its call gives back, and clears the words.
 fn answer_words(
     out: &mut impl Write,
     tag: u8,
-    text: &[u8],
-    given: Given,
-    table: &mut [u32],
-    store: &mut [u32],
-    bindings: &mut [u32],
+    numbers: &mut Numbers,
+    given: &Given,
+    memory: &mut Memory,
 ) -> io::Result<bool> {
-    let next = make(text, given, table, store, bindings);
-    let known = answer_made(out, tag, text, next, given, table, store, bindings)?;
+    memory.make(given, numbers);
+    let known = answer_made(out, tag, numbers, given, memory)?;
     out.write_all(b"\n")?;
-    clear_words(table, store, bindings);
+    memory.clear();
     Ok(known)
 }
 
-// The same in the parts that the case asks for: whether it asks for no more than there is.
+// The same in the parts of the memory that the case asks for: whether it asks for no more than there is.
 fn answer_lent(
     out: &mut impl Write,
     tag: u8,
     text: &[u8],
-    table: &mut [u32],
-    store: &mut [u32],
-    bindings: &mut [u32],
+    memory: &mut Memory,
 ) -> io::Result<bool> {
-    let given = heads(text);
-    let t = given.table as usize;
-    let s = given.store as usize;
-    let b = given.bindings as usize;
-    if table.len() < t {
-        return Ok(false);
+    let mut numbers = Numbers { rest: text };
+    let given = Given::read(&mut numbers);
+    match memory.part(&given) {
+        Some(mut part) => answer_words(out, tag, &mut numbers, &given, &mut part),
+        None => Ok(false),
     }
-    if store.len() < s {
-        return Ok(false);
-    }
-    if bindings.len() < b {
-        return Ok(false);
-    }
-    answer_words(
-        out,
-        tag,
-        text,
-        given,
-        &mut table[..t],
-        &mut store[..s],
-        &mut bindings[..b],
-    )
 }
 
 // Executes a case: whether it is one.
@@ -85,12 +58,11 @@ pub(crate) fn answer_case(
     out: &mut impl Write,
     tag: u8,
     text: &[u8],
-    table: &mut [u32],
-    store: &mut [u32],
-    bindings: &mut [u32],
+    memory: &mut Memory,
 ) -> io::Result<bool> {
     if tag == b'j' {
-        return answer_text(out, text);
+        answer_text(out, text)
+    } else {
+        answer_lent(out, tag, text, memory)
     }
-    answer_lent(out, tag, text, table, store, bindings)
 }
