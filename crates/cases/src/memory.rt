@@ -217,21 +217,6 @@ fn make_table(given: &Given, table: &mut [u32]) {
 }
 
 impl Memory<'_> {
-    // The parts that a case asks for, if it asks for no more than there is.
-    pub fn part(&mut self, given: &Given) -> Option<Memory<'_>> {
-        if self.table.len() < given.table
-            || self.store.len() < given.store
-            || self.bindings.len() < given.bindings
-        {
-            return None;
-        }
-        Some(Memory {
-            table: &mut self.table[..given.table],
-            store: &mut self.store[..given.store],
-            bindings: &mut self.bindings[..given.bindings],
-        })
-    }
-
     // Sets each word that the text names.
     fn patch(&mut self, numbers: &mut Numbers, count: u32) {
         for _ in 0..count {

@@ -47,10 +47,18 @@ fn answer_lent(
 ) -> io::Result<bool> {
     let mut numbers = Numbers { rest: text };
     let given = Given::read(&mut numbers);
-    match memory.part(&given) {
-        Some(mut part) => answer_words(out, tag, &mut numbers, &given, &mut part),
-        None => Ok(false),
+    if memory.table.len() < given.table
+        || memory.store.len() < given.store
+        || memory.bindings.len() < given.bindings
+    {
+        return Ok(false);
     }
+    let mut part = Memory {
+        table: &mut memory.table[..given.table],
+        store: &mut memory.store[..given.store],
+        bindings: &mut memory.bindings[..given.bindings],
+    };
+    answer_words(out, tag, &mut numbers, &given, &mut part)
 }
 
 // Executes a case: whether it is one.
