@@ -1,12 +1,11 @@
 -- Variables out of range, of which a line may have as many as it has fields: whether one is used before it is bound, asked of those
 -- from a number `low` on and below another.
-use Rattle.std.specs.Prelude.{◌≡◌, ◌⊎◌, Bool, true, false, ◌||◌, List, [], ◌∷◌, ℕ, ◌+◌, ◌≤◌, ◌<◌, leb, ltb, eqb, length, if◌then◌else◌}
+use Rattle.std.specs.Prelude.{◌≡◌, ◌⊎◌, Bool, true, false, ◌||◌, List, [], ◌∷◌, ℕ, ◌+◌, ◌≤◌, ◌<◌, leb, ltb, eqb, length, if◌then◌else◌, Option, Some, None}
 use Rattle.checks.specs.Kinds.{variables as most}
 use Rattle.rules.specs.Rule.{Rule}
 use Rattle.rules.specs.Text.{Fields, Head, variable, constructor, neither, head_of, ReadRule, rule, bad_field}
 use Rattle.check_rules.specs.Bound.{late}
 use Rattle.variable_tree.specs.Tree.{KeyOf}
-use Rattle.check_rules.specs.declared.far.Settled.{Settled}
 
 -- one more than the greatest number of a variable that the grammar has
 abbrev pub numbers : ℕ
@@ -41,6 +40,16 @@ pub data Early (r : Rule) (low below : ℕ) (ks : List ℕ) (here : ℕ → Bool
 abbrev pub EarlyIn : ReadRule → (low below : ℕ) → List ℕ → (ℕ → Bool) → Bool → Type 0
 EarlyIn (rule r) low below ks here answer = Early r low below ks here answer
 EarlyIn (bad_field n) low below ks here answer = Unit {0}
+
+-- what a pass says: whether a variable is used too early, and below which number that was asked
+pub record Settled : Type 0 where
+  pub late : Bool
+  pub below : ℕ
+
+-- what the code tells of it: the number, where none is
+abbrev pub settled_of : Option ℕ → Settled
+settled_of None = record { late = true; below = 0 }
+settled_of (Some b) = record { late = false; below = b }
 
 -- a pass over the line: one is used too early, or none of those from `low` on and below the returned number
 pub data Settles (r : Rule) (low : ℕ) (s : Settled) : Type 0 where

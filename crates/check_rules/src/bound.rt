@@ -3,24 +3,20 @@ ghost use Rattle.std.specs.Prelude.{◌≡◌, ◌+◌};
 ghost use Rattle.rules.specs.Text.{head_of, rule_of};
 ghost use Rattle.rules.specs.Text as grammar;
 ghost use Rattle.rules.specs.Scan.{fields_from};
-ghost use Rattle.check_rules.specs.Bound.{marked_by, marks_from, RuleLine, LateIn};
+ghost use Rattle.check_rules.specs.Bound.{marked_by, marks_from, LateIn};
 
-use rules::condition::condition_at;
 use rules::field::{Head, head_of};
-use text::field::next_at;
+use rules::fields::Fields;
+use rules::rule_text::RuleText;
 
 // The mask with the bit of a variable, where it is in the window.
 fn with_bit(mask: u64, base: u32, v: u32) -> u64
     ensures { result ≡ marked_by base mask (grammar.variable v) }
 {
-    if v < base {
-        return mask;
+    match v.checked_sub(base) {
+        Some(j) if j < 64 => mask | 1 << j,
+        _ => mask,
     }
-    let j = v - base;
-    if j < 64 {
-        return mask | (1 << j);
-    }
-    mask
 }
 
 // The mask with the bit of a field's variable.
@@ -38,36 +34,25 @@ pub fn marks(line: &[u8], from: usize, to: usize, base: u32) -> u64
     ensures { result ≡ marks_from base (fields_from line.now from) from to 0 }
 {
     let mut mask: u64 = 0;
-    let mut at = from;
-    while at < to {
-        if line.len() < at {
-            return mask;
-        }
-        let end = next_at(line, at, 9);
-        mask = mark(mask, base, &line[at..end]);
-        at = end + 1;
+    for field in Fields::between(line, from, to) {
+        mask = mark(mask, base, field);
     }
     mask
 }
 
 // Whether a variable of the window is used before it is bound.
-pub(crate) fn unbound(line: &[u8], right: usize, conditions: usize, base: u32) -> bool
-    requires { RuleLine line.now right conditions }
-    ensures { LateIn (rule_of line.now) base result }
+pub(crate) fn unbound(rule: &RuleText<'_>, base: u32) -> bool
+    ensures { LateIn (rule_of rule.now.line.now) base result }
 {
-    let mut bound = marks(line, 0, right, base);
-    let mut at = conditions;
-    while at <= line.len() {
-        let Ok(c) = condition_at(line, at) else {
-            unreachable!();
-        };
+    let line = rule.line;
+    let mut bound = marks(line, 0, rule.right, base);
+    for c in rule.conditions() {
         let needed = marks(line, c.start, c.outcome, base);
         if needed & bound != needed {
             return true;
         }
-        bound = bound | marks(line, c.outcome, c.next, base);
-        at = c.next;
+        bound |= marks(line, c.outcome, c.next, base);
     }
-    let last = marks(line, right, conditions, base);
+    let last = marks(line, rule.right, rule.conditions, base);
     last & bound != last
 }

@@ -55,7 +55,12 @@ fn first_bad_field(line: &[u8]) -> usize
 }
 
 // The entries in use with the rules of a text, over a table whose first `used` entries are in use.
-pub(crate) fn check_text(table: &[u32], masks: &[u64], used: u32, text: &[u8]) -> Result<u32, RulesRefusal>
+pub(crate) fn check_text(
+    table: &[u32],
+    masks: &[u64],
+    used: u32,
+    text: &[u8],
+) -> Result<u32, RulesRefusal>
     requires { (length table.now ≤ 32768) × (used ≤ rows table.now) }
     ensures { told_of result used ≡ text_checked (callable table.now masks.now used) (rows table.now) used 1 used (parts 10 text.now) }
 {

@@ -1,13 +1,12 @@
 // A line of the text: is it a rule's, and one that may be taken? Nothing is written.
 ghost use Rattle.std.specs.Prelude.{◌≡◌};
 ghost use Rattle.rules.specs.Text.{rule_of};
-ghost use Rattle.check_rules.specs.Bound.{RuleLine};
 ghost use Rattle.check_rules.specs.Line.{line_fault_number, fault_field, callable as callableBy, CallsIn, line_told, line_of};
 
 use crate::variables::check_variables;
 use checks::entries::kind_of;
 use checks::kinds::REC;
-use rules::condition::condition_at;
+use rules::rule_text::RuleText;
 use rules::shape::shape_of;
 
 // What is wrong with a line, the first in this order.
@@ -54,40 +53,17 @@ impl LineFault {
 fn callable(table: &[u32], masks: &[u64], used: u32, x: u32) -> bool
     ensures { result ≡ callableBy table.now masks.now used x }
 {
-    if used <= x {
-        return false;
-    }
-    if kind_of(table, x) != REC {
-        return false;
-    }
-    let i = x as usize;
-    if i < masks.len() {
-        return masks[i] == 0;
-    }
-    true
+    x < used && kind_of(table, x) == REC && masks.get(x as usize).copied().unwrap_or(0) == 0
 }
 
 // Every condition's number is such an entry's.
-fn calls(
-    line: &[u8],
-    right: usize,
-    conditions: usize,
-    table: &[u32],
-    masks: &[u64],
-    used: u32,
-) -> bool
-    requires { RuleLine line.now right conditions }
-    ensures { CallsIn (rule_of line.now) (callableBy table.now masks.now used) result }
+fn calls(rule: &RuleText<'_>, table: &[u32], masks: &[u64], used: u32) -> bool
+    ensures { CallsIn (rule_of rule.now.line.now) (callableBy table.now masks.now used) result }
 {
-    let mut at = conditions;
-    while at <= line.len() {
-        let Ok(c) = condition_at(line, at) else {
-            unreachable!();
-        };
+    for c in rule.conditions() {
         if !callable(table, masks, used, c.callee) {
             return false;
         }
-        at = c.next;
     }
     true
 }
@@ -96,13 +72,13 @@ fn calls(
 pub fn check_line(line: &[u8], table: &[u32], masks: &[u64], used: u32) -> Result<usize, LineFault>
     ensures { line_told (line_of (callableBy table.now masks.now used) (rule_of line.now)) result }
 {
-    let s = match shape_of(line) {
-        Ok(shape) => shape,
+    let rule = match shape_of(line) {
+        Ok(rule) => rule,
         Err(field) => return Err(LineFault::Shape(field)),
     };
-    check_variables(line, s.right, s.conditions)?;
-    if !calls(line, s.right, s.conditions, table, masks, used) {
+    check_variables(&rule)?;
+    if !calls(&rule, table, masks, used) {
         return Err(LineFault::Callee);
     }
-    Ok(s.size)
+    Ok(rule.size)
 }

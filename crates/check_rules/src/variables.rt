@@ -2,7 +2,7 @@
 ghost use Rattle.std.specs.Prelude.{◌≡◌};
 ghost use Rattle.rules.specs.Text.{head_of, rule_of};
 ghost use Rattle.rules.specs.Scan.{fields_from};
-ghost use Rattle.check_rules.specs.Bound.{RuleLine, answers_variables};
+ghost use Rattle.check_rules.specs.Bound.{answers_variables};
 ghost use Rattle.check_rules.specs.Line.{variables_told};
 ghost use Rattle.check_rules.specs.Far.{outside_range, any_outside};
 
@@ -11,7 +11,8 @@ use crate::far::far_fault;
 use crate::line::LineFault;
 use checks::kinds::VARIABLES;
 use rules::field::{Head, head_of};
-use text::field::next_at;
+use rules::fields::Fields;
+use rules::rule_text::RuleText;
 
 // Whether a field's variable is out of range.
 fn outside(field: &[u8]) -> bool
@@ -27,28 +28,19 @@ fn outside(field: &[u8]) -> bool
 fn any_outside(line: &[u8]) -> bool
     ensures { result ≡ any_outside (fields_from line.now 0) }
 {
-    let mut at: usize = 0;
-    while at <= line.len() {
-        let end = next_at(line, at, 9);
-        if outside(&line[at..end]) {
-            return true;
-        }
-        at = end + 1;
-    }
-    false
+    Fields::between(line, 0, line.len() + 1).any(|field| outside(field))
 }
 
 // Each variable is bound before it is used, and then each is in range. A line with a variable out of range is refused in any case, and
 // only such a line is gone through by `far_fault`.
-pub(crate) fn check_variables(line: &[u8], right: usize, conditions: usize) -> Result<(), LineFault>
-    requires { RuleLine line.now right conditions }
-    ensures { answers_variables (rule_of line.now) (variables_told result) }
+pub(crate) fn check_variables(rule: &RuleText<'_>) -> Result<(), LineFault>
+    ensures { answers_variables (rule_of rule.now.line.now) (variables_told result) }
 {
-    if unbound(line, right, conditions, 0) {
+    if unbound(rule, 0) {
         return Err(LineFault::Unbound);
     }
-    if any_outside(line) {
-        return Err(far_fault(line, right, conditions));
+    if any_outside(rule.line) {
+        return Err(far_fault(rule));
     }
     Ok(())
 }

@@ -15,6 +15,8 @@ use Rattle.rules.specs.Text.{Fields, pat_fields, conditions_fields, plain_end, p
 use Rattle.rules.specs.Scan.{width, fields_from}
 use Rattle.rules.specs.Condition.{after_it, lost_after, ConditionAt, condition, none as no-condition}
 use Rattle.rules.specs.Condition.{Found}
+use Rattle.std.specs.Prelude.{Some, Result, Ok, Err}
+use Rattle.core.specs.Result.{result_ok}
 use Rattle.rules.specs.Scan.{Term}
 use Rattle.rules.proofs.Reading.{ahead, pat-read}
 use Rattle.rules.proofs.Scanning.{fields-here, field-length}
@@ -110,3 +112,8 @@ module _ (l : List ℕ) (i e : ℕ) (at : i ≤ length l) (found : e ≡ i + len
                 fields = 1 + ap (λ (u : Term). u.fields) q j + ap (λ (u : Term). u.fields) q' j;
                 size = ap (λ (u : Term). u.size) q j + ap (λ (u : Term). u.size) q' j;
               }))
+
+-- What was good.
+pub was_ok : {A E : Type 0} (r : Result A E) (a : A) → Some a ≡ result_ok r → r ≡ Ok a
+was_ok (Ok b) a e = let z : b ≡ a = cc in ap Ok z
+was_ok (Err n) a e = impossible (cc)

@@ -14,18 +14,17 @@ use Rattle.meaning.proofs.Tests.{impossible, decided}
 use Rattle.text.specs.Text.{parts, up_to, one_word, number_of}
 use Rattle.text.proofs.Parts.{parts_first, parts-on, parts-end, up_to-take, length-up_to, up_to-stops}
 use Rattle.rules.specs.Text.{Fields, variable, constructor, neither, variable_head, constructor_head, head_of, up_to_six}
-use Rattle.rules.specs.Held.{count_held}
 use Rattle.rules.specs.Scan.{fields_from, stopped, finished, by_own_count, scanned, scanned_count}
 
 -- ---- what a field is
 
-pub count_none : (f : List ℕ) → none ≡ number_of one_word f → 7 ≡ count_held (up_to_six (number_of one_word f))
-count_none f e = ap (λ (o : Option ℕ). count_held (up_to_six o)) e
+pub count_none : (f : List ℕ) → none ≡ number_of one_word f → none ≡ up_to_six (number_of one_word f)
+count_none f e = ap up_to_six e
 
-pub count-some : (f : List ℕ) (n : ℕ) → some n ≡ number_of one_word f → n ≤ 6 → n ≡ count_held (up_to_six (number_of one_word f))
+pub count-some : (f : List ℕ) (n : ℕ) → some n ≡ number_of one_word f → n ≤ 6 → some n ≡ up_to_six (number_of one_word f)
 count-some f n e l = rw (← e) (rw (le-leb n 6 l))
 
-pub count-over : (f : List ℕ) (n : ℕ) → some n ≡ number_of one_word f → 6 < n → 7 ≡ count_held (up_to_six (number_of one_word f))
+pub count-over : (f : List ℕ) (n : ℕ) → some n ≡ number_of one_word f → 6 < n → none ≡ up_to_six (number_of one_word f)
 count-over f n e l = rw (← e) (rw (lt-leb n 6 l))
 
 pub head-empty : (f : List ℕ) → length f ≡ 0 → neither ≡ head_of f
@@ -105,22 +104,13 @@ module _ (f : List ℕ) (fs : Fields) where
   first-constructor zero at n s m c h = absurd (omega arith)
   first-constructor (suc w) at n s m c h = let z : suc w - 1 ≡ w = omega arith in opened-constructor f fs w at n s c h ∙ ap (λ (k : ℕ). scanned_count fs k (at + length f + 1) (n + 1) s) (sym z)
 
-  first-bad : (w at n s : ℕ) → 7 ≡ count_held (up_to_six (number_of one_word f)) → scanned_count (f ∷ fs) w at n s ≡ stopped at n s
+  first-bad : (w at n s : ℕ) → none ≡ up_to_six (number_of one_word f) → scanned_count (f ∷ fs) w at n s ≡ stopped at n s
   unfolding scanned_count
-  first-bad w at n s h = go (up_to_six (number_of one_word f)) (six-most (number_of one_word f)) h
-    where
-      go : (o : Option ℕ) → SixMost o → 7 ≡ count_held o → by_own_count o (λ k. scanned fs (w + k) (at + length f + 1) (n + 1) (s + 1)) (stopped at n s) ≡ stopped at n s
-      go none i h = refl
-      go (some k) i h = absurd (omega arith)
+  first-bad w at n s h = rw (← h)
 
-  first_count : (w at n s k : ℕ) → k ≡ count_held (up_to_six (number_of one_word f)) → (k ≡ 7 → ⊥) → (scanned_count (f ∷ fs) w at n s ≡ scanned fs (w + k) (at + length f + 1) (n + 1) (s + 1)) × (k ≤ 6)
+  first_count : (w at n s k : ℕ) → some k ≡ up_to_six (number_of one_word f) → (scanned_count (f ∷ fs) w at n s ≡ scanned fs (w + k) (at + length f + 1) (n + 1) (s + 1)) × (k ≤ 6)
   unfolding scanned_count
-  first_count w at n s k h m = go (up_to_six (number_of one_word f)) (six-most (number_of one_word f)) h
-    where
-      go : (o : Option ℕ) → SixMost o → k ≡ count_held o
-          → (by_own_count o (λ k. scanned fs (w + k) (at + length f + 1) (n + 1) (s + 1)) (stopped at n s) ≡ scanned fs (w + k) (at + length f + 1) (n + 1) (s + 1)) × (k ≤ 6)
-      go none i h = absurd (m h)
-      go (some j) i h = (ap (λ (k : ℕ). scanned fs (w + k) (at + length f + 1) (n + 1) (s + 1)) (sym h), omega arith)
+  first_count w at n s k h = (rw (← h), rw (← h) at (six-most (number_of one_word f)))
 
 none_left : (w i n s : ℕ) → 0 < w → scanned [] w i n s ≡ stopped i n s
 unfolding scanned
@@ -195,13 +185,13 @@ module _ (l : List ℕ) (i e : ℕ) (at : i ≤ length l) (found : e ≡ i + len
     scan-constructor m c h = ap (λ (fs : Fields). scanned fs w i n s) fields-here ∙ first-constructor field (fields_from l (e + 1)) w i n s m c h
         ∙ ap (λ (a : ℕ). scanned_count (fields_from l (e + 1)) (w - 1) a (n + 1) s) field-length
 
-    pub scan-bad-count : 7 ≡ count_held (up_to_six (number_of one_word field)) → scanned_count (fields_from l i) w i n s ≡ stopped i n s
+    pub scan-bad-count : none ≡ up_to_six (number_of one_word field) → scanned_count (fields_from l i) w i n s ≡ stopped i n s
     scan-bad-count h = ap (λ (fs : Fields). scanned_count fs w i n s) fields-here ∙ first-bad field (fields_from l (e + 1)) w i n s h
 
-    pub scan-count : (k : ℕ) → k ≡ count_held (up_to_six (number_of one_word field)) → (k ≡ 7 → ⊥)
+    pub scan-count : (k : ℕ) → some k ≡ up_to_six (number_of one_word field)
         → (scanned_count (fields_from l i) w i n s ≡ scanned (fields_from l (e + 1)) (w + k) (e + 1) (n + 1) (s + 1)) × (k ≤ 6)
-    scan-count k h m =
-        let (x, y) = first_count field (fields_from l (e + 1)) w i n s k h m in
+    scan-count k h =
+        let (x, y) = first_count field (fields_from l (e + 1)) w i n s k h in
         (ap (λ (fs : Fields). scanned_count fs w i n s) fields-here ∙ x ∙ ap (λ (a : ℕ). scanned (fields_from l (e + 1)) (w + k) a (n + 1) (s + 1)) field-length, y)
 
     -- a constructor's field is not empty

@@ -16,7 +16,9 @@ use Rattle.rules.specs.Rule.{Pat, Pats, var, con, none as no-pats, more as more-
 use Rattle.rules.specs.Text.{Fields, pat_fields, pats_fields, Plain, Plains, plain_more, Head, variable, constructor, neither, head_of, up_to_six, bad, read}
 use Rattle.rules.specs.Entries.{size, sizes}
 use Rattle.rules.specs.Scan.{width, fields_from, scanned, scanned_count, by_head, by_own_count, finished, stopped}
-use Rattle.rules.specs.Scan.{Term}
+use Rattle.rules.specs.Scan.{Term, term_told}
+use Rattle.std.specs.Prelude.{Ok, Err}
+use Rattle.rules.specs.declared.term.Term as held
 use Rattle.rules.proofs.Scanning.{fields-here, field-length, fields-past}
 use Rattle.rules.proofs.Told.{same_end, told, Told, told-good, told-bad}
 
@@ -178,3 +180,42 @@ module _ {l : List ℕ} {i : ℕ} {r : Term} (h : i ≤ length l + 1) where
     where
       true-false : true ≡ false → ◌≡◌ {A = ℕ} 0 1
       true-false e = cc
+
+-- ---- what the code tells of a term
+
+told-ok : (g : Bool) (a n z : ℕ) (t : held.Term) → Ok t ≡ term_told (record { good = g; at = a; fields = n; size = z })
+    → finished t.at t.fields t.size ≡ record { good = g; at = a; fields = n; size = z }
+told-ok true a n z t e =
+    let x : t ≡ record { at = a; fields = n; size = z } = cc in
+    ap (λ (u : held.Term). finished u.at u.fields u.size) x
+told-ok false a n z t e = impossible (cc)
+
+told-err : (g : Bool) (a n z m : ℕ) → Err m ≡ term_told (record { good = g; at = a; fields = n; size = z })
+    → stopped a m z ≡ record { good = g; at = a; fields = n; size = z }
+told-err true a n z m e = impossible (cc)
+told-err false a n z m e =
+    let x : m ≡ n = cc in
+    ap (λ (k : ℕ). stopped a k z) x
+
+module _ (l : List ℕ) (i : ℕ) where
+  -- A term that is good.
+  pub ok-found : (t : held.Term) → Ok t ≡ term_told (scanned (fields_from l i) 1 i 0 0) → TermFound l i (finished t.at t.fields t.size)
+  ok-found t e =
+      let s = scanned (fields_from l i) 1 i 0 0 in
+      term_found l i (finished t.at t.fields t.size) (told-ok s.good s.at s.fields s.size t e)
+
+  -- One that is not: n of its fields are good.
+  pub err-found : (n : ℕ) → Err n ≡ term_told (scanned (fields_from l i) 1 i 0 0) → (a : ℕ) × (z : ℕ) × TermFound l i (stopped a n z)
+  err-found n e =
+      let s = scanned (fields_from l i) 1 i 0 0 in
+      (s.at, s.size, term_found l i (stopped s.at n s.size) (told-err s.good s.at s.fields s.size n e))
+
+  module _ (h : i ≤ length l + 1) where
+    pub ok-goodly : (t : held.Term) → Ok t ≡ term_told (scanned (fields_from l i) 1 i 0 0) → Goodly l i (finished t.at t.fields t.size)
+    ok-goodly t e = term-goodly h (ok-found t e) refl
+
+    pub ok-inside : (t : held.Term) → Ok t ≡ term_told (scanned (fields_from l i) 1 i 0 0) → i + t.fields ≤ length l + 1
+    ok-inside t e = term-inside h (ok-found t e)
+
+    pub err-inside : (n : ℕ) → Err n ≡ term_told (scanned (fields_from l i) 1 i 0 0) → i + n ≤ length l + 1
+    err-inside n e = let (a, z, k) = err-found n e in term-inside h k

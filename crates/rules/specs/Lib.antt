@@ -7,4 +7,5 @@ pub mod Held
 pub mod Scan
 pub mod Condition
 pub mod Shape
+pub mod Walk
 pub mod Promises

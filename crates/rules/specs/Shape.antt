@@ -5,8 +5,7 @@ use Rattle.rules.specs.Rule.{Rule}
 use Rattle.rules.specs.Text.{pat_fields, rule_fields, ReadRule, rule, bad_field}
 use Rattle.rules.specs.Entries.{rule_code, code_size}
 use Rattle.rules.specs.Scan.{width}
-use Rattle.std.specs.Prelude.{Bool, Result, Ok, Err}
-use Rattle.rules.specs.declared.shape.Shape as held
+use Rattle.std.specs.Prelude.{Bool}
 
 -- whether a line is a rule's; its first bad field from 1, one past the last where none is bad; the rule's entries; where its right term and
 -- its conditions begin
@@ -16,11 +15,6 @@ pub record Shape : Type 0 where
   pub size : ℕ
   pub right : ℕ
   pub conditions : ℕ
-
--- what the code tells of it
-abbrev pub shape_told : Result held.Shape ℕ → Shape
-shape_told (Ok s) = record { good = true; field = s.field; size = s.size; right = s.right; conditions = s.conditions }
-shape_told (Err n) = record { good = false; field = n; size = 0; right = 0; conditions = 0 }
 
 abbrev pub right_at : Rule → ℕ
 right_at r = width (pat_fields r.left)

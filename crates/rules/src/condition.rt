@@ -17,7 +17,7 @@ pub struct Condition {
 }
 
 // The condition whose number begins at `from`, or how many of its fields were good.
-pub fn condition_at(line: &[u8], from: usize) -> Result<Condition, usize>
+pub(crate) fn condition_at(line: &[u8], from: usize) -> Result<Condition, usize>
     requires { from ≤ length line.now }
     ensures { ConditionAt line.now from (found_of result) }
 {
@@ -41,4 +41,30 @@ pub fn condition_at(line: &[u8], from: usize) -> Result<Condition, usize>
         fields: 1 + start.fields + outcome.fields,
         size: start.size + outcome.size,
     })
+}
+
+// The conditions of a line, from the one that begins at a place up to the line's end, or up to fields that are none.
+#[derive(Clone, Copy, Drop)]
+pub struct Conditions<'a> {
+    pub line: &'a [u8],
+    pub at: usize,
+}
+
+impl<'a> Iterator for Conditions<'a> {
+    ghost use Rattle.rules.specs.Walk.{GivesCondition, conditions_left};
+
+    type Item = Condition;
+
+    ghost next_gives = { GivesCondition };
+
+    ghost remaining = { conditions_left };
+
+    fn next(&mut self) -> Option<Condition> {
+        if self.line.len() < self.at {
+            return None;
+        }
+        let c = condition_at(self.line, self.at).ok()?;
+        self.at = c.next;
+        Some(c)
+    }
 }

@@ -18,23 +18,23 @@ pub enum Head {
 pub fn head_of(field: &[u8]) -> Option<Head>
     ensures { head_held result ≡ head_of field.now }
 {
-    if field.len() == 0 {
+    if field.is_empty() {
         return None;
     }
-    if field[0] == 118 {
+    if field[0] == b'v' {
         return Some(Head::Variable(number(&field[1..])?));
     }
     let c = number(field)?;
-    if 65535 < c {
-        return None;
+    if c <= 65535 {
+        Some(Head::Constructor(c))
+    } else {
+        None
     }
-    Some(Head::Constructor(c))
 }
 
 // A constructor's child count, or nothing.
 pub fn children(field: &[u8]) -> Option<u32>
     ensures { value_of result ≡ up_to_six (number_of one_word field.now) }
 {
-    let n = number(field)?;
-    if n <= 6 { Some(n) } else { None }
+    number(field).filter(|n| *n <= 6)
 }

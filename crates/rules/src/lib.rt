@@ -3,5 +3,7 @@
 
 pub mod condition;
 pub mod field;
+pub mod fields;
+pub mod rule_text;
 pub mod shape;
 mod term;

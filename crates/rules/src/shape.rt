@@ -1,23 +1,17 @@
 // The shape of a line: is it a rule's text?
-ghost use Rattle.std.specs.Prelude.{◌≡◌};
+ghost use Rattle.std.specs.Prelude.{◌≡◌, IfOk};
 ghost use Rattle.rules.specs.Text.{rule_of};
-ghost use Rattle.rules.specs.Shape.{shape_of, shape_told};
+ghost use Rattle.rules.specs.Shape.{shape_of};
+ghost use Rattle.rules.specs.Walk.{shape_told};
 
 use crate::condition::condition_at;
+use crate::rule_text::RuleText;
 use crate::term::term_at;
 
-// Of a rule's line: how many fields it has, and one; the rule's entries; where its right term and its conditions begin.
-#[derive(Clone, Copy)]
-pub struct Shape {
-    pub field: usize,
-    pub size: usize,
-    pub right: usize,
-    pub conditions: usize,
-}
-
 // The shape of a line without its line feed, or its first bad field from 1, one past the last where none is bad.
-pub fn shape_of(line: &[u8]) -> Result<Shape, usize>
-    ensures { shape_told result ≡ shape_of (rule_of line.now) }
+pub fn shape_of(line: &[u8]) -> Result<RuleText<'_>, usize>
+    ensures told { shape_told result ≡ shape_of (rule_of line.now) }
+    ensures line { IfOk result (λ r. r.line ≡ line.entry) }
 {
     let left = match term_at(line, 0) {
         Ok(term) => term,
@@ -40,7 +34,8 @@ pub fn shape_of(line: &[u8]) -> Result<Shape, usize>
             Err(good) => return Err(fields + good + 1),
         }
     }
-    Ok(Shape {
+    Ok(RuleText {
+        line,
         field: fields + 1,
         size,
         right: left.at,

@@ -6,8 +6,9 @@ ghost use Rattle.rules.specs.Scan.{fields_from};
 ghost use Rattle.translate.specs.Added.{Placed};
 ghost use Rattle.translate.specs.Bare.{scope_put, bare_of, body_opened, condition_opened, call_put, build_put, bare_found, bare_body, its_conditions, Fits, PlacedIn};
 
-use rules::condition::{Condition, condition_at};
+use rules::condition::Condition;
 use rules::field::{Head, children, head_of};
+use rules::rule_text::RuleText;
 use text::field::next_at;
 use words::put_row;
 
@@ -118,42 +119,25 @@ fn put_condition(table: &mut [u32], line: &[u8], c: Condition, first: u32) -> u3
 }
 
 // The entries of all conditions of a rule's line.
-fn put_conditions(
-    table: &mut [u32],
-    line: &[u8],
-    right: usize,
-    conditions: usize,
-    first: u32,
-) -> u32
-    requires { Fits its_conditions line.now right conditions first (rows table.old) × (length table.old ≤ 32768) }
-    ensures { PlacedIn (rule_of line.now) its_conditions table.old first table.new result }
+fn put_conditions(table: &mut [u32], rule: &RuleText<'_>, first: u32) -> u32
+    requires { Fits its_conditions rule.now.line.now rule.now.right rule.now.conditions first (rows table.old) × (length table.old ≤ 32768) }
+    ensures { PlacedIn (rule_of rule.now.line.now) its_conditions table.old first table.new result }
 {
     let mut e = first;
-    let mut at = conditions;
-    while at <= line.len() {
-        let Ok(c) = condition_at(line, at) else {
-            unreachable!();
-        };
-        e = put_condition(table, line, c, e);
-        at = c.next;
+    for c in rule.conditions() {
+        e = put_condition(table, rule.line, c, e);
     }
     e
 }
 
 // The entries of a rule's line that stand inside its scope; the entry after them.
-pub(crate) fn put_body(
-    table: &mut [u32],
-    line: &[u8],
-    right: usize,
-    conditions: usize,
-    first: u32,
-) -> u32
-    requires { Fits bare_body line.now right conditions first (rows table.old) × (length table.old ≤ 32768) }
-    ensures { PlacedIn (rule_of line.now) bare_body table.old first table.new result }
+pub(crate) fn put_body(table: &mut [u32], rule: &RuleText<'_>, first: u32) -> u32
+    requires { Fits bare_body rule.now.line.now rule.now.right rule.now.conditions first (rows table.old) × (length table.old ≤ 32768) }
+    ensures { PlacedIn (rule_of rule.now.line.now) bare_body table.old first table.new result }
 {
     let left = open_body(table, first);
-    let next = put_term(table, line, 0, left);
-    let build = put_conditions(table, line, right, conditions, next);
+    let next = put_term(table, rule.line, 0, left);
+    let build = put_conditions(table, rule, next);
     let last = put_build(table, build);
-    put_term(table, line, right, last)
+    put_term(table, rule.line, rule.right, last)
 }

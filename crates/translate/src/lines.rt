@@ -16,12 +16,10 @@ pub fn put_line(table: &mut [u32], ends: &mut [u32], line: &[u8], first: u32) ->
     requires { LineFits first (rows table.old) (rule_of line.now) × (length table.old ≤ 32768) × (4096 ≤ length ends.old) }
     ensures { LineIn (rule_of line.now) table.old first table.new result }
 {
-    let Ok(s) = shape_of(line) else {
-        unreachable!();
-    };
+    let rule = shape_of(line).unwrap();
     let mask = marks(line, 0, line.len() + 1, 0);
     let body = put_scope(table, first, mask);
-    let stop = put_body(table, line, s.right, s.conditions, body);
+    let stop = put_body(table, &rule, body);
     link(table, body, stop, ends);
     stop
 }

@@ -4,7 +4,6 @@
 #![tactic(auto)]
 
 ghost use Rattle.std.specs.Prelude.{◌≡◌, ◌≤◌, get_or, length};
-ghost use Rattle.variable_tree.specs.Tree.{Keeps, KeepsOr, FoundIn};
 
 // Nodes, the first of which is none; roots; link 0, the roots and two links a node.
 pub const NODES: usize = 16384;
@@ -17,76 +16,14 @@ pub const LINKS: usize = 36865;
 fn at(words: &[u32], i: usize) -> u32
     ensures { result ≡ get_or words.now i 0 }
 {
-    if i < words.len() { words[i] } else { 0 }
-}
-
-// Where a variable's way ends: at its node, or at the link that would lead to it.
-#[derive(Clone, Copy)]
-pub struct Way {
-    pub found: bool,
-    pub link: usize,
-}
-
-pub fn way_to(keys: &[u32], links: &[u32], v: u32) -> Way
-    ensures { FoundIn keys.now v result.found }
-{
-    let mut link = 1 + (v % 4096) as usize;
-    let mut bits = v / 4096;
-    let mut turns: u32 = 0;
-    while turns < 21 {
-        let node = at(links, link) as usize;
-        if node == 0 {
-            return Way { found: false, link };
-        }
-        if at(keys, node) == v {
-            return Way { found: true, link };
-        }
-        link = 1 + ROOTS + 2 * node + (bits % 2) as usize;
-        bits = bits / 2;
-        turns += 1;
-    }
-    Way {
-        found: false,
-        link: links.len(),
-    }
-}
-
-// A new node for v at a link. Whether there was room.
-fn put(keys: &mut [u32], links: &mut [u32], link: usize, v: u32) -> bool
-    ensures { KeepsOr keys.old v keys.new }
-{
-    let nodes = at(links, 0);
-    if 16383 <= nodes {
-        return false;
-    }
-    let node = nodes + 1;
-    let i = node as usize;
-    if keys.len() <= i {
-        return false;
-    }
-    if links.len() <= link {
-        return false;
-    }
-    keys[i] = v;
-    links[link] = node;
-    links[0] = node;
-    true
+    words.get(i).copied().unwrap_or(0)
 }
 
 // How many of the keys are below x.
 fn keys_below(keys: &[u32], x: usize) -> usize
     ensures { result ≤ length keys.now }
 {
-    let mut count: usize = 0;
-    let mut i: usize = 0;
-    while i < keys.len() {
-        let k = at(keys, i);
-        i += 1;
-        if (k as usize) < x {
-            count += 1;
-        }
-    }
-    count
+    keys.iter().filter(|k| (**k as usize) < x).count()
 }
 
 // A number, at most `below`, below which about half of the keys are.
@@ -106,50 +43,99 @@ fn middle(keys: &[u32], below: usize) -> usize
     low
 }
 
-fn clear(links: &mut [u32]) {
-    let mut i: usize = 0;
-    while i < links.len() {
-        links[i] = 0;
-        i += 1;
-    }
+// Where a variable's way ends: at its node, or at the link that would lead to it.
+#[derive(Clone, Copy, PartialEq, Eq)]
+pub enum Way {
+    Found,
+    Missing(usize),
 }
 
-// The tree with v, where v is below a number and there is room.
-fn put_below(keys: &mut [u32], links: &mut [u32], v: u32, below: usize)
-    ensures { KeepsOr keys.old v keys.new }
-{
-    if (v as usize) < below {
-        let w = way_to(keys, links, v);
-        put(keys, links, w.link, v);
-    }
+// The tree: the nodes' variables, and the links.
+#[derive(Drop)]
+pub struct Tree {
+    pub keys: [u32; NODES],
+    pub links: [u32; LINKS],
 }
 
-// The tree anew, with those of its variables that are below a number.
-fn keep_below(keys: &mut [u32], links: &mut [u32], below: usize)
-    ensures { Keeps keys.old keys.new }
-{
-    clear(links);
-    let mut i: usize = 1;
-    while i < keys.len() {
-        let v = keys[i];
-        put_below(keys, links, v, below);
-        i += 1;
-    }
-}
+impl Tree {
+    ghost use Rattle.variable_tree.specs.Tree.{Keeps, KeepsOr, FoundIn};
+    ghost use Rattle.variable_tree.specs.Way.{is_found};
 
-// The tree with v. Where it is full, its greater half goes: it then holds no variable from the returned number on.
-pub fn add(keys: &mut [u32], links: &mut [u32], below: usize, v: u32) -> usize
-    ensures { (result ≤ below) × KeepsOr keys.old v keys.new }
-{
-    let w = way_to(keys, links, v);
-    if w.found {
-        return below;
+    pub fn way_to(&self, v: u32) -> Way
+        ensures { FoundIn self.now.keys v (is_found result) }
+    {
+        let mut link = 1 + (v % 4096) as usize;
+        let mut bits = v / 4096;
+        for _turn in 0..21 {
+            let node = at(&self.links, link) as usize;
+            if node == 0 {
+                return Way::Missing(link);
+            }
+            if at(&self.keys, node) == v {
+                return Way::Found;
+            }
+            link = 1 + ROOTS + 2 * node + (bits % 2) as usize;
+            bits /= 2;
+        }
+        Way::Missing(LINKS)
     }
-    if put(keys, links, w.link, v) {
-        return below;
+
+    // Whether v is a node's variable.
+    pub fn holds(&self, v: u32) -> bool
+        ensures { FoundIn self.now.keys v result }
+    {
+        self.way_to(v) == Way::Found
     }
-    let half = middle(keys, below);
-    keep_below(keys, links, half);
-    put_below(keys, links, v, half);
-    half
+
+    // A new node for v at a link. Whether there was room.
+    fn put(&mut self, link: usize, v: u32) -> bool
+        ensures { KeepsOr self.old.keys v self.new.keys }
+    {
+        let node = self.links[0] as usize + 1;
+        if NODES <= node || LINKS <= link {
+            return false;
+        }
+        self.keys[node] = v;
+        self.links[link] = node as u32;
+        self.links[0] = node as u32;
+        true
+    }
+
+    // The tree with v, where v is below a number and there is room.
+    fn put_below(&mut self, v: u32, below: usize)
+        ensures { KeepsOr self.old.keys v self.new.keys }
+    {
+        if below <= v as usize {
+            return;
+        }
+        if let Way::Missing(link) = self.way_to(v) {
+            self.put(link, v);
+        }
+    }
+
+    // The tree anew, with those of its variables that are below a number.
+    fn keep_below(&mut self, below: usize)
+        ensures { Keeps self.old.keys self.new.keys }
+    {
+        self.links.fill(0);
+        for i in 1..NODES {
+            self.put_below(self.keys[i], below);
+        }
+    }
+
+    // The tree with v. Where it is full, its greater half goes: it then holds no variable from the returned number on.
+    pub fn add(&mut self, below: usize, v: u32) -> usize
+        ensures { (result ≤ below) × KeepsOr self.old.keys v self.new.keys }
+    {
+        let Way::Missing(link) = self.way_to(v) else {
+            return below;
+        };
+        if self.put(link, v) {
+            return below;
+        }
+        let half = middle(&self.keys, below);
+        self.keep_below(half);
+        self.put_below(v, half);
+        half
+    }
 }
