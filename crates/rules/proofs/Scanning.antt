@@ -8,12 +8,13 @@ use native.Mathlib.Omega.{arith}
 use lib.Dec.{leb, ltb}
 use lib.ListN.{length, drop, take, get_or, length-drop}
 use lib.Seq.{drop-drop, get_or-drop, length-take-le, take_all}
-use borrow.Author.Tests.{eq-eqb, ne_eqb, leb-true, le-leb, lt-leb, ltb-true, ltb-false}
+use borrow.Author.Tests.{eq-eqb, ne_eqb, leb-true, le-leb, lt-leb, ltb-true, ltb-false, le-ltb, lt-ltb}
 use Rattle.std.specs.Prelude.{if◌then◌else◌}
 use Rattle.meaning.proofs.Tests.{impossible, decided}
 use Rattle.text.specs.Text.{parts, up_to, one_word, number_of}
 use Rattle.text.proofs.Parts.{parts_first, parts-on, parts-end, up_to-take, length-up_to, up_to-stops}
 use Rattle.rules.specs.Text.{Fields, variable, constructor, neither, variable_head, constructor_head, head_of, up_to_six}
+use Rattle.rules.specs.Walk.{begun}
 use Rattle.rules.specs.Scan.{fields_from, stopped, finished, by_own_count, scanned, scanned_count}
 
 -- ---- what a field is
@@ -200,3 +201,28 @@ module _ (l : List ℕ) (i e : ℕ) (at : i ≤ length l) (found : e ≡ i + len
       where
         empty : length field ≡ 0 → ⊥
         empty z = let y = head-empty field z in impossible (cc)
+
+-- ---- the fields that begin before a place
+
+pub begun-end : (fs : Fields) (at to : ℕ) → to ≤ at → begun fs at to ≡ []
+unfolding begun
+begun-end [] at to h = refl
+begun-end (f ∷ fs) at to h = rw (le-ltb at to h)
+
+pub begun-on : (f : List ℕ) (fs : Fields) (at to : ℕ) → at < to → begun (f ∷ fs) at to ≡ f ∷ begun fs (at + length f + 1) to
+unfolding begun
+begun-on f fs at to h = rw (lt-ltb at to h)
+
+module _ (l : List ℕ) (at to : ℕ) where
+  -- Nothing is left before the place, or nothing of the line.
+  pub begun-past : length l < at → begun (fields_from l at) at to ≡ []
+  unfolding begun
+  begun-past h = rw (fields-past l at h)
+
+  -- The field that begins here, and those after it.
+  pub begun-here : (e : ℕ) (h : at ≤ length l) (found : e ≡ at + length (up_to 9 (drop at l))) → at < to
+      → begun (fields_from l at) at to ≡ take (e - at) (drop at l) ∷ begun (fields_from l (e + 1)) (e + 1) to
+  begun-here e h found k =
+      ap (λ (fs : Fields). begun fs at to) (fields-here l at e h found)
+      ∙ begun-on (take (e - at) (drop at l)) (fields_from l (e + 1)) at to k
+      ∙ ap (λ (i : ℕ). take (e - at) (drop at l) ∷ begun (fields_from l (e + 1)) i to) (field-length l at e h found)

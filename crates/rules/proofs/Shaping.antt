@@ -243,11 +243,11 @@ module _ {l : List ℕ} {right conditions fields sized at : ℕ} (s : Shaping l 
           bad-line l (length (rule_fields s.sofar) + n) (ap (λ (fs : Fields). read fs 2) s.text ∙ rule-bad s.sofar s.plain (fields_from l at) n x)
           ∙ ap bad_field (omega (arith, s.number))
 
-  pub shaping-on : r.good ≡ true → Shaping l right conditions (fields + r.fields) (sized + 7 + r.size) r.next × (at < r.next)
+  pub shaping-on : r.good ≡ true → Shaping l right conditions (fields + r.fields) (sized + (7 + r.size)) r.next × (at < r.next)
   shaping-on g = go found
     where
       longer : (c : Condition) → PlainConditions (c ∷ []) → fields_from l at ≡ conditions_fields (c ∷ []) ++ fields_from l (after_it at c) → r ≡ found_at at c
-          → Shaping l right conditions (fields + r.fields) (sized + 7 + r.size) r.next × (at < r.next)
+          → Shaping l right conditions (fields + r.fields) (sized + (7 + r.size)) r.next × (at < r.next)
       longer c h t e =
           let one : Fields = conditions_fields (c ∷ []) in
           let w : after_it at c ≡ at + width one = omega (arith, condition-long c) in
@@ -276,7 +276,7 @@ module _ {l : List ℕ} {right conditions fields sized at : ℕ} (s : Shaping l 
             omega (arith, a, w, condition-long c),
           )
 
-      go : ConditionAt l at r → Shaping l right conditions (fields + r.fields) (sized + 7 + r.size) r.next × (at < r.next)
+      go : ConditionAt l at r → Shaping l right conditions (fields + r.fields) (sized + (7 + r.size)) r.next × (at < r.next)
       go (no-condition n x e) = impossible (let z : true ≡ false = sym g ∙ ap (λ (v : Found). v.good) e in cc)
       go (condition c h t e) = longer c h t e
 
