@@ -3,3 +3,4 @@ pub mod Tables
 pub mod Good
 pub mod Promises
 pub mod Obeying
+pub mod Numbering

@@ -21,6 +21,7 @@ use Rattle.checks.specs.Plain.{FaultyBy}
 use Rattle.checks.specs.Checked.{checked, found, faulted_by, table_length_fits, store_length_fits, table_checked_by, store_checked}
 use Rattle.checks.specs.Promises as promises
 use Rattle.checks.specs.Promises.{AllGood, Lowest, StoreFits, TableAnswer, passed, length-bad, entry-bad}
+use Rattle.checks.proofs.Numbering.{results-apart}
 use Rattle.checks.proofs.Good.{not-fact, faulty-within, fault-plain, good_entry-plain, bad-fault, good_node-plain, table_length_fits-plain, store_length_fits-plain}
 
 module _ (good : ℕ → Bool) (n : ℕ) where
@@ -228,6 +229,9 @@ table_agrees W t r r' e f = e ∙ sym f
 
 pub store_agrees : promises.store_agrees
 store_agrees s mark r r' e f = e ∙ sym f
+
+pub numbers_tell : promises.numbers_tell
+numbers_tell = results-apart
 
 pub fault_plain : promises.fault_plain
 fault_plain = fault-plain

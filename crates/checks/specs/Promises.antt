@@ -1,10 +1,12 @@
 -- What the two checks promise, as types. Each is proved in proofs/Promises.antt under its name.
-use Rattle.std.specs.Prelude.{◌≡◌, Bool, true, false, ◌≢◌, ◌↔◌, List, ℕ, ◌≤◌, ◌<◌, length}
+use Rattle.std.specs.Prelude.{◌≡◌, Bool, true, false, ◌≢◌, ◌↔◌, List, ℕ, ◌≤◌, ◌<◌, length, Result}
 use Rattle.words.specs.Words.{rows}
+use Rattle.checks.specs.declared.refusal.Refusal.{Refusal}
 use Rattle.checks.specs.Checked.{Checked}
 use Rattle.checks.specs.Good.{fault_by, good_entry_by, good_node}
 use Rattle.checks.specs.Plain.{TableLength, StoreLength, EntryBy, FaultyBy, Node}
 use Rattle.checks.specs.Checked.{checked, table_checked_by, store_checked}
+use Rattle.checks.specs.Numbers.{checked_of}
 use Rattle.checks.specs.Signature.{signature_fits, entry_obeys, node_obeys, entries_checked, nodes_checked, Signature, EntryObeys, NodeObeys}
 
 -- every number below n is good
@@ -69,6 +71,10 @@ table_agrees = (W : ℕ) (t : List ℕ) (r r' : Checked) → r ≡ table_checked
 abbrev pub store_agrees : Type 0
 store_agrees =
     (s : List ℕ) (mark : ℕ) (r r' : Checked) → r ≡ store_checked s mark → r' ≡ store_checked s mark → r ≡ r'
+
+-- the documents' numbers tell the results of a check apart: two with the same answer and place are the same
+abbrev pub numbers_tell : Type 0
+numbers_tell = (r r' : Result Unit Refusal) → checked_of r ≡ checked_of r' → r ≡ r'
 
 -- a fault is the plain facts, and all before it is right
 abbrev pub fault_plain : Type 0

@@ -6,12 +6,5 @@ ghost use Rattle.checks.specs.Checked.{bound_below};
 pub fn bindings_below(bindings: &[u32], mark: u32) -> bool
     ensures { result ≡ bound_below bindings.now mark }
 {
-    let mut v: usize = 0;
-    while v < bindings.len() {
-        if mark < bindings[v] {
-            return false;
-        }
-        v += 1;
-    }
-    true
+    bindings.iter().all(|word| *word <= mark)
 }

@@ -9,11 +9,11 @@ ghost use Rattle.checks.specs.Kinds.{ours, operands_from_by};
 ghost use Rattle.checks.specs.Checked.{faulted_by, table_length_fits, table_checked};
 ghost use Rattle.checks.specs.Numbers.{fault_of, checked_of};
 
-use crate::refusal::{Fault, Refusal};
 use crate::kinds::{
-    SCOPE, Sort, highest_argument, least, lowest_argument, most, operands_from, same, sort_of,
-    takes,
+    CALL, PCON, REC, SCOPE, Sort, highest_argument, least, lowest_argument, most, operands_from,
+    sort_of, takes,
 };
+use crate::refusal::{Fault, Refusal};
 use crate::rows::unused_zero;
 use words::word;
 
@@ -52,13 +52,7 @@ pub fn operand(table: &[u32], e: u32, from: u32, i: u32) -> u32
 fn count_fits(k: u32, n: u32) -> bool
     ensures { result ≡ count_of k n }
 {
-    if 19 < k {
-        return false;
-    }
-    if n < least(k) {
-        return false;
-    }
-    n <= most(k)
+    k <= PCON && least(k) <= n && n <= most(k)
 }
 
 // The argument of entry e, of the kind k, is in its range, and zero where none is named. Any mask is in a SCOPE's.
@@ -66,27 +60,15 @@ fn argument_fits(table: &[u32], e: u32, k: u32) -> bool
     requires { (k ≡ kind_of table.now e) × (k ≤ 19) }
     ensures { result ≡ argument_fits_by ours table.now e }
 {
-    if k == SCOPE {
-        return true;
-    }
     let a = word(table, e, 1);
-    if a < lowest_argument(k) {
-        return false;
-    }
-    a <= highest_argument(k)
+    k == SCOPE || (lowest_argument(k) <= a && a <= highest_argument(k))
 }
 
 // The operand o of entry e, of the kind k, is inside the table and above its entry; CALL's alone may be any entry.
 fn operand_placed(table: &[u32], e: u32, k: u32, o: u32) -> bool
     ensures { result ≡ placed_for table.now e k o }
 {
-    if table.len() / 8 <= (o as usize) {
-        return false;
-    }
-    if k == 8 {
-        return true;
-    }
-    e < o
+    (o as usize) < table.len() / 8 && (k == CALL || e < o)
 }
 
 // The operand o has the sort that the kind k takes; CALL's is a REC.
@@ -95,10 +77,11 @@ fn operand_sorted(table: &[u32], k: u32, sort: Sort, o: u32) -> bool
     ensures { result ≡ sorted_for table.now k o }
 {
     let j = kind_of(table, o);
-    if k == 8 {
-        return j == 7;
+    if k == CALL {
+        j == REC
+    } else {
+        sort_of(j) == sort
     }
-    same(sort_of(j), sort)
 }
 
 // The operands of entry e, of the kind k and with n of them: each is in its place, and then each has its sort. A wrong sort is kept in
@@ -113,8 +96,7 @@ fn check_operands(table: &[u32], e: u32, k: u32, n: u32) -> Result<(), Fault>
     let sort = takes(k);
     let from = operands_from(k);
     let mut sorted = Ok(());
-    let mut i: u32 = 0;
-    while i < n {
+    for i in 0..n {
         let o = operand(table, e, from, i);
         if !operand_placed(table, e, k, o) {
             return Err(Fault::Place);
@@ -122,7 +104,6 @@ fn check_operands(table: &[u32], e: u32, k: u32, n: u32) -> Result<(), Fault>
         if !operand_sorted(table, k, sort, o) {
             sorted = Err(Fault::Sort);
         }
-        i += 1;
     }
     sorted
 }
@@ -152,13 +133,10 @@ fn check_all_entries(table: &[u32]) -> Result<(), Refusal>
     requires { length table.now ≤ 32768 }
     ensures { checked_of result ≡ faulted_by ours table.now (rejected (good_entry table.now) 0 (rows table.now)) }
 {
-    let n = table.len() / 8;
-    let mut e: u32 = 0;
-    while (e as usize) < n {
+    for e in 0..(table.len() / 8) as u32 {
         if let Err(fault) = check_entry(table, e) {
             return Err(Refusal::Entry(fault, e));
         }
-        e += 1;
     }
     Ok(())
 }
@@ -167,13 +145,7 @@ fn check_all_entries(table: &[u32]) -> Result<(), Refusal>
 pub fn table_length_fits(n: usize) -> bool
     ensures { result ≡ table_length_fits n }
 {
-    if n == 0 {
-        return false;
-    }
-    if n % 8 != 0 {
-        return false;
-    }
-    n <= 32768
+    n != 0 && n % 8 == 0 && n <= 32768
 }
 
 // The table check.

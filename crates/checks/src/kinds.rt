@@ -150,26 +150,3 @@ pub fn sort_of(k: u32) -> Sort
         _ => Sort::Neither,
     }
 }
-
-// The two sorts are the same.
-pub fn same(a: Sort, b: Sort) -> bool
-    ensures { result ≡ table.same a b }
-{
-    match a {
-        Sort::Strategy => match b {
-            Sort::Strategy => true,
-            Sort::Pattern => false,
-            Sort::Neither => false,
-        },
-        Sort::Pattern => match b {
-            Sort::Strategy => false,
-            Sort::Pattern => true,
-            Sort::Neither => false,
-        },
-        Sort::Neither => match b {
-            Sort::Strategy => false,
-            Sort::Pattern => false,
-            Sort::Neither => true,
-        },
-    }
-}

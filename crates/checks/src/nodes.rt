@@ -7,6 +7,7 @@ ghost use Rattle.checks.specs.Checked.{place_of, store_length_fits, store_checke
 ghost use Rattle.checks.specs.Numbers.{checked_of};
 
 use crate::refusal::Refusal;
+use crate::search::lowest;
 
 // The word w fits as word 2 + i of node k, which has n children: a child below it, or a zero after the last.
 fn held_fits(k: u32, n: u32, i: u32, w: u32) -> bool
@@ -24,10 +25,8 @@ fn all_held_fit(store: &[u32], k: u32, n: u32) -> bool
 {
     let at = 8 * (k as usize);
     let mut good = true;
-    let mut i: u32 = 0;
-    while i < 6 {
-        good = good & held_fits(k, n, i, store[at + (2 + (i as usize))]);
-        i += 1;
+    for i in 0..6 {
+        good &= held_fits(k, n, i, store[at + 2 + (i as usize)]);
     }
     good
 }
@@ -42,42 +41,21 @@ fn node_fits(store: &[u32], k: u32) -> bool
     (store[at] <= 65535) & ((n <= 6) & all_held_fit(store, k, n))
 }
 
-// The lowest bad node below the mark, which is at most the store's nodes.
-fn lowest_bad_node(store: &[u32], mark: u32) -> Option<u32>
-    requires { 8 * mark ≤ length store.now }
-    ensures { place_of result ≡ rejected (good_node store.now) 0 mark }
-{
-    let mut k: u32 = 0;
-    while k < mark {
-        if !node_fits(store, k) {
-            return Some(k);
-        }
-        k += 1;
-    }
-    None
-}
-
 // The store is a multiple of 8 and at most 1,048,576 words.
 pub fn store_length_fits(n: usize) -> bool
     ensures { result ≡ store_length_fits n }
 {
-    if n % 8 != 0 {
-        return false;
-    }
-    n <= 1048576
+    n % 8 == 0 && n <= 1048576
 }
 
 // The store check.
 pub fn check_store(store: &[u32], mark: u32) -> Result<(), Refusal>
     ensures { checked_of result ≡ store_checked store.now mark }
 {
-    if !store_length_fits(store.len()) {
+    if !store_length_fits(store.len()) || store.len() / 8 < (mark as usize) {
         return Err(Refusal::Sizes);
     }
-    if store.len() / 8 < (mark as usize) {
-        return Err(Refusal::Sizes);
-    }
-    match lowest_bad_node(store, mark) {
+    match lowest(mark, |k| node_fits(store, k)) {
         Some(k) => Err(Refusal::Node(k)),
         None => Ok(()),
     }

@@ -18,12 +18,5 @@ pub(crate) fn unused_zero(rows: &[u32], k: u32, n: u32) -> bool
     requires { n ≤ 6 }
     ensures { result ≡ zeros_from rows.now k (2 + n) }
 {
-    let mut i = n;
-    while i < 6 {
-        if held(rows, k, i) != 0 {
-            return false;
-        }
-        i += 1;
-    }
-    true
+    (2 + n..8).all(|j| word(rows, k, j) == 0)
 }

@@ -159,6 +159,16 @@ module _ (p : ℕ → Bool) where
   pub rejected-some : (i k e : ℕ) → rejected p i k ≡ some e ↔ First p i k e
   rejected-some i k e = (λ z. subst (Told i k) z (told i k), first_some i k e (rejected p i k) (told i k))
 
+-- A Bool that is true just where the test holds at each of the k numbers from i on.
+pub every_both : (p : ℕ → Bool) (i k : ℕ) (b : Bool) → b ≡ true ↔ Holds p i k → b ≡ every p i k
+every_both p i k b h = go b (every p i k) refl refl
+  where
+    go : (s t : Bool) → b ≡ s → every p i k ≡ t → b ≡ t
+    go true true q r = q
+    go true false q r = q ∙ sym ((every_true p i k).1 (h.0 q)) ∙ r
+    go false true q r = h.1 ((every_true p i k).0 r)
+    go false false q r = q
+
 -- What a search and a test of the numbers below n come to, by facts on each number.
 module _ (p : ℕ → Bool) (n : ℕ) where
   -- Every number passes: nothing is found.
@@ -173,6 +183,10 @@ module _ (p : ℕ → Bool) (n : ℕ) where
   -- Every number passes, or one fails.
   pub every_passes : ((j : ℕ) → j < n → p j ≡ true) → true ≡ every p 0 n
   every_passes h = sym ((every_true p 0 n).1 (λ j l m. h j (omega arith)))
+
+  -- A Bool that is true just where every number passes.
+  pub every_either : (b : Bool) → b ≡ true ↔ ((j : ℕ) → j < n → p j ≡ true) → b ≡ every p 0 n
+  every_either b h = every_both p 0 n b (λ e j l m. h.0 e j (omega arith), λ f. h.1 (λ j l. f j (omega arith) (omega arith)))
 
   pub one_fails : (k : ℕ) → k < n → p k ≡ false → false ≡ every p 0 n
   one_fails k l e = go (every p 0 n) refl

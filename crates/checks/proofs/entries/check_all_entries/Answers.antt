@@ -1,43 +1,26 @@
-use mathlib.Core.Path.{ap}
-use Prim.Native.Nat.{ℕ}
-use native.Mathlib.Nat.{sub-zero}
-use native.Mathlib.Omega.{arith}
+use Rattle.std.proofs.Common.{◌≡◌, ap, sym, ◌∙◌, below_more, arith}
 use borrow.Author.Tests.{eq-eqb, ne_eqb}
-use Rattle.words.proofs.Tests.{rejected-turn, rejected-stop, rejected-end}
-use Rattle.checks.specs.Good.{good_entry_by}
+use Rattle.words.specs.Words.{rows}
+use Rattle.words.proofs.Tests.{nothing_rejected, first_rejected}
+use Rattle.checks.specs.Good.{fault, good_entry, good_entry_by}
+use Rattle.checks.specs.Numbers.{fault_number}
 use Rattle.checks.specs.Checked.{checked}
-use Rattle.checks.proofs.entries.lowest_fault.Goals as goal
+use Rattle.checks.proofs.Numbering.{fault-some}
+use Rattle.checks.proofs.entries.check_all_entries.Goals as goal
 
-pub loop-e-init : goal.loop-e-init
-loop-e-init c = (omega arith, rw sub-zero)
-
-pub overflow_cast-e : goal.overflow_cast-e
-overflow_cast-e c = omega arith
-
-pub returns-then-answer-ne0 : goal.returns-then-answer-ne0
+pub returns-in-Err : goal.returns-in-Err
 unfolding good_entry_by
-returns-then-answer-ne0 c =
-    rw (← rejected-stop _ _ _ _
-    c.loop-e.invariant.1
-    c.loop-e-test.true
-    (rw (← c.entry_fault-answer.ensures) (ne_eqb _ _ c.if-answer-ne0.true)))
-    (ap (λ (a : ℕ). checked a c.loop-e.e) c.entry_fault-answer.ensures)
-
-pub overflow_add-e : goal.overflow_add-e
-overflow_add-e c = omega arith
-
-pub loop-e-smaller : goal.loop-e-smaller
-loop-e-smaller c = omega arith
+returns-in-Err c =
+    let t = c.args.table.now in
+    let is : fault_number c.in-Err.fault ≡ fault t c.loop-e.e = c.in-Err.ensures in
+    rw (← first_rejected (good_entry t) (rows t) c.loop-e.e c.loop-e-test.true (ne_eqb _ _ (λ e. fault-some c.in-Err.fault (is ∙ e))) c.loop-e.invariant)
+    (ap (λ n. checked n c.loop-e.e) is)
 
 pub loop-e-preserved : goal.loop-e-preserved
 unfolding good_entry_by
-loop-e-preserved c = (
-  omega arith,
-  rejected-turn _ _ _ _
-      c.loop-e.invariant.1
-      c.loop-e-test.true
-      (rw (← c.entry_fault-answer.ensures) (eq-eqb _ _ c.if-answer-ne0.false)),
-)
+loop-e-preserved c = below_more _ _ c.loop-e.invariant (eq-eqb _ _ (sym c.in_default.ensures))
 
 pub returns : goal.returns
-returns c = rw (← rejected-end _ _ _ _ c.loop-e.invariant.1 c.loop-e-test.false)
+returns c =
+    let t = c.args.table.now in
+    rw (← nothing_rejected (good_entry t) (rows t) (λ k l. c.loop-e.invariant k (omega (arith, c.loop-e-test.false))))

@@ -5,15 +5,15 @@ use mathlib.Core.Logic.{inl, inr, ⊎_elim}
 use Prim.Native.Nat.{ℕ, ◌+◌, ◌≤◌, ◌<◌}
 use native.Mathlib.Nat.{sub-zero}
 use native.Mathlib.Omega.{arith}
-use borrow.Author.Tests.{not-true, not-false}
 use Rattle.std.specs.Prelude.{if◌then◌else◌}
 use Rattle.words.specs.Tests.{every}
 use Rattle.words.proofs.Tests.{every-turn, every-stop, every-end}
 use Rattle.checks.specs.Kinds.{ours, operands_from_by}
 use Rattle.checks.specs.Good.{kind_of, operand_count, operand_by, placed_for, sorted_for, operand_placed_by, operand_sorted_by, operands_fault_by}
-use Rattle.checks.proofs.entries.operands_fault.Goals as goal
-use Rattle.checks.proofs.entries.operands_fault.Goals.{else-not-operand_sorted, then-not-operand_sorted}
-use Rattle.checks.proofs.entries.operands_fault.Invariants.{Kept}
+use Rattle.checks.specs.Numbers.{fault_of}
+use Rattle.checks.proofs.entries.check_operands.Goals as goal
+use Rattle.checks.proofs.entries.check_operands.Goals.{else-not-operand_sorted, then-not-operand_sorted}
+use Rattle.checks.proofs.entries.check_operands.Invariants.{Kept}
 
 module _ (p : ℕ → Bool) (n i : ℕ) (whole : Bool) where
   -- it fails at i
@@ -59,7 +59,7 @@ takes-sort-requires c = c.requires.1.1.0
 pub loop-i-init : goal.loop-i-init
 loop-i-init c =
     let n = c.requires.1.0 in
-    (omega arith, rw (sub-zero, n), (inl refl, rw (sub-zero, n)))
+    (rw (sub-zero, n), (inl refl, rw (sub-zero, n)))
 
 pub operand-o-requires : goal.operand-o-requires
 operand-o-requires c =
@@ -72,33 +72,26 @@ unfolding operands_fault_by
 returns-then-not-operand_placed c =
     let pre = c.requires in
     rw (← every-stop _ _ _ _
-    c.loop-i.invariant.1
+    c.loop-i.invariant.0
     c.loop-i-test.true
-    (sym (placed-is _ _ _ _ _ pre.0 c.operand-o.ensures) ∙ sym c.operand_placed.ensures ∙ not-true _ c.if-not-operand_placed.true-raw))
+    (sym (placed-is _ _ _ _ _ pre.0 c.operand-o.ensures) ∙ sym c.operand_placed.ensures ∙ c.if-not-operand_placed.true))
 
 pub operand_sorted-requires : goal.operand_sorted-requires
 operand_sorted-requires c = c.takes-sort.ensures
-
-pub overflow_add-i : goal.overflow_add-i
-overflow_add-i c = omega arith
-
-pub loop-i-smaller : goal.loop-i-smaller
-loop-i-smaller c = omega arith
 
 pub loop-i-preserved : goal.loop-i-preserved
 loop-i-preserved c =
     let pre = c.requires in
     let sorted = sym (sorted-is _ _ _ _ _ pre.0 c.operand-o.ensures) ∙ sym c.operand_sorted.ensures in (
-      omega arith,
       every-turn _ _ _ _
-          c.loop-i.invariant.1
+          c.loop-i.invariant.0
           c.loop-i-test.true
-          (sym (placed-is _ _ _ _ _ pre.0 c.operand-o.ensures) ∙ sym c.operand_placed.ensures ∙ not-false _ c.if-not-operand_placed.false-raw),
-      elim c.if-not-operand_sorted.branch [ then-not-operand_sorted x ↦ kept-wrong _ _ _ _ _ _ x.fault-is c.loop-i.invariant.2 c.loop-i-test.true (sorted ∙ x.if-not-operand_sorted.true) | else-not-operand_sorted x ↦ kept-right _ _ _ _ _ _ x.fault-is c.loop-i.invariant.2 c.loop-i-test.true (sorted ∙ x.if-not-operand_sorted.false) ],
+          (sym (placed-is _ _ _ _ _ pre.0 c.operand-o.ensures) ∙ sym c.operand_placed.ensures ∙ c.if-not-operand_placed.false),
+      elim c.if-not-operand_sorted.branch [ then-not-operand_sorted x ↦ kept-wrong _ _ _ _ _ _ (ap fault_of x.sorted-is) c.loop-i.invariant.1 c.loop-i-test.true (sorted ∙ x.if-not-operand_sorted.true) | else-not-operand_sorted x ↦ kept-right _ _ _ _ _ _ (ap fault_of x.sorted-is) c.loop-i.invariant.1 c.loop-i-test.true (sorted ∙ x.if-not-operand_sorted.false) ],
     )
 
 pub returns : goal.returns
 unfolding operands_fault_by
 returns c =
-    rw (← every-end _ _ _ _ c.loop-i.invariant.1 c.loop-i-test.false)
-    (kept-end _ _ _ _ _ c.loop-i.invariant.2 c.loop-i-test.false)
+    rw (← every-end _ _ _ _ c.loop-i.invariant.0 c.loop-i-test.false)
+    (kept-end _ _ _ _ _ c.loop-i.invariant.1 c.loop-i-test.false)

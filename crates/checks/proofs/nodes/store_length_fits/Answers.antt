@@ -1,12 +1,13 @@
 -- `checks::nodes::store_length_fits` meets its contract, test by test. Assumes nothing.
-use borrow.Author.Tests.{eq-eqb, ne_eqb}
+use Rattle.std.proofs.Common.{arith}
+use Rattle.std.proofs.lemmas.Bool.Decides.{nat_tests}
 use Rattle.checks.specs.Checked.{store_length_fits}
 use Rattle.checks.proofs.nodes.store_length_fits.Goals as goal
 
-pub returns-then-n-ne0 : goal.returns-then-n-ne0
+pub returns-then-n-eq0 : goal.returns-then-n-eq0
 unfolding store_length_fits
-returns-then-n-ne0 c = rw (ne_eqb _ _ c.if-n-ne0.true)
+returns-then-n-eq0 c = grind (arith, nat_tests)
 
-pub returns : goal.returns
+pub returns-else-n-eq0 : goal.returns-else-n-eq0
 unfolding store_length_fits
-returns c = rw (eq-eqb _ _ c.if-n-ne0.false)
+returns-else-n-eq0 c = grind (arith, nat_tests)

@@ -1,38 +1,16 @@
-use mathlib.Core.Path.{sym, ◌∙◌}
-use native.Mathlib.Omega.{arith}
-use borrow.Author.Rules.{rules}
-use borrow.Author.Tests.{eq-eqb, ne_eqb}
-use Rattle.words.proofs.Tests.{every-turn, every-stop, every-end}
-use Rattle.checks.proofs.Good.{child-zeros}
+-- `checks::rows::unused_zero` meets its contract: every word from 2 + n on is zero. Assumes nothing.
+use Rattle.std.proofs.Common.{◌≡◌, ℕ, List, Bool, true, ◌+◌, ◌-◌, ◌<◌, ◌≤◌, ◌↔◌, eqb, rules, arith}
+use Rattle.std.proofs.iter.runs.Sources.{ranges}
+use borrow.Author.Tests.{eq-eqb, eqb-true}
+use Rattle.words.specs.Words.{word_at}
+use Rattle.words.proofs.Tests.{every_both}
+use Rattle.checks.specs.Good.{zeros_from}
 use Rattle.checks.proofs.rows.unused_zero.Goals as goal
 
-pub loop-i-init : goal.loop-i-init
-loop-i-init c = let a = c.args in (search rules, sym (child-zeros a.rows.now a.k a.n))
-
-pub held-requires : goal.held-requires
-held-requires c = omega arith
-
-pub returns-then-held-ne0 : goal.returns-then-held-ne0
-returns-then-held-ne0 c =
-    every-stop _ _ _ _
-    c.loop-i.invariant.1
-    (omega arith)
-    (ne_eqb _ _ (λ z. c.if-held-ne0.true (c.held.ensures ∙ z)))
-
-pub overflow_add-i : goal.overflow_add-i
-overflow_add-i c = omega arith
-
-pub loop-i-smaller : goal.loop-i-smaller
-loop-i-smaller c = omega arith
-
-pub loop-i-preserved : goal.loop-i-preserved
-loop-i-preserved c = (
-  omega arith,
-  every-turn _ _ _ _
-      c.loop-i.invariant.1
-      (omega arith)
-      (eq-eqb _ _ (sym c.held.ensures ∙ c.if-held-ne0.false)),
-)
+zero-words : (w : List ℕ) (k j : ℕ) (b : Bool) → j ≤ 8 → (b ≡ true ↔ ((i : ℕ) → j ≤ i → i < 8 → word_at w k i ≡ 0)) → b ≡ zeros_from w k j
+zero-words w k j b l h =
+    every_both (λ i. eqb (word_at w k i) 0) j (8 - j) b
+    (λ e i m n. eq-eqb _ _ (h.0 e i m (omega arith)), λ f. h.1 (λ i m n. eqb-true _ _ (f i m (omega arith))))
 
 pub returns : goal.returns
-returns c = every-end _ _ _ _ c.loop-i.invariant.1 c.loop-i-test.false
+returns c = zero-words c.args.rows.now c.args.k (2 + c.args.n) c.all.result (omega arith) (search (rules, ranges))

@@ -1,4 +1,4 @@
-use Rattle.std.proofs.Common.{◌≡◌, ℕ, true, false, ◌<◌, ◌≤◌, sym, arith, below_more}
+use Rattle.std.proofs.Common.{true, false, sym, arith, below_more}
 use Rattle.words.proofs.Tests.{nothing_rejected, first_rejected}
 use Rattle.checks.proofs.search.lowest.Goals as goal
 

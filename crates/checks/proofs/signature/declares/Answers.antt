@@ -1,18 +1,13 @@
--- `checks::signature::declares` meets its contract, test by test. Assumes nothing.
-use native.Mathlib.Omega.{arith}
-use lib.ListN.{length}
-use borrow.Author.Tests.{lt-ltb, le-ltb}
+-- `checks::signature::declares` meets its contract: the count, then the word. Assumes nothing.
+use Rattle.std.proofs.Common.{rules, arith}
+use Rattle.std.proofs.lemmas.Bool.Decides.{nat_tests}
 use Rattle.checks.specs.Signature.{declares}
 use Rattle.checks.proofs.signature.declares.Goals as goal
 
-pub returns-then-signature-c : goal.returns-then-signature-c
+pub returns-then-n-le6 : goal.returns-then-n-le6
 unfolding declares
-returns-then-signature-c c = rw (le-ltb c.args.c (length c.args.signature.now) c.if-signature-c.true)
+returns-then-n-le6 c = let a = c.get.ensures.lookup.1 in search rules
 
-pub returns-then-n-gt6 : goal.returns-then-n-gt6
+pub returns-else-n-le6 : goal.returns-else-n-le6
 unfolding declares
-returns-then-n-gt6 c = rw (lt-ltb _ _ c.if-signature-c.false, le-ltb _ 7 c.if-n-gt6.true)
-
-pub returns : goal.returns
-unfolding declares
-returns c = rw (lt-ltb _ _ c.if-signature-c.false, lt-ltb c.args.n 7 (omega (arith, c.if-n-gt6.false)))
+returns-else-n-le6 c = grind (arith, nat_tests)

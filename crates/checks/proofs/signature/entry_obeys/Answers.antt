@@ -1,18 +1,13 @@
--- `checks::signature::entry_obeys` meets its contract, kind by kind. Assumes nothing.
-use borrow.Author.Tests.{eq-eqb, ne_eqb}
+-- `checks::signature::entry_obeys` meets its contract: the kinds that name a constructor, and the others. Assumes nothing.
+use Rattle.std.proofs.Common.{arith}
+use Rattle.std.proofs.lemmas.Bool.Decides.{nat_tests}
 use Rattle.checks.specs.Signature.{entry_obeys}
 use Rattle.checks.proofs.signature.entry_obeys.Goals as goal
 
-pub returns-then-k-eq-CONG : goal.returns-then-k-eq-CONG
+pub returns-in-10 : goal.returns-in-10
 unfolding entry_obeys
-returns-then-k-eq-CONG c =
-    rw (← c.word-w.ensures, eq-eqb _ _ c.if-k-eq-CONG.true, ← c.word.ensures) c.declares.ensures
+returns-in-10 c = grind (arith, nat_tests)
 
-pub returns-then-k-eq-PCON : goal.returns-then-k-eq-PCON
+pub returns-in_default : goal.returns-in_default
 unfolding entry_obeys
-returns-then-k-eq-PCON c =
-    rw (← c.word-w.ensures, ne_eqb _ _ c.if-k-eq-CONG.false, eq-eqb _ _ c.if-k-eq-PCON.true, ← c.word-then-k-eq-PCON.ensures) c.declares-then-k-eq-PCON.ensures
-
-pub returns : goal.returns
-unfolding entry_obeys
-returns c = rw (← c.word-w.ensures, ne_eqb _ _ c.if-k-eq-CONG.false, ne_eqb _ _ c.if-k-eq-PCON.false)
+returns-in_default c = grind (arith, nat_tests)
