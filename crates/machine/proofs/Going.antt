@@ -1,7 +1,7 @@
 -- The loop: what it has done so far, and why it ends. Assumes nothing.
 use mathlib.Core.Path.{◌≡◌, refl, sym, ◌∙◌, subst}
 use mathlib.Core.Bool.{Bool, true, true≢false}
-use mathlib.Core.Logic.{◌⊎◌, ⊎_elim}
+use mathlib.Core.Logic.{⊎_elim}
 use mathlib.Core.List.{List, ◌∷◌}
 use Prim.Native.Nat.{ℕ, suc, ◌+◌, ◌-◌, ◌*◌, ◌<◌, ◌≤◌}
 use native.Mathlib.Omega.{arith}
@@ -20,7 +20,7 @@ use Rattle.meaning.proofs.Steps.{steps-suc}
 use Rattle.turns.specs.Ways.{visit_of}
 use Rattle.machine.specs.declared.Machine.{Machine}
 use Rattle.machine.specs.Stack.{present, Run, first_of, others_of, Asks, Stands, Fair}
-use Rattle.machine.specs.Machine.{Lent, OwnStay, visited, Turned, Went, spent, Once, Gone}
+use Rattle.machine.specs.Machine.{Lent, OwnStay, visited, Turned, Went, spent, Comes, counted, told, Halts, Once, Gone}
 
 -- the turns that the machine may take before it asks
 abbrev pub rank : Machine → ℕ
@@ -62,11 +62,6 @@ none_yet {sh} {t} {w} {k} {a} {stop} l h s z = record {
   rest = s;
   goes = λ es log X x f. let n : a.fuel - a.fuel ≡ 0 = omega arith in (es, log, rw n x);
 }
-
--- a visit is counted, or an end is told; the machine and the visit then
-pub data Comes (m : Machine) (stop : ℕ) : Machine → ℕ → Type 0 where
-  counted : m.mode < 4 → (m.fuel ≡ stop → ⊥) → m.level < 4096 → Comes m stop (spent m) m.level
-  told : 3 < m.mode → m.mode < 6 → (m.level ≡ 0 → ⊥) → Comes m stop m (m.level - 1)
 
 module _ {sh : Bool} {t w₀ k₀ : List ℕ} {a : Machine} {stop : ℕ} {w k : List ℕ} {m : Machine} (so : SoFar sh t w₀ k₀ a stop w k m) where
   pub deep-enough : (m₁ : Machine) (i : ℕ) → Comes m stop m₁ i → (i < 4096) × (3 < m₁.mode → i < 4095)
@@ -142,8 +137,8 @@ module _ {sh : Bool} {t w₀ k₀ : List ℕ} {a : Machine} {stop : ℕ} {w k : 
   }
 
   -- it stops
-  pub stopped-asking : (m.fuel ≡ stop) ⊎ (4096 ≤ m.level) → m.mode < 4 → Went sh t w₀ k₀ a stop m w k
-  stopped-asking z h = record {
+  pub stopped : Halts m stop → Went sh t w₀ k₀ a stop m w k
+  stopped z = record {
     lent = so.lent;
     store = so.store;
     work = so.work;
@@ -151,21 +146,8 @@ module _ {sh : Bool} {t w₀ k₀ : List ℕ} {a : Machine} {stop : ℕ} {w k : 
     fuel = so.fuel;
     rest = so.rest;
     goes = so.goes;
-    asking = λ _. z;
-    ended = λ e _. absurd (omega arith);
-  }
-
-  pub stopped-ended : (m.mode < 6 → m.level ≡ 0) → 3 < m.mode → Went sh t w₀ k₀ a stop m w k
-  stopped-ended z h = record {
-    lent = so.lent;
-    store = so.store;
-    work = so.work;
-    own = so.own;
-    fuel = so.fuel;
-    rest = so.rest;
-    goes = so.goes;
-    asking = λ e. absurd (omega arith);
-    ended = λ _. z;
+    asking = z.asking;
+    ended = z.ended;
   }
 
 -- ---- one turn alone
@@ -190,20 +172,11 @@ module _ {once sh : Bool} {t w₀ k₀ : List ℕ} {a : Machine} {stop : ℕ} {w
   }
 
   -- the machine stops before a turn
-  pub gone-asking : (m.fuel ≡ stop) ⊎ (4096 ≤ m.level) → m.mode < 4 → Went sh t w₀ k₀ a stop m w k → Gone once sh t w₀ k₀ a stop m w k
-  gone-asking z h g = record {
+  pub gone-stopped : Halts m stop → Went sh t w₀ k₀ a stop m w k → Gone once sh t w₀ k₀ a stop m w k
+  gone-stopped z g = record {
     on = λ _. g;
     alone = λ e. subst (λ a. Once sh t w₀ k₀ a stop m w k) (u e).0 (record {
-      begun = λ _ n l. absurd (⊎_elim n (λ y. omega arith) z);
-      told = λ y. absurd (omega arith);
-    });
-  }
-
-  pub gone-ended : (m.mode < 6 → m.level ≡ 0) → 3 < m.mode → Went sh t w₀ k₀ a stop m w k → Gone once sh t w₀ k₀ a stop m w k
-  gone-ended z h g = record {
-    on = λ _. g;
-    alone = λ e. subst (λ a. Once sh t w₀ k₀ a stop m w k) (u e).0 (record {
-      begun = λ y. absurd (omega arith);
-      told = λ _ y n. absurd (n (z y));
+      begun = λ y n l. absurd (⊎_elim n (λ d. omega arith) (z.asking y));
+      told = λ y b n. absurd (n (z.ended y b));
     });
   }

@@ -11,9 +11,9 @@ use Rattle.words.specs.Words.{word_at, put_row}
 use Rattle.words.proofs.Rows.{length-put_row}
 use Rattle.meaning.specs.Bindings.{Bindings}
 use Rattle.turns.specs.Ways.{record_from, held_at, row_of, row_to_build, Frame, ways, way_of, saves, opened, next_of}
-use Rattle.turns.specs.declared.turn.Turn.{Turn}
+use Rattle.turns.specs.declared.turn.Asked.{Asked}
 use Rattle.machine.specs.Stack.{row_at, frame_at}
-use Rattle.machine.specs.Machine.{Keeps, Opened}
+use Rattle.machine.specs.Machine.{head_of, Keeps, Opened}
 use Rattle.machine.proofs.Holding.{held_same}
 use Rattle.machine.proofs.Rowing.{row_same, row_put, row_kept, place_kept}
 
@@ -54,10 +54,6 @@ same_way t (suc (suc (suc (suc (suc (suc (suc (suc (suc (suc (suc (suc (suc (suc
     e =
     λ z. way_of t (frame (suc (suc (suc (suc (suc (suc (suc (suc (suc (suc (suc (suc (suc (suc (suc (suc (suc k))))))))))))))))) x y i (g
     (omega arith) z) o) b
-
--- the head of a frame
-abbrev pub head_of : (what x y i mark m : ℕ) → List ℕ
-head_of what x y i mark m = what ∷ x ∷ y ∷ i ∷ mark ∷ m % 4294967296 ∷ m / 4294967296 ∷ 0 ∷ []
 
 -- a list with this head, row and other row, in which the bindings are kept where they should be
 pub opened-by : (k k' : List ℕ) (r what x y i mark m : ℕ) (hs os : List ℕ) (b : Bindings ℕ) → length k' ≡ length k
@@ -117,14 +113,14 @@ pub saves-16 : (k : ℕ) → k ≡ 16 → saves k ≡ false
 saves-16 k e = rw e refl
 
 -- the row that is opened
-pub built-row : (t w hs : List ℕ) (x y : ℕ) (a : Turn) → a.what ≡ 15 → hs ≡ row_to_build t x → hs ≡ (opened t w x y a).row
+pub built-row : (t w hs : List ℕ) (x y : ℕ) (a : Asked) → a.what ≡ 15 → hs ≡ row_to_build t x → hs ≡ (opened t w x y a).row
 built-row t w hs x y a e h = h ∙ rw (eq-eqb a.what 15 e) refl
 
-pub node_row : (t w hs : List ℕ) (x y : ℕ) (a : Turn) → (a.what ≡ 15 → ⊥) → hs ≡ row_of w y → hs ≡ (opened t w x y a).row
+pub node_row : (t w hs : List ℕ) (x y : ℕ) (a : Asked) → (a.what ≡ 15 → ⊥) → hs ≡ row_of w y → hs ≡ (opened t w x y a).row
 node_row t w hs x y a e h = h ∙ rw (ne_eqb a.what 15 e) refl
 
 -- the visit m opens its frame
-module _ (t w k k₁ k₂ : List ℕ) (r x y mark m : ℕ) (a : Turn) (room : r + 10 ≤ 40950) (long : 327680 ≤ length k)
+module _ (t w k k₁ k₂ : List ℕ) (r x y mark m : ℕ) (a : Asked) (room : r + 10 ≤ 40950) (long : 327680 ≤ length k)
     (e₁ : k₁ ≡ put_row k r (head_of a.what x y a.at mark m)) (e₂ : Keeps k₁ r a.what m k₂) where
   pub opened-plain : a.what < 8 → Opened k r (opened t w x y a) (held_at k record_from m) mark k₂
   opened-plain h =
@@ -177,7 +173,7 @@ module _ (t w k k₁ k₂ : List ℕ) (r x y mark m : ℕ) (a : Turn) (room : r 
         (λ s. absurd (true≢false (sym s ∙ saves-16 a.what n)))
 
 -- a frame goes on to its next child
-pub moved_on : (k k₁ k₂ : List ℕ) (r what mark m : ℕ) (x y i : ℕ) (a : Turn) → r + 10 ≤ 40950 → 327680 ≤ length k
+pub moved_on : (k k₁ k₂ : List ℕ) (r what mark m : ℕ) (x y i : ℕ) (a : Asked) → r + 10 ≤ 40950 → 327680 ≤ length k
     → k₁ ≡ put_row k r (head_of what x y i mark m) → Keeps k₁ r what m k₂ → a.what ≡ what → x ≡ word_at k r 1 → y ≡ word_at k r 2 → i ≡ word_at
     k r 3 % 8 + 1
     → Opened k r (next_of (frame_at k r) a) (held_at k record_from m) mark k₂

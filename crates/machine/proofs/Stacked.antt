@@ -24,10 +24,10 @@ use Rattle.meaning.specs.Limits.{Res, ended, lost, cut, room, unbound}
 use Rattle.meaning.specs.Steps.{over, roomy, advance, settle}
 use Rattle.meaning.specs.Store.{State as Store, Left, on, rest, row}
 use Rattle.meaning.specs.Shared.{full_for, number_for, state_for, store_by}
+use Rattle.turns.specs.declared.turn.Asked.{Asked}
 use Rattle.turns.specs.declared.turn.Turn.{Turn}
-use Rattle.turns.specs.declared.turn.Act.{Act}
-use Rattle.turns.specs.declared.turn.Act.TheVariants.{Done, Failed, Missed, Stuck, Bound, Unscope}
-use Rattle.turns.specs.Ways.{record_from, held_at, kids, Frame, way_of, visit_of, hiding, opened, asking, acts, looked}
+use Rattle.turns.specs.declared.turn.Turn.TheVariants.{Done, Failed, Missed, Stuck, Bound, Unscope}
+use Rattle.turns.specs.Ways.{record_from, held_at, kids, Frame, way_of, visit_of, hiding, asked_of, opened, asking, plan_of, looked}
 use Rattle.machine.specs.declared.Machine.{Machine}
 use Rattle.machine.specs.Stack.{row_at, frame_at, mask_at, kept_at, present, way_at, mark_at, Noted, Open, Run, whats_of, Pending, Stack}
 use Rattle.machine.specs.Stack.{Asks, Ends, Stands}
@@ -155,16 +155,16 @@ masked_same h b = fun_ext (λ v. go (has h v) (b v))
 
 -- a turn of the visit after i others, in a list k of which only the record may change
 module _ (sh : Bool) (t w k : List ℕ) (i : ℕ) (m : Machine) (r : Turn) (lent : Lent w k) where
-  abbrev plan : Act → Do ℕ
-  plan a = acts t a r (frame_at k (10 * i)) (opened t w m.x m.y r) (kept_by k m i) (present k m)
+  abbrev plan : Turn → Do ℕ
+  plan a = plan_of t a (frame_at k (10 * i)) (opened t w m.x m.y (asked_of a)) (kept_by k m i) (present k m)
 
-  by-act : (log : List Event) {a : Act} → r.act ≡ a → (X : Run) (fs : List Open) (n : ℕ) (p : Do ℕ)
-      → X ≡ goes sh t fs n w m.mark (m.place, log) m.fuel p → plan r.act ≡ looked w p
+  by-turn : (log : List Event) {a : Turn} → r ≡ a → (X : Run) (fs : List Open) (n : ℕ) (p : Do ℕ)
+      → X ≡ goes sh t fs n w m.mark (m.place, log) m.fuel p → plan r ≡ looked w p
       → X ≡ goes sh t fs n w m.mark (m.place, log) m.fuel (plan a)
-  by-act log {a} e X fs n p x q = goes_on sh t fs n w m.mark (m.place, log) m.fuel X p (plan a) x (ap plan (sym e) ∙ q)
+  by-turn log {a} e X fs n p x q = goes_on sh t fs n w m.mark (m.place, log) m.fuel X p (plan a) x (ap plan (sym e) ∙ q)
 
   -- it succeeds with the node y, and c is bound
-  pub carried-ret : {a : Act} {y mask : ℕ} {c : Bindings ℕ} {m' : Machine} {k' : List ℕ} → i < 4096 → r.act ≡ a → plan a ≡ ret y c
+  pub carried-ret : {a : Turn} {y mask : ℕ} {c : Bindings ℕ} {m' : Machine} {k' : List ℕ} → i < 4096 → r ≡ a → plan a ≡ ret y c
       → m' ≡ record { x = 0; mode = 4; y = y; level = i; mark = m.mark; place = m.place; fuel = m.fuel; mask = mask }
       → length k' ≡ length k → ((j : ℕ) → j < record_from → get_or k' j 0 ≡ get_or k j 0) → held_at k' record_from mask ≡ c
       → Carried sh t w k i m r m' w k'
@@ -177,13 +177,13 @@ module _ (sh : Bool) (t w k : List ℕ) (i : ℕ) (m : Machine) (r : Turn) (lent
     own = λ j g h. f j h;
     is = λ es log X fs n p ws s q x u. subst (λ m'. Stands sh t m' w k' es log X) (sym d) (stands-succeeded refl (record {
       frames = fs;
-      is = by-act log e X fs n p x u ∙ ap (goes sh t fs n w m.mark (m.place, log) m.fuel) (z ∙ ap (ret y) (sym b));
+      is = by-turn log e X fs n p x u ∙ ap (goes sh t fs n w m.mark (m.place, log) m.fuel) (z ∙ ap (ret y) (sym b));
       stack = stable t k k' i (λ j h. f j (omega arith)) (suc i) fs (omega arith) s;
       whats = ws;
     }));
   }
 
-  pub carried-failed : {m' : Machine} → r.act ≡ Failed → m' ≡ record {
+  pub carried-failed : {m' : Machine} → r ≡ Failed → m' ≡ record {
     x = 0;
     mode = 5;
     y = 0;
@@ -193,7 +193,7 @@ module _ (sh : Bool) (t w k : List ℕ) (i : ℕ) (m : Machine) (r : Turn) (lent
     fuel = m.fuel;
     mask = m.mask;
   } → Carried sh t w k i m r m' w k
-  unfolding acts advance
+  unfolding plan_of advance
   carried-failed {m'} e d = record {
     lent = lent;
     store = refl;
@@ -201,32 +201,32 @@ module _ (sh : Bool) (t w k : List ℕ) (i : ℕ) (m : Machine) (r : Turn) (lent
     moved = rw d (record { fuel = refl; deeper = λ h. absurd (omega arith); ended = λ _. refl });
     own = λ j g h. refl;
     is = λ es log X fs n p ws s q x u. subst (λ m'. Stands sh t m' w k es log X) (sym d)
-        (stands-failed refl (record { frames = fs; is = by-act log e X fs n p x u; stack = s; whats = ws }));
+        (stands-failed refl (record { frames = fs; is = by-turn log e X fs n p x u; stack = s; whats = ws }));
   }
 
-  pub carried-missed : {m' : Machine} → r.act ≡ Missed → m' ≡ record {
+  pub carried-missed : {p : ℕ} {m' : Machine} → r ≡ Missed p → m' ≡ record {
     x = 0;
     mode = 5;
     y = 0;
     level = i;
     mark = m.mark;
-    place = r.x;
+    place = p;
     fuel = m.fuel;
     mask = m.mask;
   } → Carried sh t w k i m r m' w k
-  unfolding acts advance
-  carried-missed {m'} e d = record {
+  unfolding plan_of advance
+  carried-missed {p} {m'} e d = record {
     lent = lent;
     store = refl;
     work = refl;
     moved = rw d (record { fuel = refl; deeper = λ h. absurd (omega arith); ended = λ _. refl });
     own = λ j g h. refl;
-    is = λ es log X fs n p ws s q x u. subst (λ m'. Stands sh t m' w k es log X) (sym d)
-        (stands-failed refl (record { frames = fs; is = by-act log e X fs n p x u; stack = s; whats = ws }));
+    is = λ es log X fs n q ws s r x u. subst (λ m'. Stands sh t m' w k es log X) (sym d)
+        (stands-failed refl (record { frames = fs; is = by-turn log e X fs n q x u; stack = s; whats = ws }));
   }
 
-  pub carried-stuck : {m' : Machine} → r.act ≡ Stuck → m' ≡ record {
-    x = r.x;
+  pub carried-stuck : {v : ℕ} {m' : Machine} → r ≡ Stuck v → m' ≡ record {
+    x = v;
     mode = 7;
     y = 0;
     level = i;
@@ -235,84 +235,84 @@ module _ (sh : Bool) (t w k : List ℕ) (i : ℕ) (m : Machine) (r : Turn) (lent
     fuel = m.fuel;
     mask = m.mask;
   } → Carried sh t w k i m r m' w k
-  unfolding acts advance
-  carried-stuck {m'} e d = record {
+  unfolding plan_of advance
+  carried-stuck {v} {m'} e d = record {
     lent = lent;
     store = refl;
     work = refl;
     moved = rw d (record { fuel = refl; deeper = λ h. absurd (omega arith); ended = λ _. refl });
     own = λ j g h. refl;
-    is = λ es log X fs n p ws s q x u. subst (λ m'. Stands sh t m' w k es log X) (sym d) (stands-stuck refl (by-act log e X fs n p x u));
+    is = λ es log X fs n p ws s q x u. subst (λ m'. Stands sh t m' w k es log X) (sym d) (stands-stuck refl (by-turn log e X fs n p x u));
   }
 
-  pub carried-done : {m' : Machine} → i < 4096 → r.act ≡ Done → m' ≡ record {
+  pub carried-done : {y : ℕ} {m' : Machine} → i < 4096 → r ≡ Done y → m' ≡ record {
     x = 0;
     mode = 4;
-    y = r.y;
+    y = y;
     level = i;
     mark = m.mark;
     place = m.place;
     fuel = m.fuel;
     mask = m.mask;
   } → Carried sh t w k i m r m' w k
-  unfolding acts
+  unfolding plan_of
   carried-done l e d = carried-ret l e refl d refl (λ j h. refl) refl
 
-  pub carried-bound : {v : ℕ} {m' : Machine} → i < 4096 → r.act ≡ Bound → v ≡ r.x % 64
+  pub carried-bound : {x y v : ℕ} {m' : Machine} → i < 4096 → r ≡ Bound x y → v ≡ x % 64
       → m' ≡ record {
         x = 0;
         mode = 4;
-        y = r.y;
+        y = y;
         level = i;
         mark = m.mark;
         place = m.place;
         fuel = m.fuel;
         mask = bit_or m.mask (1 * 2 ^ v % 2 ^ 64);
       }
-      → Carried sh t w k i m r m' w (set k (record_from + v) r.y)
-  unfolding acts
-  carried-bound {v} l e z d =
-      carried-ret l e (ap (λ (v : ℕ). ret r.y (bind v r.y (present k m))) (sym z)) d (length-set k (record_from + v) r.y)
-      (λ j h. get_or-set_other k (record_from + v) j r.y 0 (λ (g : j ≡ record_from + v). omega arith))
-      (held-bind k record_from m.mask v r.y (omega arith) (omega (arith, lent.frames)))
+      → Carried sh t w k i m r m' w (set k (record_from + v) y)
+  unfolding plan_of
+  carried-bound {x} {y} {v} l e z d =
+      carried-ret l e (ap (λ (v : ℕ). ret y (bind v y (present k m))) (sym z)) d (length-set k (record_from + v) y)
+      (λ j h. get_or-set_other k (record_from + v) j y 0 (λ (g : j ≡ record_from + v). omega arith))
+      (held-bind k record_from m.mask v y (omega arith) (omega (arith, lent.frames)))
 
   -- a scope ends
-  pub carried-unscoped : {m' : Machine} {kept mask : ℕ} {k' : List ℕ} → i < 4095 → r.act ≡ Unscope → r.mask < 2 ^ 64
-      → mask ≡ mask_at k (10 * i) → kept ≡ bit_and mask r.mask
+  pub carried-unscoped : {y h : ℕ} {m' : Machine} {kept mask : ℕ} {k' : List ℕ} → i < 4095 → r ≡ Unscope y h → h < 2 ^ 64
+      → mask ≡ mask_at k (10 * i) → kept ≡ bit_and mask h
       → Copied k (8 * (10 * i + 2)) record_from kept k'
       → m' ≡ record {
         x = 0;
         mode = 4;
-        y = r.y;
+        y = y;
         level = i;
         mark = m.mark;
         place = m.place;
         fuel = m.fuel;
-        mask = bit_or (bit_and m.mask (18446744073709551615 - r.mask)) kept;
+        mask = bit_or (bit_and m.mask (18446744073709551615 - h)) kept;
       }
       → Carried sh t w k i m r m' w k'
-  unfolding acts
-  carried-unscoped {m'} {kept} {mask} {k'} l e small z g c d =
-      let f : Copied k (8 * (10 * i + 2)) record_from (bit_and (mask_at k (10 * i)) r.mask) k' = subst
-      (λ (n : ℕ). Copied k (8 * (10 * i + 2)) record_from n k') (g ∙ ap (λ (n : ℕ). bit_and n r.mask) z) c in
+  unfolding plan_of
+  carried-unscoped {y} {h} {m'} {kept} {mask} {k'} l e small z g c d =
+      let f : Copied k (8 * (10 * i + 2)) record_from (bit_and (mask_at k (10 * i)) h) k' = subst
+      (λ (n : ℕ). Copied k (8 * (10 * i + 2)) record_from n k') (g ∙ ap (λ (n : ℕ). bit_and n h) z) c in
       let kind : kept_by k m i ≡ kept_at k (10 * i) = ap (λ c. if c then kept_at k (10 * i) else present k m) (lt-ltb i 4095 l) in
-      carried-ret (omega arith) e (ap (λ b. ret r.y (masked r.mask b (present k m))) kind) d c.long (λ j h. c.other j (inl h))
-      (ap (λ (n : ℕ). held_at k' record_from (bit_or (bit_and m.mask (18446744073709551615 - r.mask)) n))
-      (g ∙ ap (λ (n : ℕ). bit_and n r.mask) z)
-      ∙ held-unscoped m.mask r.mask small k k' (8 * (10 * i + 2)) record_from (mask_at k (10 * i)) f)
+      carried-ret (omega arith) e (ap (λ b. ret y (masked h b (present k m))) kind) d c.long (λ j g. c.other j (inl g))
+      (ap (λ (n : ℕ). held_at k' record_from (bit_or (bit_and m.mask (18446744073709551615 - h)) n))
+      (g ∙ ap (λ (n : ℕ). bit_and n h) z)
+      ∙ held-unscoped m.mask h small k k' (8 * (10 * i + 2)) record_from (mask_at k (10 * i)) f)
 
   -- the deepest visit has no frame, and so no scope to end
-  pub carried-unscoped-deepest : {m' : Machine} → i < 4096 → 4095 ≤ i → r.act ≡ Unscope
-      → m' ≡ record { x = 0; mode = 4; y = r.y; level = i; mark = m.mark; place = m.place; fuel = m.fuel; mask = m.mask }
+  pub carried-unscoped-deepest : {y h : ℕ} {m' : Machine} → i < 4096 → 4095 ≤ i → r ≡ Unscope y h
+      → m' ≡ record { x = 0; mode = 4; y = y; level = i; mark = m.mark; place = m.place; fuel = m.fuel; mask = m.mask }
       → Carried sh t w k i m r m' w k
-  unfolding acts
-  carried-unscoped-deepest l h e d =
-      let kind : kept_by k m i ≡ present k m = ap (λ c. if c then kept_at k (10 * i) else present k m) (le-ltb i 4095 h) in
-      carried-ret l e (ap (λ b. ret r.y (masked r.mask b (present k m))) kind ∙ ap (ret r.y) (masked_same r.mask (present k m)))
+  unfolding plan_of
+  carried-unscoped-deepest {y} {h} l deep e d =
+      let kind : kept_by k m i ≡ present k m = ap (λ c. if c then kept_at k (10 * i) else present k m) (le-ltb i 4095 deep) in
+      carried-ret l e (ap (λ b. ret y (masked h b (present k m))) kind ∙ ap (ret y) (masked_same h (present k m)))
       d refl (λ j g. refl) refl
 
   -- a node that stands is found, or one is made
-  pub carried-made : {a : Act} {c : ℕ} {hs rs : List ℕ} {m' : Machine} {w' : List ℕ} → r.act ≡ a
+  pub carried-made : {a : Turn} {c : ℕ} {hs rs : List ℕ} {m' : Machine} {w' : List ℕ} → r ≡ a
       → plan a ≡ make c hs (λ n. ret n (present k m)) → get_or rs 0 0 ≡ c → kids rs ≡ hs
       → Node sh w i m rs m' w' → Carried sh t w k i m r m' w' k
   unfolding advance roomy full_for number_for state_for
@@ -332,9 +332,9 @@ module _ (sh : Bool) (t w k : List ℕ) (i : ℕ) (m : Machine) (r : Turn) (lent
           (on (put_row w m.mark (row (get_or rs 0 0) (kids rs))) (m.mark + 1) (m.place, log))) m.fuel))
 
       makes : (log : List Event) (X : Run) (fs : List Open) (n : ℕ) (p : Do ℕ)
-          → X ≡ goes sh t fs n w m.mark (m.place, log) m.fuel p → plan r.act ≡ looked w p
+          → X ≡ goes sh t fs n w m.mark (m.place, log) m.fuel p → plan r ≡ looked w p
           → X ≡ comes log fs (standing_for sh w m rs) (leb (rows w) m.mark)
-      makes log X fs n p x u = by-act log e X fs n p x u ∙ ap (goes sh t fs n w m.mark (m.place, log) m.fuel)
+      makes log X fs n p x u = by-turn log e X fs n p x u ∙ ap (goes sh t fs n w m.mark (m.place, log) m.fuel)
           (z ∙ (λ q. make (sym ec q) (sym eh q) (λ n. ret n (present k m))))
 
       carry : {m₁ : Machine} → m' ≡ m₁ → Moved i m m₁
@@ -386,22 +386,22 @@ module _ (sh : Bool) (t w k : List ℕ) (i : ℕ) (m : Machine) (r : Turn) (lent
               ∙ ap (λ v. over (cut room (rest v (m.place, log)) m.fuel)) (sym d.1)))
 
   -- a visit is asked for, and its frame g waits
-  pub carried-asked : {a : Act} {g : Frame} {m' : Machine} {k' : List ℕ} → i < 4095 → r.act ≡ a → plan a ≡ asking t g r (present k m)
-      → r.mask < 2 ^ 64
+  pub carried-asked : {s : Turn} (a : Asked) {g : Frame} {m' : Machine} {k' : List ℕ} → i < 4095 → r ≡ s → plan s ≡ asking t g a (present k m)
+      → a.mask < 2 ^ 64
       → Opened k (10 * i) g (present k m) m.mark k'
       → m' ≡ record {
-        x = r.x;
-        mode = r.mode % 4;
-        y = r.y;
+        x = a.x;
+        mode = a.mode % 4;
+        y = a.y;
         level = i + 1;
         mark = m.mark;
         place = m.place;
         fuel = m.fuel;
-        mask = bit_and m.mask (18446744073709551615 - r.mask);
+        mask = bit_and m.mask (18446744073709551615 - a.mask);
       }
       → Carried sh t w k i m r m' w k'
   unfolding advance way_at mark_at
-  carried-asked {a} {g} {m'} {k'} l e z small o d = record {
+  carried-asked a {g} {m'} {k'} l e z small o d = record {
     lent = record { nodes = lent.nodes; small = lent.small; frames = omega (arith, lent.frames, o.long) };
     store = refl;
     work = o.long;
@@ -409,7 +409,7 @@ module _ (sh : Bool) (t w k : List ℕ) (i : ℕ) (m : Machine) (r : Turn) (lent
     own = λ j g h. o.other j (inr (omega arith));
     is = λ es log X fs n p ws s q x u. subst (λ m'. Stands sh t m' w k' es log X) (sym d) (rw add-one (stands-asked (omega arith) (record {
       top = record {
-        visit = visit_of (r.mode % 4) r.x r.y (hiding r.mask (present k m));
+        visit = visit_of (a.mode % 4) a.x a.y (hiding a.mask (present k m));
         left = n;
         keeps = (way_of t g (present k m)).keeps;
         before = on w m.mark (m.place, log);
@@ -417,9 +417,9 @@ module _ (sh : Bool) (t w k : List ℕ) (i : ℕ) (m : Machine) (r : Turn) (lent
         no = (way_of t g (present k m)).no;
       };
       others = fs;
-      is = by-act log e X fs n p x u ∙ ap (goes sh t fs n w m.mark (m.place, log) m.fuel) z;
-      visit = ap (visit_of (r.mode % 4) r.x r.y) (sym (held-hidden m.mask r.mask small k record_from)
-          ∙ sym (held_same k k' record_from record_from (bit_and m.mask (18446744073709551615 - r.mask))
+      is = by-turn log e X fs n p x u ∙ ap (goes sh t fs n w m.mark (m.place, log) m.fuel) z;
+      visit = ap (visit_of (a.mode % 4) a.x a.y) (sym (held-hidden m.mask a.mask small k record_from)
+          ∙ sym (held_same k k' record_from record_from (bit_and m.mask (18446744073709551615 - a.mask))
           (λ v i _. o.other (record_from + v) (inr (omega arith)))));
       pending = record { left = q; ways = λ _. sym (o.way t); mark = λ _ _. sym o.mark };
       stack = stable t k k' i (λ j h. o.other j (inl (omega arith))) (suc i) fs (omega arith) s;
@@ -428,21 +428,21 @@ module _ (sh : Bool) (t w k : List ℕ) (i : ℕ) (m : Machine) (r : Turn) (lent
   }
 
   -- the deepest visit has no frame: what it asks for is cut off
-  pub carried-deepest : {a : Act} {m' : Machine} (g : Frame) → 4095 ≤ i → r.act ≡ a → plan a ≡ asking t g r (present k m)
-      → r.mask < 2 ^ 64
+  pub carried-deepest : {s : Turn} (a : Asked) {m' : Machine} (g : Frame) → 4095 ≤ i → r ≡ s → plan s ≡ asking t g a (present k m)
+      → a.mask < 2 ^ 64
       → m' ≡ record {
-        x = r.x;
-        mode = r.mode % 4;
-        y = r.y;
+        x = a.x;
+        mode = a.mode % 4;
+        y = a.y;
         level = i + 1;
         mark = m.mark;
         place = m.place;
         fuel = m.fuel;
-        mask = bit_and m.mask (18446744073709551615 - r.mask);
+        mask = bit_and m.mask (18446744073709551615 - a.mask);
       }
       → Carried sh t w k i m r m' w k
   unfolding advance
-  carried-deepest {a} {m'} g l e z small d = record {
+  carried-deepest a {m'} g l e z small d = record {
     lent = lent;
     store = refl;
     work = refl;
@@ -450,7 +450,7 @@ module _ (sh : Bool) (t w k : List ℕ) (i : ℕ) (m : Machine) (r : Turn) (lent
     own = λ j g h. refl;
     is = λ es log X fs n p ws s q x u. subst (λ m'. Stands sh t m' w k es log X) (sym d) (rw add-one (stands-asked (omega arith) (record {
       top = record {
-        visit = visit_of (r.mode % 4) r.x r.y (hiding r.mask (present k m));
+        visit = visit_of (a.mode % 4) a.x a.y (hiding a.mask (present k m));
         left = n;
         keeps = (way_of t g (present k m)).keeps;
         before = on w m.mark (m.place, log);
@@ -458,26 +458,26 @@ module _ (sh : Bool) (t w k : List ℕ) (i : ℕ) (m : Machine) (r : Turn) (lent
         no = (way_of t g (present k m)).no;
       };
       others = fs;
-      is = by-act log e X fs n p x u ∙ ap (goes sh t fs n w m.mark (m.place, log) m.fuel) z;
-      visit = ap (visit_of (r.mode % 4) r.x r.y) (sym (held-hidden m.mask r.mask small k record_from));
+      is = by-turn log e X fs n p x u ∙ ap (goes sh t fs n w m.mark (m.place, log) m.fuel) z;
+      visit = ap (visit_of (a.mode % 4) a.x a.y) (sym (held-hidden m.mask a.mask small k record_from));
       pending = record { left = q; ways = λ c. absurd (omega arith); mark = λ c _. absurd (omega arith) };
       stack = s;
       whats = ws;
     })));
   }
 
-  pub carried-deepest-in : {a : Act} {m' : Machine} {k' : List ℕ} (g : Frame) → k' ≡ k → 4095 ≤ i → r.act ≡ a
-      → plan a ≡ asking t g r (present k m) → r.mask < 2 ^ 64
+  pub carried-deepest-in : {s : Turn} (a : Asked) {m' : Machine} {k' : List ℕ} (g : Frame) → k' ≡ k → 4095 ≤ i → r ≡ s
+      → plan s ≡ asking t g a (present k m) → a.mask < 2 ^ 64
       → m' ≡ record {
-        x = r.x;
-        mode = r.mode % 4;
-        y = r.y;
+        x = a.x;
+        mode = a.mode % 4;
+        y = a.y;
         level = i + 1;
         mark = m.mark;
         place = m.place;
         fuel = m.fuel;
-        mask = bit_and m.mask (18446744073709551615 - r.mask);
+        mask = bit_and m.mask (18446744073709551615 - a.mask);
       }
       → Carried sh t w k i m r m' w k'
-  carried-deepest-in {a} {m'} g same l e z small d =
-      subst (λ k'. Carried sh t w k i m r m' w k') (sym same) (carried-deepest g l e z small d)
+  carried-deepest-in a {m'} g same l e z small d =
+      subst (λ k'. Carried sh t w k i m r m' w k') (sym same) (carried-deepest a g l e z small d)

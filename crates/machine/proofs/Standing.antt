@@ -6,8 +6,6 @@ use mathlib.Core.List.{List}
 use Prim.Native.Nat.{ℕ}
 use lib.ListN.{get_or}
 use Rattle.checks.specs.Checked.{place_of}
-use Rattle.checks.specs.declared.Found.{Found}
-use Rattle.checks.specs.declared.Found.TheVariants.{At, Nothing}
 use Rattle.meaning.specs.Store.{row}
 use Rattle.meaning.specs.Shared.{node_with, standing}
 use Rattle.meaning.proofs.Tests.{impossible}
@@ -15,23 +13,7 @@ use Rattle.turns.specs.Ways.{kids}
 use Rattle.machine.specs.declared.Machine.{Machine}
 use Rattle.machine.specs.Machine.{standing_for, Node}
 
--- what is not found at a node is not found
-pub nothing : (f : Found) → ((y : ℕ) → f ≡ At y → ⊥) → f ≡ Nothing
-nothing (At y) no_node = absurd (no_node y refl)
-nothing Nothing no_node = refl
-
 module _ (sh : Bool) (w : List ℕ) (i : ℕ) (m : Machine) (r : List ℕ) where
-  -- nodes are not shared: none stands
-  pub none-shared : sh ≡ false → standing_for sh w m r ≡ none
-  unfolding standing
-  none-shared e = ap (λ sh. standing_for sh w m r) e
-
-  -- they are: it is the one below the mark with the words
-  pub found-shared : {f g : Found} → sh ≡ true → place_of f ≡ node_with w (row (get_or r 0 0) (kids r)) m.mark → f ≡ g
-      → standing_for sh w m r ≡ place_of g
-  unfolding standing
-  found-shared e z h = ap (λ sh. standing_for sh w m r) e ∙ sym z ∙ ap place_of h
-
   pub node-found : (y : ℕ) {m' : Machine} → standing_for sh w m r ≡ some y
       → m' ≡ record { x = 0; mode = 4; y = y; level = i; mark = m.mark; place = m.place; fuel = m.fuel; mask = m.mask }
       → Node sh w i m r m' w

@@ -21,9 +21,8 @@ use Rattle.meaning.specs.Steps.{advance, onto, settle, enter, one}
 use Rattle.meaning.specs.Store.{on, rest}
 use Rattle.meaning.specs.Shared.{store_by}
 use Rattle.turns.specs.declared.turn.Turn.{Turn}
-use Rattle.turns.specs.declared.turn.Act.{Act}
-use Rattle.turns.specs.declared.turn.Act.TheVariants.{Done, Failed, Missed, Stuck, Bound, Leaf, Made, Ask, Next as Goes, Unscope}
-use Rattle.turns.specs.Ways.{held_at, Frame, way, ways, way_of, visit_of, opened, acts, plan_of, looked, saves}
+use Rattle.turns.specs.declared.turn.Turn.TheVariants.{Done, Failed, Missed, Stuck, Bound, Leaf, Made, Ask, Next as Goes, Unscope}
+use Rattle.turns.specs.Ways.{held_at, Frame, way, ways, way_of, visit_of, asked_of, opened, plan_of, looked, saves}
 use Rattle.turns.specs.Ways.{FairVisit, Ready}
 use Rattle.turns.specs.Turns.{Resumes, Recovers, Walks}
 use Rattle.machine.specs.declared.Machine.{Machine}
@@ -54,18 +53,18 @@ entered sh t w m p zero u f fs h = absurd (h refl)
 entered sh t w m p (suc n) u f fs h = let a : suc n - 1 ≡ n = omega arith in rw a refl
 
 -- a turn looks at nothing first
-acts-looked : (t w : List ℕ) (a : Act) (r : Turn) (f g : Frame) (b c : Bindings ℕ) → looked w (acts t a r f g b c) ≡ acts t a r f g b c
-unfolding looked acts
-acts-looked t w Done r f g b c = refl
-acts-looked t w Failed r f g b c = refl
-acts-looked t w Missed r f g b c = refl
-acts-looked t w Stuck r f g b c = refl
-acts-looked t w Bound r f g b c = refl
-acts-looked t w Leaf r f g b c = refl
-acts-looked t w Made r f g b c = refl
-acts-looked t w Ask r f g b c = refl
-acts-looked t w Goes r f g b c = refl
-acts-looked t w Unscope r f g b c = refl
+plan-looked : (t w : List ℕ) (r : Turn) (f g : Frame) (b c : Bindings ℕ) → looked w (plan_of t r f g b c) ≡ plan_of t r f g b c
+unfolding looked plan_of
+plan-looked t w (Done y) f g b c = refl
+plan-looked t w Failed f g b c = refl
+plan-looked t w (Missed p) f g b c = refl
+plan-looked t w (Stuck v) f g b c = refl
+plan-looked t w (Bound v y) f g b c = refl
+plan-looked t w (Leaf a) f g b c = refl
+plan-looked t w Made f g b c = refl
+plan-looked t w (Ask a) f g b c = refl
+plan-looked t w (Goes a) f g b c = refl
+plan-looked t w (Unscope y m) f g b c = refl
 
 -- which frames put the mark back on success
 keeps-is : (t : List ℕ) (k x y i : ℕ) (r o : List ℕ) (b : Bindings ℕ)
@@ -129,19 +128,19 @@ no-state t (suc (suc (suc (suc (suc (suc (suc (suc (suc (suc (suc (suc (suc (suc
 no-state t (suc (suc (suc (suc (suc (suc (suc (suc (suc (suc (suc (suc (suc (suc (suc (suc (suc k))))))))))))))))) x y i r o b h = refl
 
 -- the bindings that a frame keeps are of account only where a scope ends
-kept-apart : (t : List ℕ) (a : Act) (r : Turn) (f g : Frame) (b b' c : Bindings ℕ) → gives (acts t a r f g b c) ≡ 0
-    → acts t a r f g b' c ≡ acts t a r f g b c
-unfolding acts gives
-kept-apart t Done r f g b b' c h = refl
-kept-apart t Failed r f g b b' c h = refl
-kept-apart t Missed r f g b b' c h = refl
-kept-apart t Stuck r f g b b' c h = refl
-kept-apart t Bound r f g b b' c h = refl
-kept-apart t Leaf r f g b b' c h = refl
-kept-apart t Made r f g b b' c h = refl
-kept-apart t Ask r f g b b' c h = refl
-kept-apart t Goes r f g b b' c h = refl
-kept-apart t Unscope r f g b b' c h = absurd (omega arith)
+kept-apart : (t : List ℕ) (r : Turn) (f g : Frame) (b b' c : Bindings ℕ) → gives (plan_of t r f g b c) ≡ 0
+    → plan_of t r f g b' c ≡ plan_of t r f g b c
+unfolding plan_of gives
+kept-apart t (Done y) f g b b' c h = refl
+kept-apart t Failed f g b b' c h = refl
+kept-apart t (Missed p) f g b b' c h = refl
+kept-apart t (Stuck v) f g b b' c h = refl
+kept-apart t (Bound v y) f g b b' c h = refl
+kept-apart t (Leaf a) f g b b' c h = refl
+kept-apart t Made f g b b' c h = refl
+kept-apart t (Ask a) f g b b' c h = refl
+kept-apart t (Goes a) f g b b' c h = refl
+kept-apart t (Unscope y m) f g b b' c h = absurd (omega arith)
 
 -- what the first frame visits, and what the others do
 first-is : {es : List What} (f : Open) (fs : List Open) → whats_of (f ∷ fs) ≡ es → what f.visit ≡ first_of es
@@ -219,7 +218,7 @@ module _ (k k₁ : List ℕ) (i : ℕ) (m : Machine) (b : Kept) (few : i < 4095)
 
   module _ (t w : List ℕ) (a : Turn) (q : Taken t w k₁ (10 * i) after a) where
     abbrev G : Frame
-    G = opened t w m.x m.y a
+    G = opened t w m.x m.y (asked_of a)
 
     plan-yes : m.mode ≡ 4 → plan_of t a (frame_at k₁ (10 * i)) G (kept_by k₁ after i) (present k₁ after) ≡ (way_of t (frame_at k (10 * i))
         (kept_at k (10 * i))).yes m.y (present k m)
@@ -276,7 +275,7 @@ module _ (k k₁ : List ℕ) (i : ℕ) (m : Machine) (b : Kept) (few : i < 4095)
         go true h = r G (kept_at k (10 * i)) refl
         go false h =
             let z = r G (present k m) refl in
-            kept-apart t a.act a (frame_at k (10 * i)) G (present k m) (kept_at k (10 * i)) (present k m)
+            kept-apart t a (frame_at k (10 * i)) G (present k m) (kept_at k (10 * i)) (present k m)
             (ap gives z ∙ no-state t (word_at k (10 * i) 0) _ _ _ _ _ (present k m) h)
             ∙ z ∙ ap (λ w. w.no) (same_way t (word_at k (10 * i) 0) _ _ _ _ _ _ _ (present k m) (kept_at k (10 * i))
             (λ y. absurd (true≢false (sym y ∙ h))) (λ _. refl) (λ _. refl))
@@ -300,7 +299,7 @@ module _ (k k₁ : List ℕ) (i : ℕ) (m : Machine) (b : Kept) (few : i < 4095)
           (f.yes m.y (present k m)) z m.fuel)
           (settled_is sh t w k i f s.0 l m.mark (m.place, finished (what f.visit) true ∷ log)
           ∙ (λ z. on w (sym (o.yes e).0 z) (m.place, finished (first-is f fs ws z) true ∷ log))))
-          (sym (acts-looked t w a.act a _ _ _ _)
+          (sym (plan-looked t w a _ _ _ _)
           ∙ ap (looked w) (plan-yes e ∙ sym (ap (λ w. w.yes m.y (present k m)) (the-way sh t w k i f s.0 l))))
 
       told-no : m.mode ≡ 5 → (es : List What) (log : List Event) (X : Run) (fs : List Open) → whats_of fs ≡ es
@@ -314,7 +313,7 @@ module _ (k k₁ : List ℕ) (i : ℕ) (m : Machine) (b : Kept) (few : i < 4095)
           (stable t k k₁ i below (suc i) fs (omega arith) s.1) s.0.left
           (x ∙ (λ z. advance (store_by sh history) (does (table t)) (settle (store_by sh history) (does (table t)) fs) f.left fs f.no
           (on w ((the-mark sh t w k i f s.0 l ∙ sym (o.no e).0) z) (m.place, finished (first-is f fs ws z) false ∷ log)) m.fuel))
-          (sym (acts-looked t w a.act a _ _ _ _) ∙ ap (looked w) (plan-no e ∙ sym (ap (λ w. w.no) (the-way sh t w k i f s.0 l))))
+          (sym (plan-looked t w a _ _ _ _) ∙ ap (looked w) (plan-no e ∙ sym (ap (λ w. w.no) (the-way sh t w k i f s.0 l))))
 
 -- a turn of the visit after i others, all in all
 module _ (sh : Bool) (t w k k₁ : List ℕ) (i : ℕ) (m : Machine) (b : Kept) (few : i < 4096) (ends : 3 < m.mode

@@ -1,5 +1,5 @@
 -- What the machine's functions promise. Frame i is at row 10 i.
-use Rattle.std.specs.Prelude.{◌≡◌, Bool, true, false, ◌⊎◌, List, ◌∷◌, ℕ, suc, ◌+◌, ◌-◌, ◌*◌, ◌<◌, ◌≤◌, ◌%◌, eqb, ltb, length, get_or, set, if◌then◌else◌}
+use Rattle.std.specs.Prelude.{◌≡◌, Bool, true, false, ◌⊎◌, List, [], ◌∷◌, ℕ, suc, ◌+◌, ◌-◌, ◌*◌, ◌/◌, ◌<◌, ◌≤◌, ◌%◌, eqb, ltb, length, get_or, set, if◌then◌else◌}
 use Rattle.std.proofs.Math.Option.{Option, none, some}
 use Rattle.words.specs.Words.{word_at, rows, put_row}
 use Rattle.meaning.specs.Bindings.{Bindings, has}
@@ -9,7 +9,7 @@ use Rattle.meaning.specs.Derivation.{What, what, Event, began, ended, history}
 use Rattle.meaning.specs.Steps.{advance, settle, one, steps}
 use Rattle.meaning.specs.Store.{on, row}
 use Rattle.meaning.specs.Shared.{standing, store_by}
-use Rattle.turns.specs.Ways.{record_from, held_at, kids, Frame, way_of, visit_of, opened, plan_of, looked, saves, Ready}
+use Rattle.turns.specs.Ways.{record_from, held_at, kids, Frame, way_of, visit_of, asked_of, opened, plan_of, looked, saves, Ready}
 use Rattle.turns.specs.Turns.{Begins, Resumes, Recovers, Walks}
 use Rattle.turns.specs.declared.turn.Turn.{Turn}
 use Rattle.machine.specs.declared.Machine.{Machine}
@@ -32,6 +32,10 @@ pub record Copied (k : List ℕ) (a b m : ℕ) (k' : List ℕ) : Type 0 where
   pub long : length k' ≡ length k
   pub word : (v : ℕ) → v < 64 → get_or k' (b + v) 0 ≡ (if has m v then get_or k (a + v) 0 else get_or k (b + v) 0)
   pub other : (j : ℕ) → (j < b) ⊎ (b + 64 ≤ j) → get_or k' j 0 ≡ get_or k j 0
+
+-- the head of a frame
+abbrev pub head_of : (what x y i mark m : ℕ) → List ℕ
+head_of what x y i mark m = what ∷ x ∷ y ∷ i ∷ mark ∷ m % 4294967296 ∷ m / 4294967296 ∷ 0 ∷ []
 
 -- the frame from row r on, which waits as `what` says, keeps the bindings of the mask m, or nothing changes
 pub record Keeps (k : List ℕ) (r what m : ℕ) (k' : List ℕ) : Type 0 where
@@ -104,7 +108,7 @@ pub record Carried (sh : Bool) (t w k : List ℕ) (i : ℕ) (m : Machine) (r : T
       → n + suc i ≡ 4096
       → X ≡ advance (store_by sh history) (does (table t)) (settle (store_by sh history) (does (table t)) fs) n fs p
       (on w m.mark (m.place, log)) m.fuel
-      → plan_of t r (frame_at k (10 * i)) (opened t w m.x m.y r) (kept_by k m i) (present k m) ≡ looked w p
+      → plan_of t r (frame_at k (10 * i)) (opened t w m.x m.y (asked_of r)) (kept_by k m i) (present k m) ≡ looked w p
       → Stands sh t m' w' k' es log X
 
 -- what the frame from row r on gets back before it goes on: after a failure its mark, and the bindings where it keeps them; so does TEST
@@ -183,6 +187,16 @@ spent m = record {
   fuel = m.fuel - 1;
   mask = m.mask;
 }
+
+-- a visit is counted, or an end is told; the machine and the visit then
+pub data Comes (m : Machine) (stop : ℕ) : Machine → ℕ → Type 0 where
+  counted : m.mode < 4 → (m.fuel ≡ stop → ⊥) → m.level < 4096 → Comes m stop (spent m) m.level
+  told : 3 < m.mode → m.mode < 6 → (m.level ≡ 0 → ⊥) → Comes m stop m (m.level - 1)
+
+-- a limit or the end comes first
+pub record Halts (m : Machine) (stop : ℕ) : Type 0 where
+  pub asking : m.mode < 4 → (m.fuel ≡ stop) ⊎ (4096 ≤ m.level)
+  pub ended : 3 < m.mode → m.mode < 6 → m.level ≡ 0
 
 -- one turn alone: a visit that no limit cuts off begins, or an end is told to a frame
 pub record Once (sh : Bool) (t w k : List ℕ) (m : Machine) (stop : ℕ) (m' : Machine) (w' k' : List ℕ) : Type 0 where

@@ -1,16 +1,16 @@
 // The frames in the list: ten rows of eight words each. Row 0: what, x, y, at, mark, and the mask of the bindings that the frame keeps, in
 // two words; row 1: its node's row; from row 2 on the words of those bindings, or, of a pair, the other row.
 ghost use Rattle.std.specs.Prelude.{◌≡◌, Bool, ◌⊎◌, List, ℕ, ◌+◌, ◌*◌, ◌%◌, ◌≤◌, ◌<◌, min, length, get_or};
-ghost use Rattle.words.specs.Words.{word_at};
+ghost use Rattle.words.specs.Words.{word_at, put_row};
 ghost use Rattle.turns.specs.Ways.{record_from, held_at, opened, next_of, saves as savesAt};
 ghost use Rattle.machine.specs.Stack.{row_at, frame_at, mask_at, present};
-ghost use Rattle.machine.specs.Machine.{Lent, Copied, Keeps, GivenBack, Fills, Opened, Restored, Taken};
+ghost use Rattle.machine.specs.Machine.{head_of, Lent, Copied, Keeps, GivenBack, Fills, Opened, Restored, Taken};
 
 use crate::nodes::row_at;
 use crate::{Machine, SUCCEEDED};
 use turns::begin::begin;
 use turns::resume::{Head, Seen, failed, skipped, succeeded, walked};
-use turns::turn::{LEFTMOST, MAKING, PAIRS, RECORD, STEP, TRIED, Turn, few};
+use turns::turn::{Asked, LEFTMOST, MAKING, PAIRS, RECORD, STEP, TRIED, Turn, few};
 use words::{put_row, word};
 
 // What a frame gets back before it goes on.
@@ -24,10 +24,7 @@ pub struct Kept {
 fn saves(what: u32) -> bool
     ensures { result ≡ savesAt what }
 {
-    if what < TRIED {
-        return false;
-    }
-    what < STEP
+    TRIED <= what && what < STEP
 }
 
 // The words of the variables of the mask, from one place of the list to another. It ends with the last of them.
@@ -63,65 +60,19 @@ pub(crate) fn kept_mask(work: &[u32], r: u32) -> u64
     word(work, r, 5) as u64 + word(work, r, 6) as u64 * 4294967296
 }
 
-// The frame of the visit m, which waits: from row r on.
-pub(crate) fn open(table: &[u32], store: &[u32], work: &mut [u32], r: u32, m: Machine, t: Turn)
-    requires { (r + 10 ≤ 40950) × Lent store.now work.old }
-    ensures { Opened work.old r (opened table.now store.now m.x m.y t) (present work.old m) m.mark work.new }
-{
-    put_row(
-        work,
-        r,
-        [
-            t.what,
-            m.x,
-            m.y,
-            t.at,
-            m.mark,
-            (m.mask % 4294967296) as u32,
-            (m.mask / 4294967296) as u32,
-            0,
-        ],
-    );
-    keep_bindings(work, r, t.what, m.mask);
-    if t.what < LEFTMOST {
-        return;
-    }
-    if t.what == MAKING {
-        put_row(
-            work,
-            r + 1,
-            [
-                word(table, m.x, 1),
-                word(table, m.x, 0) % 16,
-                0,
-                0,
-                0,
-                0,
-                0,
-                0,
-            ],
-        );
-        return;
-    }
-    put_row(work, r + 1, row_at(store, m.y));
-    if t.what == PAIRS {
-        put_row(work, r + 2, row_at(store, m.x));
-    }
-}
-
-// The frame from row r on goes on to its next child.
-pub(crate) fn move_on(work: &mut [u32], r: u32, m: Machine, what: u32)
+// The first row of the frame from row r on, with the present mark; and the bindings that it keeps.
+fn put_head(work: &mut [u32], r: u32, m: Machine, what: u32, x: u32, y: u32, at: u32)
     requires { (r + 10 ≤ 40950) × (327680 ≤ length work.old) }
-    ensures { (t : Turn) → t.what ≡ what → Opened work.old r (next_of (frame_at work.old r) t) (present work.old m) m.mark work.new }
+    ensures { Keeps (put_row work.old r (head_of what x y at m.mark m.mask)) r what m.mask work.new }
 {
     put_row(
         work,
         r,
         [
             what,
-            word(work, r, 1),
-            word(work, r, 2),
-            word(work, r, 3) % 8 + 1,
+            x,
+            y,
+            at,
             m.mark,
             (m.mask % 4294967296) as u32,
             (m.mask / 4294967296) as u32,
@@ -129,6 +80,37 @@ pub(crate) fn move_on(work: &mut [u32], r: u32, m: Machine, what: u32)
         ],
     );
     keep_bindings(work, r, what, m.mask);
+}
+
+// The frame of the visit m, which waits: from row r on.
+pub(crate) fn open(table: &[u32], store: &[u32], work: &mut [u32], r: u32, m: Machine, a: Asked)
+    requires { (r + 10 ≤ 40950) × Lent store.now work.old }
+    ensures { Opened work.old r (opened table.now store.now m.x m.y a) (present work.old m) m.mark work.new }
+{
+    put_head(work, r, m, a.what, m.x, m.y, a.at);
+    if a.what < LEFTMOST {
+        return;
+    }
+    if a.what == MAKING {
+        let count = word(table, m.x, 0) % 16;
+        put_row(work, r + 1, [word(table, m.x, 1), count, 0, 0, 0, 0, 0, 0]);
+        return;
+    }
+    put_row(work, r + 1, row_at(store, m.y));
+    if a.what == PAIRS {
+        put_row(work, r + 2, row_at(store, m.x));
+    }
+}
+
+// The frame from row r on goes on to its next child.
+pub(crate) fn move_on(work: &mut [u32], r: u32, m: Machine, what: u32)
+    requires { (r + 10 ≤ 40950) × (327680 ≤ length work.old) }
+    ensures { (a : Asked) → a.what ≡ what → Opened work.old r (next_of (frame_at work.old r) a) (present work.old m) m.mark work.new }
+{
+    let x = word(work, r, 1);
+    let y = word(work, r, 2);
+    let at = word(work, r, 3) % 8 + 1;
+    put_head(work, r, m, what, x, y, at);
 }
 
 // The bindings that the frame from row r on keeps are the present ones again; with its mark.
@@ -158,11 +140,12 @@ pub(crate) fn restore(work: &mut [u32], r: u32, m: Machine) -> Kept
     requires { (3 < m.mode → r + 10 ≤ 40950) × (327680 ≤ length work.old) }
     ensures { Restored work.old r m result work.new }
 {
+    let present = Kept {
+        mark: m.mark,
+        mask: m.mask,
+    };
     if m.mode < SUCCEEDED {
-        return Kept {
-            mark: m.mark,
-            mask: m.mask,
-        };
+        return present;
     }
     let what = word(work, r, 0);
     if m.mode == SUCCEEDED {
@@ -172,17 +155,14 @@ pub(crate) fn restore(work: &mut [u32], r: u32, m: Machine) -> Kept
         if LEFTMOST <= what {
             fill(work, r, m.y);
         }
-        return Kept {
-            mark: m.mark,
-            mask: m.mask,
-        };
+        return present;
     }
     if saves(what) {
         return give_back(work, r);
     }
     Kept {
         mark: word(work, r, 4),
-        mask: m.mask,
+        ..present
     }
 }
 

@@ -2,18 +2,21 @@
 // what a visit does next is a turn of the crate turns.
 #![tactic(auto)]
 
-ghost use Rattle.std.specs.Prelude.{◌≡◌, false, ℕ, ◌+◌, ◌*◌, ◌<◌, ◌≤◌};
-ghost use Rattle.machine.specs.Machine.{Lent, Carried, Turned, Gone};
+ghost use Rattle.std.specs.Prelude.{◌≡◌, ℕ, ◌+◌, ◌-◌, ◌*◌, ◌%◌, ◌<◌, ◌≤◌, MatchOption};
+ghost use Rattle.std.specs.Int.Bits.{bit_and};
+ghost use Rattle.machine.specs.Machine.{Lent, Carried, Halts, Comes, Turned, Gone};
 
 use crate::frames::{copy_words, kept_mask, move_on, open, restore, take_turn};
-use crate::nodes::{put_node, row_inside, standing_leaf, standing_row};
-use turns::turn::{Act, RECORD, Turn};
+use crate::nodes::{put_node, row_at};
+use turns::turn::{Asked, RECORD, Turn};
 
 mod frames;
 mod nodes;
 
 // The modes beside those of a visit that is asked for: a visit has succeeded, failed; there is no room; a variable to be built has no
 // binding.
+// As it is: a mode stands in the lent work list, of which a caller may have written any word, and `StepsOn` of step_run, by `machine_in`, says
+// what each word is read as.
 pub const SUCCEEDED: u32 = 4;
 
 pub const FAILED: u32 = 5;
@@ -21,6 +24,9 @@ pub const FAILED: u32 = 5;
 pub const FULL: u32 = 6;
 
 pub const STUCK: u32 = 7;
+
+// The level of the deepest visit, which opens no frame.
+const DEEPEST: u32 = 4095;
 
 // The machine between two turns: what is asked for or has ended, how many visits are in flight, the mark, where the last match gave up,
 // the units left, and the mask of the variables that are bound.
@@ -45,10 +51,18 @@ fn state(m: Machine, level: u32, mode: u32, x: u32, y: u32) -> Machine
         mode,
         y,
         level,
-        mark: m.mark,
-        place: m.place,
-        fuel: m.fuel,
-        mask: m.mask,
+        ..m
+    }
+}
+
+// The machine after i others asks for a visit, one deeper.
+fn asking(m: Machine, i: u32, a: Asked) -> Machine
+    requires { i < 4096 }
+    ensures { result ≡ record { x = a.x; mode = a.mode % 4; y = a.y; level = i + 1; mark = m.mark; place = m.place; fuel = m.fuel; mask = bit_and m.mask (18446744073709551615 - a.mask) } }
+{
+    Machine {
+        mask: m.mask & (18446744073709551615 - a.mask),
+        ..state(m, i + 1, a.mode % 4, a.x, a.y)
     }
 }
 
@@ -65,99 +79,47 @@ fn act(
     requires { (i < 4096) × Lent store.old work.old }
     ensures { Carried shares table.now store.old work.old i m t result store.new work.new }
 {
-    let a = t.act;
-    match a {
-        Act::Done => state(m, i, SUCCEEDED, 0, t.y),
-        Act::Failed => state(m, i, FAILED, 0, 0),
-        Act::Missed => Machine {
-            x: 0,
-            mode: FAILED,
-            y: 0,
-            level: i,
-            mark: m.mark,
-            place: t.x,
-            fuel: m.fuel,
-            mask: m.mask,
+    match t {
+        Turn::Done(y) => state(m, i, SUCCEEDED, 0, y),
+        Turn::Failed => state(m, i, FAILED, 0, 0),
+        Turn::Missed(place) => Machine {
+            place,
+            ..state(m, i, FAILED, 0, 0)
         },
-        Act::Stuck => state(m, i, STUCK, t.x, 0),
-        Act::Bound => {
-            let v = t.x % 64;
-            work[RECORD + (v as usize)] = t.y;
+        Turn::Stuck(v) => state(m, i, STUCK, v, 0),
+        Turn::Bound { variable, node } => {
+            let v = variable % 64;
+            work[RECORD + (v as usize)] = node;
             Machine {
-                x: 0,
-                mode: SUCCEEDED,
-                y: t.y,
-                level: i,
-                mark: m.mark,
-                place: m.place,
-                fuel: m.fuel,
                 mask: m.mask | (1 << v),
+                ..state(m, i, SUCCEEDED, 0, node)
             }
         }
-        Act::Leaf => {
-            if shares {
-                let found = standing_leaf(store, m.mark, t.x);
-                if let Some(y) = found {
-                    return state(m, i, SUCCEEDED, 0, y);
-                }
+        Turn::Leaf(c) => put_node(store, m, i, [c, 0, 0, 0, 0, 0, 0, 0], shares),
+        Turn::Made => put_node(store, m, i, row_at(work, 10 * i + 1), shares),
+        Turn::Ask(a) => {
+            if i < DEEPEST {
+                open(table, store, work, 10 * i, m, a);
             }
-            put_node(store, m, i, [t.x, 0, 0, 0, 0, 0, 0, 0])
+            asking(m, i, a)
         }
-        Act::Made => {
-            if shares {
-                let found = standing_row(store, work, 10 * i + 1, m.mark);
-                if let Some(y) = found {
-                    return state(m, i, SUCCEEDED, 0, y);
-                }
+        Turn::Next(a) => {
+            if i < DEEPEST {
+                move_on(work, 10 * i, m, a.what);
             }
-            put_node(store, m, i, row_inside(work, 10 * i + 1))
+            asking(m, i, a)
         }
-        Act::Ask => {
-            if i < 4095 {
-                open(table, store, work, 10 * i, m, t);
+        Turn::Unscope { node, mask } => {
+            let outer = state(m, i, SUCCEEDED, 0, node);
+            if DEEPEST <= i {
+                return outer;
             }
+            let kept = kept_mask(work, 10 * i) & mask;
+            copy_words(work, RECORD, 8 * (10 * (i as usize) + 2), kept);
             Machine {
-                x: t.x,
-                mode: t.mode % 4,
-                y: t.y,
-                level: i + 1,
-                mark: m.mark,
-                place: m.place,
-                fuel: m.fuel,
-                mask: m.mask & (18446744073709551615 - t.mask),
+                mask: (m.mask & (18446744073709551615 - mask)) | kept,
+                ..outer
             }
-        }
-        Act::Next => {
-            if i < 4095 {
-                move_on(work, 10 * i, m, t.what);
-            }
-            Machine {
-                x: t.x,
-                mode: t.mode % 4,
-                y: t.y,
-                level: i + 1,
-                mark: m.mark,
-                place: m.place,
-                fuel: m.fuel,
-                mask: m.mask & (18446744073709551615 - t.mask),
-            }
-        }
-        Act::Unscope => {
-            if i < 4095 {
-                let kept = kept_mask(work, 10 * i) & t.mask;
-                copy_words(work, RECORD, 8 * (10 * (i as usize) + 2), kept);
-                return Machine {
-                    x: 0,
-                    mode: SUCCEEDED,
-                    y: t.y,
-                    level: i,
-                    mark: m.mark,
-                    place: m.place,
-                    fuel: m.fuel,
-                    mask: (m.mask & (18446744073709551615 - t.mask)) | kept,
-                };
-            }
-            state(m, i, SUCCEEDED, 0, t.y)
         }
     }
 }
@@ -176,17 +138,35 @@ fn turned(
 {
     let k = restore(work, 10 * i, m);
     let r = Machine {
-        x: m.x,
-        mode: m.mode,
-        y: m.y,
-        level: m.level,
         mark: k.mark,
-        place: m.place,
-        fuel: m.fuel,
         mask: k.mask,
+        ..m
     };
     let t = take_turn(table, store, work, 10 * i, r);
     act(table, store, work, i, r, t, shares)
+}
+
+// The machine with a unit less where a visit begins, and the visit that has the next turn, by how many others are in flight below it; or
+// the machine stops.
+fn next_turn(m: Machine, stop: u32) -> Option<(Machine, u32)>
+    requires { stop ≤ m.fuel }
+    ensures { MatchOption result (Halts m stop) (λ p. Comes m stop p.0 p.1) }
+{
+    if m.mode < SUCCEEDED {
+        if m.fuel == stop || DEEPEST < m.level {
+            return None;
+        }
+        let next = Machine {
+            fuel: m.fuel - 1,
+            ..m
+        };
+        Some((next, m.level))
+    } else {
+        if FAILED < m.mode || m.level == 0 {
+            return None;
+        }
+        Some((m, m.level - 1))
+    }
 }
 
 // Visits until `stop` units are left, and what follows them up to the next one's limit test; or to the end of the run; or one turn alone.
@@ -203,28 +183,11 @@ pub fn go(
     ensures { Gone once shares table.now store.old work.old a stop result store.new work.new }
 {
     let mut m = a;
-    loop {
-        let mut i = m.level;
-        if m.mode < 4 {
-            if m.fuel == stop {
-                return m;
-            }
-            if 4095 < m.level {
-                return m;
-            }
-            m.fuel -= 1;
-        } else {
-            if 5 < m.mode {
-                return m;
-            }
-            if m.level == 0 {
-                return m;
-            }
-            i = m.level - 1;
-        }
-        m = turned(table, store, work, m, i, shares);
+    while let Some((next, i)) = next_turn(m, stop) {
+        m = turned(table, store, work, next, i, shares);
         if once {
             return m;
         }
     }
+    m
 }

@@ -1,44 +1,30 @@
 // Rows of eight words, and the node that a visit makes.
-ghost use Rattle.std.specs.Prelude.{◌≡◌, ℕ, ◌+◌, ◌*◌, ◌%◌, ◌≤◌, ◌<◌, length, get_or, false, []};
+ghost use Rattle.std.specs.Prelude.{◌≡◌, ℕ, ◌+◌, ◌*◌, ◌%◌, ◌≤◌, ◌<◌, length, get_or};
 ghost use Rattle.checks.specs.Checked.{place_of};
 ghost use Rattle.meaning.specs.Store.{row as node_row};
-ghost use Rattle.words.specs.Words.{word_at};
-ghost use Rattle.meaning.specs.Shared.{node_with};
+ghost use Rattle.meaning.specs.Shared.{standing};
 ghost use Rattle.turns.specs.Ways.{kids};
 ghost use Rattle.machine.specs.Stack.{row_at};
 ghost use Rattle.machine.specs.Machine.{child_or0, Node};
 
-use crate::{FULL, Machine, SUCCEEDED};
+use crate::{FULL, Machine, SUCCEEDED, state};
 use index::chains::has;
 use turns::turn::few;
-use words::put_row;
+use words::{put_row, word};
 
 // The eight words of row r; zeros outside the words.
 pub(crate) fn row_at(words: &[u32], r: u32) -> [u32; 8]
-    requires { length words.now % 8 ≡ 0 }
     ensures { result ≡ row_at words.now r }
 {
-    if 8 * (r as usize) < words.len() {
-        return row_inside(words, r);
-    }
-    [0; 8]
-}
-
-// The eight words of row r, which lies inside the words.
-pub(crate) fn row_inside(words: &[u32], r: u32) -> [u32; 8]
-    requires { 8 * r + 8 ≤ length words.now }
-    ensures { result ≡ row_at words.now r }
-{
-    let c = 8 * (r as usize);
     [
-        words[c],
-        words[c + 1],
-        words[c + 2],
-        words[c + 3],
-        words[c + 4],
-        words[c + 5],
-        words[c + 6],
-        words[c + 7],
+        word(words, r, 0),
+        word(words, r, 1),
+        word(words, r, 2),
+        word(words, r, 3),
+        word(words, r, 4),
+        word(words, r, 5),
+        word(words, r, 6),
+        word(words, r, 7),
     ]
 }
 
@@ -67,62 +53,42 @@ fn padded(row: [u32; 8]) -> [u32; 8]
     ]
 }
 
-// The node below the mark that has these words.
-fn standing(store: &[u32], mark: u32, row: [u32; 8]) -> Option<u32>
-    ensures { place_of result ≡ node_with store.now row mark }
+// The node below the mark that has these words, where nodes are shared.
+fn standing(store: &[u32], mark: u32, row: [u32; 8], shares: bool) -> Option<u32>
+    ensures { place_of result ≡ standing shares store.now row mark }
 {
-    let mut k = mark;
-    while 0 < k {
-        k -= 1;
-        if has(store, k, row) {
-            return Some(k);
+    if shares {
+        for k in (0..mark).rev() {
+            if has(store, k, row) {
+                return Some(k);
+            }
         }
     }
     None
 }
 
-// The node of the constructor c without children, where it stands. What is asked for is told by numbers: a row would be in memory.
-pub(crate) fn standing_leaf(store: &[u32], mark: u32, c: u32) -> Option<u32>
-    ensures { place_of result ≡ node_with store.now (node_row c []) mark }
-{
-    standing(store, mark, padded([c, 0, 0, 0, 0, 0, 0, 0]))
-}
-
-// The node of row r of the list of frames, where it stands.
-pub(crate) fn standing_row(store: &[u32], work: &[u32], r: u32, mark: u32) -> Option<u32>
-    requires { 8 * r + 8 ≤ length work.now }
-    ensures { place_of result ≡ node_with store.now (node_row (word_at work.now r 0) (kids (row_at work.now r))) mark }
-{
-    standing(store, mark, padded(row_inside(work, r)))
-}
-
-// The node of a row at the mark; no room where the mark equals the store's nodes.
-pub(crate) fn put_node(store: &mut [u32], m: Machine, i: u32, row: [u32; 8]) -> Machine
+// The node of a row: one that stands, where nodes are shared, or a new one at the mark; no room where the mark equals the store's nodes.
+pub(crate) fn put_node(
+    store: &mut [u32],
+    m: Machine,
+    i: u32,
+    row: [u32; 8],
+    shares: bool,
+) -> Machine
     requires { (length store.old % 8 ≡ 0) × (length store.old ≤ 1048576) }
-    ensures { Node false store.old i m row result store.new }
+    ensures { Node shares store.old i m row result store.new }
 {
     let k = m.mark;
-    if store.len() < 8 * (k as usize) + 8 {
-        return Machine {
-            x: 0,
-            mode: FULL,
-            y: 0,
-            level: i,
-            mark: m.mark,
-            place: m.place,
-            fuel: m.fuel,
-            mask: m.mask,
-        };
+    let words = padded(row);
+    if let Some(y) = standing(store, k, words, shares) {
+        return state(m, i, SUCCEEDED, 0, y);
     }
-    put_row(store, k, padded(row));
+    if store.len() < 8 * (k as usize) + 8 {
+        return state(m, i, FULL, 0, 0);
+    }
+    put_row(store, k, words);
     Machine {
-        x: 0,
-        mode: SUCCEEDED,
-        y: k,
-        level: i,
         mark: k + 1,
-        place: m.place,
-        fuel: m.fuel,
-        mask: m.mask,
+        ..state(m, i, SUCCEEDED, 0, k)
     }
 }

@@ -1,15 +1,16 @@
 -- A visit begins: its kind picks its rule.
-use mathlib.Core.Path.{◌≡◌, refl, ap, sym, ◌∙◌}
+use mathlib.Core.Path.{◌≡◌, refl, ap, sym, ◌∙◌, subst}
 use mathlib.Core.Bool.{Bool, true, false, ◌&&◌}
-use mathlib.Core.Logic.{◌⊎◌, inl, inr}
+use mathlib.Core.Logic.{◌⊎◌, inl, inr, ⊎_elim}
 use mathlib.Core.Option.{none, some}
 use mathlib.Core.List.{List, [], ◌∷◌, ◌++◌, map}
-use Prim.Native.Nat.{ℕ, zero, suc, ◌+◌, ◌-◌, ◌≤◌, ◌<◌, ◌%◌, min}
+use Prim.Native.Nat.{ℕ, zero, suc, ◌+◌, ◌-◌, ◌≤◌, ◌<◌, ◌/◌, ◌%◌, min}
 use native.Mathlib.Omega.{arith}
 use borrow.Author.Tests.{eqb-true, eq-eqb, ne_eqb, lt-ltb}
 use lib.Dec.{eqb, ltb}
 use lib.ListN.{length, get_or, take, drop, set, length-take, get_or-eq_default}
 use lib.Seq.{get_or-take}
+use Rattle.std.proofs.lemmas.Bool.{cases_eq}
 use Rattle.words.specs.Words.{word_at}
 use Rattle.std.specs.Prelude.{if◌then◌else◌}
 use Rattle.checks.specs.Kinds.{ours, variables}
@@ -21,13 +22,14 @@ use Rattle.meaning.specs.Rules.{Visit, Do, apply, match, build, compare, does, s
 use Rattle.meaning.specs.Rules.{when, when_at, agree, given, nth, put, walk, again, zip, one_of, some_of}
 use Rattle.meaning.specs.Store.{children}
 use Rattle.meaning.proofs.Bits.{bit_of, bit-has, no-bit-has, has-nothing}
-use Rattle.turns.specs.declared.turn.Act.TheVariants.{Done, Failed, Missed, Stuck, Bound, Leaf, Ask}
+use Rattle.turns.specs.declared.turn.Asked.{Asked}
 use Rattle.turns.specs.declared.turn.Turn.{Turn}
-use Rattle.turns.specs.Ways.{Frame, record_from, held_at, kids, row_to_build, within, makes, ways, way_of, visit_of, hiding, opened}
-use Rattle.turns.specs.Ways.{acts, plan_of, looked, Fit}
-use Rattle.turns.specs.Turns.{Begins}
+use Rattle.turns.specs.declared.turn.Turn.TheVariants.{Done, Failed, Missed, Stuck, Bound, Leaf, Ask}
+use Rattle.turns.specs.Ways.{Frame, record_from, held_at, kids, row_to_build, within, makes, ways, way_of, visit_of, hiding, asked_of, opened}
+use Rattle.turns.specs.Ways.{plan_of, looked, Fit}
+use Rattle.turns.specs.Turns.{Begins, Beside}
 use Rattle.turns.proofs.Rows.{six-at, zip-take, zip-map, map-zip, walk_from}
-use Rattle.turns.proofs.Resumed.{ending, asking-for}
+use Rattle.turns.proofs.Resumed.{asking-for}
 
 -- ---- a strategy begins
 
@@ -38,30 +40,30 @@ kinded t x k = get_or (by_kind (argument_of t x) (word_at t x 2) (word_at t x 3)
 module _ (t w : List ℕ) (x y : ℕ) (c : Bindings ℕ) (r : Turn) where
   -- the turn r begins the strategy of kind k with the plan p
   pub begins : (k : ℕ) (s : Turn) → kind_of t x ≡ k → r ≡ s
-      → ((f : Frame) (b : Bindings ℕ) → plan_of t s f (opened t w x y s) b c ≡ looked w (strategy (kinded t x k) y c))
+      → ((f : Frame) (b : Bindings ℕ) → plan_of t s f (opened t w x y (asked_of s)) b c ≡ looked w (strategy (kinded t x k) y c))
       → Begins t w x y (apply x y c) c r
   unfolding does table_by
   begins k s h e p f b =
-      ap (λ r. plan_of t r f (opened t w x y r) b c) e ∙ p f b ∙ ap (λ (k : ℕ). looked w (strategy (kinded t x k) y c)) (sym h)
+      ap (λ r. plan_of t r f (opened t w x y (asked_of r)) b c) e ∙ p f b ∙ ap (λ (k : ℕ). looked w (strategy (kinded t x k) y c)) (sym h)
 
   -- a kind that asks for a visit of its first operand, or of its pattern, at once
-  pub begins-asking : (k m what one : ℕ) → kind_of t x ≡ k → one ≡ word_at t x 2 → r ≡ asking-for Ask m what one y
+  pub begins-asking : (k m what one : ℕ) → kind_of t x ≡ k → one ≡ word_at t x 2 → r ≡ Ask (asking-for m what one y)
       → ((f : Frame) (b : Bindings ℕ)
-      → plan_of t (asking-for Ask m what (word_at t x 2) y) f (opened t w x y (asking-for Ask m what (word_at t x 2) y)) b c
+      → plan_of t (Ask (asking-for m what (word_at t x 2) y)) f (opened t w x y (asking-for m what (word_at t x 2) y)) b c
       ≡ looked w (strategy (kinded t x k) y c))
       → Begins t w x y (apply x y c) c r
-  begins-asking k m what one h o e p = begins k (asking-for Ask m what (word_at t x 2) y) h (e ∙ ap (λ (o : ℕ). asking-for Ask m what o y) o)
+  begins-asking k m what one h o e p = begins k (Ask (asking-for m what (word_at t x 2) y)) h (e ∙ ap (λ (o : ℕ). Ask (asking-for m what o y)) o)
       p
 
 fails-above : (a x y : ℕ) (xs : List ℕ) (m z : ℕ) (k : ℕ) → 18 ≤ k → get_or (by_kind a x y xs m z) k FAIL ≡ FAIL
 unfolding by_kind
 fails-above a x y xs m z k l = get_or-eq_default (by_kind a x y xs m z) FAIL {n = k} l
 
-pub begins-none : (t w : List ℕ) (x y : ℕ) (c : Bindings ℕ) (r : Turn) → 18 ≤ kind_of t x → r ≡ ending Failed 0 0
+pub begins-none : (t w : List ℕ) (x y : ℕ) (c : Bindings ℕ) (r : Turn) → 18 ≤ kind_of t x → r ≡ Failed
     → Begins t w x y (apply x y c) c r
-unfolding acts strategy looked
+unfolding plan_of strategy looked
 begins-none t w x y c r l e =
-    begins t w x y c r (kind_of t x) (ending Failed 0 0) refl e
+    begins t w x y c r (kind_of t x) Failed refl e
     (λ f b. sym (ap (λ s. looked w (strategy s y c)) (fails-above (argument_of t x) (word_at t x 2) (word_at t x 3) (operands t x)
     (mask_by ours t x) (word_at t x (1 + ours)) (kind_of t x) l)))
 
@@ -134,8 +136,8 @@ hiding-masks m c = go (eqb m 0) refl
     go false e = refl
 
 pub scope-begins : (t w : List ℕ) (x y m one : ℕ) (c : Bindings ℕ) (r : Turn) → kind_of t x ≡ 16 → one ≡ word_at t x 3 → m ≡ mask_by ours t x
-    → r ≡ record { act = Ask; mode = 0; what = 7; at = 0; x = one; y = y; mask = m } → Begins t w x y (apply x y c) c r
-unfolding acts way_of ways visit_of looked strategy by_kind
+    → r ≡ Ask (record { mode = 0; what = 7; at = 0; x = one; y = y; mask = m }) → Begins t w x y (apply x y c) c r
+unfolding plan_of way_of ways visit_of looked strategy by_kind
 scope-begins t w x y m one c r h o i e =
     begins t w x y c r 16 _ h e
     (λ f b. λ z. ask keep (apply (o z) y ((hiding-masks m c ∙ ap (λ (m : ℕ). masked m unbound c) i) z))
@@ -168,9 +170,9 @@ put-set (h ∷ hs) zero g = refl
 put-set (h ∷ hs) (suc i) g = ap (λ r. h ∷ r) (put-set hs i g)
 
 module _ (t w : List ℕ) (x y : ℕ) (c : Bindings ℕ) (r : Turn) (h : kind_of t x ≡ 9) where
-  pub path-nowhere : {i : ℕ} → i ≡ argument_of t x → (i ≡ 0) ⊎ (min (child_count w y) 6 < i) → r ≡ ending Failed 0 0
+  pub path-nowhere : {i : ℕ} → i ≡ argument_of t x → (i ≡ 0) ⊎ (min (child_count w y) 6 < i) → r ≡ Failed
       → Begins t w x y (apply x y c) c r
-  unfolding acts looked strategy by_kind given
+  unfolding plan_of looked strategy by_kind given
   path-nowhere {i} o m e =
       begins t w x y c r 9 _ h e
       (λ f b. sym (ap
@@ -185,8 +187,8 @@ module _ (t w : List ℕ) (x y : ℕ) (c : Bindings ℕ) (r : Turn) (h : kind_of
   -- the child at i
   pub path-asked : {i one g : ℕ} → i ≡ argument_of t x → (i ≡ 0 → ⊥) → i ≤ min (child_count w y) 6 → one ≡ word_at t x 2
       → g ≡ word_at w y (1 + i)
-      → r ≡ record { act = Ask; mode = 0; what = 11; at = i - 1; x = one; y = g; mask = 0 } → Begins t w x y (apply x y c) c r
-  unfolding acts way_of ways visit_of looked strategy by_kind given
+      → r ≡ Ask (record { mode = 0; what = 11; at = i - 1; x = one; y = g; mask = 0 }) → Begins t w x y (apply x y c) c r
+  unfolding plan_of way_of ways visit_of looked strategy by_kind given
   path-asked {i} {one} {g} o n m j q e =
       begins t w x y c r 9 _ h e
       (λ f b. (λ z. ask keep (apply (j z) (kid z) c)
@@ -265,14 +267,14 @@ of_others what k (inr (inr h)) n = inr h.1
 
 module _ (t w : List ℕ) (x y : ℕ) (c : Bindings ℕ) (r : Turn) where
   module _ (z : children w y ≡ []) where
-    pub all-of-none : kind_of t x ≡ 11 → r ≡ ending Done 0 y → Begins t w x y (apply x y c) c r
-    unfolding acts looked strategy by_kind walk again
+    pub all-of-none : kind_of t x ≡ 11 → r ≡ Done y → Begins t w x y (apply x y c) c r
+    unfolding plan_of looked strategy by_kind walk again
     all-of-none h e =
         begins t w x y c r 11 _ h e
         (λ f b. sym (ap (λ ks. looked w (walk (map (apply (word_at t x 2)) ks) [] c (again y (constructor_of w y)))) z))
 
-    pub none-of-none : (kind_of t x ≡ 12) ⊎ (kind_of t x ≡ 13) → r ≡ ending Failed 0 0 → Begins t w x y (apply x y c) c r
-    unfolding acts looked strategy by_kind one_of some_of when
+    pub none-of-none : (kind_of t x ≡ 12) ⊎ (kind_of t x ≡ 13) → r ≡ Failed → Begins t w x y (apply x y c) c r
+    unfolding plan_of looked strategy by_kind one_of some_of when
     none-of-none (inl h) e =
         begins t w x y c r 12 _ h e (λ f b. sym (ap (λ ks. looked w (one_of (word_at t x 2) [] ks c (again y (constructor_of w y)))) z))
     none-of-none (inr h) e =
@@ -282,8 +284,8 @@ module _ (t w : List ℕ) (x y : ℕ) (c : Bindings ℕ) (r : Turn) where
     kid : g ≡ get_or (children w y) 0 0
     kid = first-child w y l q
 
-    all_asked : kind_of t x ≡ 11 → r ≡ asking-for Ask 0 12 one g → Begins t w x y (apply x y c) c r
-    unfolding acts way_of ways visit_of looked strategy by_kind
+    all_asked : kind_of t x ≡ 11 → r ≡ Ask (asking-for 0 12 one g) → Begins t w x y (apply x y c) c r
+    unfolding plan_of way_of ways visit_of looked strategy by_kind
     all_asked h e =
         begins t w x y c r 11 _ h e
         (λ f b. (λ z. ask keep (apply (o z) (kid z) c)
@@ -297,8 +299,8 @@ module _ (t w : List ℕ) (x y : ℕ) (c : Bindings ℕ) (r : Turn) where
         ∙ ap (looked w) (walk_from (λ o h. apply (word_at t x 2) h) (six t x) (again y (constructor_of w y)) (children w y) c l
         (omega arith))))
 
-    one-asked : kind_of t x ≡ 12 → r ≡ asking-for Ask 0 8 one g → Begins t w x y (apply x y c) c r
-    unfolding acts way_of ways visit_of looked strategy by_kind
+    one-asked : kind_of t x ≡ 12 → r ≡ Ask (asking-for 0 8 one g) → Begins t w x y (apply x y c) c r
+    unfolding plan_of way_of ways visit_of looked strategy by_kind
     one-asked h e =
         begins t w x y c r 12 _ h e
         (λ f b. (λ z. ask keep (apply (o z) (kid z) c)
@@ -306,8 +308,8 @@ module _ (t w : List ℕ) (x y : ℕ) (c : Bindings ℕ) (r : Turn) where
         (one_of (word_at t x 2) (take (0 + 1) (children w y)) (drop (0 + 1) (children w y)) c (again y (constructor_of w y))))
         ∙ sym (ap (looked w) (one_from (word_at t x 2) (children w y) c (again y (constructor_of w y)) l)))
 
-    some-asked : kind_of t x ≡ 13 → r ≡ asking-for Ask 0 9 one g → Begins t w x y (apply x y c) c r
-    unfolding acts way_of ways visit_of looked strategy by_kind
+    some-asked : kind_of t x ≡ 13 → r ≡ Ask (asking-for 0 9 one g) → Begins t w x y (apply x y c) c r
+    unfolding plan_of way_of ways visit_of looked strategy by_kind
     some-asked h e =
         begins t w x y c r 13 _ h e
         (λ f b. (λ z. ask keep (apply (o z) (kid z) c)
@@ -317,10 +319,10 @@ module _ (t w : List ℕ) (x y : ℕ) (c : Bindings ℕ) (r : Turn) where
         (again y (constructor_of w y)))))
         ∙ sym (ap (looked w) (some-from (word_at t x 2) (children w y) c (again y (constructor_of w y)) l)))
 
-    pub children-asked : (what : ℕ) → OfChildren what (kind_of t x) → r ≡ asking-for Ask 0 what one g → Begins t w x y (apply x y c) c r
-    children-asked what (inl h) e = all_asked h.1 (e ∙ ap (λ (k : ℕ). asking-for Ask 0 k one g) h.0)
-    children-asked what (inr (inl h)) e = one-asked h.1 (e ∙ ap (λ (k : ℕ). asking-for Ask 0 k one g) h.0)
-    children-asked what (inr (inr h)) e = some-asked h.1 (e ∙ ap (λ (k : ℕ). asking-for Ask 0 k one g) h.0)
+    pub children-asked : (what : ℕ) → OfChildren what (kind_of t x) → r ≡ Ask (asking-for 0 what one g) → Begins t w x y (apply x y c) c r
+    children-asked what (inl h) e = all_asked h.1 (e ∙ ap (λ (k : ℕ). Ask (asking-for 0 k one g)) h.0)
+    children-asked what (inr (inl h)) e = one-asked h.1 (e ∙ ap (λ (k : ℕ). Ask (asking-for 0 k one g)) h.0)
+    children-asked what (inr (inr h)) e = some-asked h.1 (e ∙ ap (λ (k : ℕ). Ask (asking-for 0 k one g)) h.0)
 
 -- ---- constructor and count are compared, and then the children are walked: CONG, a PCON met by MATCH, a pair
 
@@ -385,28 +387,48 @@ module _ (w : List ℕ) (guard : Bool → Do ℕ → Do ℕ) (q : ℕ → ℕ �
         fail)))
         (get_or-take n vs 0 0 (omega arith))
 
+-- what follows from each of the three turns that constructor and count lead to
+module _ {w : List ℕ} {y a n : ℕ} {lost : Turn} {first : Asked} {r : Turn} where
+  pub of-beside : {P : Type 0} → Beside w y a n lost first r
+      → ((a ≡ constructor_of w y → ⊥) ⊎ (min n 6 ≡ min (child_count w y) 6 → ⊥) → r ≡ lost → P)
+      → (a ≡ constructor_of w y → min n 6 ≡ min (child_count w y) 6 → min n 6 ≡ 0 → r ≡ Done y → P)
+      → (a ≡ constructor_of w y → min n 6 ≡ min (child_count w y) 6 → (min n 6 ≡ 0 → ⊥) → r ≡ Ask first → P)
+      → P
+  of-beside b differs empty walks =
+      ⊎_elim
+      (λ same. ⊎_elim
+      (λ count. ⊎_elim (λ z. empty same count z (b.empty same count z)) (λ z. walks same count z (b.walks same count z)) (cases_eq (min n 6) 0))
+      (λ no. differs (inr no) (b.differs (inr no))) (cases_eq (min n 6) (min (child_count w y) 6)))
+      (λ no. differs (inl no) (b.differs (inl no))) (cases_eq a (constructor_of w y))
+
+  pub beside-as : {a' n' : ℕ} {first' : Asked} → a ≡ a' → n ≡ n' → first ≡ first' → Beside w y a n lost first r
+      → Beside w y a' n' lost first' r
+  beside-as {a'} {n'} ea en ef b =
+      subst (λ (f : Asked). Beside w y a' n' lost f r) ef
+      (subst (λ (n : ℕ). Beside w y a' n lost first r) en (subst (λ (a : ℕ). Beside w y a n lost first r) ea b))
+
 -- CONG begins
 module _ (t w : List ℕ) (x y : ℕ) (c : Bindings ℕ) (r : Turn) (h : kind_of t x ≡ 10) where
-  pub cong-lost : (argument_of t x ≡ constructor_of w y → ⊥) ⊎ (min (operand_count t x) 6 ≡ min (child_count w y) 6 → ⊥) → r ≡ ending Failed 0 0
+  cong-lost : (argument_of t x ≡ constructor_of w y → ⊥) ⊎ (min (operand_count t x) 6 ≡ min (child_count w y) 6 → ⊥) → r ≡ Failed
       → Begins t w x y (apply x y c) c r
-  unfolding acts looked strategy by_kind when
+  unfolding plan_of looked strategy by_kind when
   cong-lost n e =
       begins t w x y c r 10 _ h e
       (λ f b. sym (guard-lost w when apply (again y (constructor_of w y)) (argument_of t x) (operand_count t x) (six t x) (constructor_of w y)
       (child_count w y) (six w y) refl refl c n))
 
   module _ (same : argument_of t x ≡ constructor_of w y) (count : min (operand_count t x) 6 ≡ min (child_count w y) 6) where
-    pub cong-empty : min (operand_count t x) 6 ≡ 0 → r ≡ ending Done 0 y → Begins t w x y (apply x y c) c r
-    unfolding acts looked strategy by_kind when again
+    cong-empty : min (operand_count t x) 6 ≡ 0 → r ≡ Done y → Begins t w x y (apply x y c) c r
+    unfolding plan_of looked strategy by_kind when again
     cong-empty z e =
         begins t w x y c r 10 _ h e
         (λ f b. sym (guard_empty w when apply (again y (constructor_of w y)) (argument_of t x) (operand_count t x) (six t x)
         (constructor_of w y) (child_count w y) (six w y) refl refl c same count z))
 
-    pub cong-asked : {one g : ℕ} → (min (operand_count t x) 6 ≡ 0 → ⊥) → one ≡ word_at t x 2 → g ≡ word_at w y 2
-        → r ≡ asking-for Ask 0 13 one g
+    cong-asked : {one g : ℕ} → (min (operand_count t x) 6 ≡ 0 → ⊥) → one ≡ word_at t x 2 → g ≡ word_at w y 2
+        → r ≡ Ask (asking-for 0 13 one g)
         → Begins t w x y (apply x y c) c r
-    unfolding acts way_of ways visit_of looked strategy by_kind when
+    unfolding plan_of way_of ways visit_of looked strategy by_kind when
     cong-asked {one} {g} z o q e =
         begins t w x y c r 10 _ h e
         (λ f b. (λ z. ask keep (apply (o z) (q z) c)
@@ -414,6 +436,10 @@ module _ (t w : List ℕ) (x y : ℕ) (c : Bindings ℕ) (r : Turn) (h : kind_of
         (take 0 (children w y) ++ (h ∷ [])) e (again y (constructor_of w y)))) fail)
         ∙ sym (guard-first w when apply (again y (constructor_of w y)) (argument_of t x) (operand_count t x) (six t x) (constructor_of w y)
         (child_count w y) (six w y) refl refl c same count z))
+
+  pub cong-begins : Beside w y (argument_of t x) (operand_count t x) Failed (asking-for 0 13 (word_at t x 2) (word_at w y 2)) r
+      → Begins t w x y (apply x y c) c r
+  cong-begins b = of-beside b cong-lost cong-empty (λ same count z. cong-asked same count z refl refl)
 
 -- ---- a pattern is met
 
@@ -423,41 +449,41 @@ patterned t p k = get_or (PVAR (argument_of t p) ∷ PCON (argument_of t p) (ope
 
 module _ (t w : List ℕ) (p y : ℕ) (c : Bindings ℕ) (r : Turn) where
   pub meets : (k : ℕ) (s : Turn) → kind_of t p ≡ k → r ≡ s
-      → ((f : Frame) (b : Bindings ℕ) → plan_of t s f (opened t w p y s) b c ≡ looked w (matching p (patterned t p k) y c))
+      → ((f : Frame) (b : Bindings ℕ) → plan_of t s f (opened t w p y (asked_of s)) b c ≡ looked w (matching p (patterned t p k) y c))
       → Begins t w p y (match p y c) c r
   unfolding does table_by
   meets k s h e q f b =
-      ap (λ r. plan_of t r f (opened t w p y r) b c) e ∙ q f b ∙ ap (λ (k : ℕ). looked w (matching p (patterned t p k) y c)) (sym h)
+      ap (λ r. plan_of t r f (opened t w p y (asked_of r)) b c) e ∙ q f b ∙ ap (λ (k : ℕ). looked w (matching p (patterned t p k) y c)) (sym h)
 
   pub builds : (k : ℕ) (s : Turn) → kind_of t p ≡ k → r ≡ s
-      → ((f : Frame) (b : Bindings ℕ) → plan_of t s f (opened t w p y s) b c ≡ looked w (building (patterned t p k) y c))
+      → ((f : Frame) (b : Bindings ℕ) → plan_of t s f (opened t w p y (asked_of s)) b c ≡ looked w (building (patterned t p k) y c))
       → Begins t w p y (build p y c) c r
   unfolding does table_by
   builds k s h e q f b =
-      ap (λ r. plan_of t r f (opened t w p y r) b c) e ∙ q f b ∙ ap (λ (k : ℕ). looked w (building (patterned t p k) y c)) (sym h)
+      ap (λ r. plan_of t r f (opened t w p y (asked_of r)) b c) e ∙ q f b ∙ ap (λ (k : ℕ). looked w (building (patterned t p k) y c)) (sym h)
 
 -- MATCH meets a PCON
 module _ (t w : List ℕ) (p y : ℕ) (c : Bindings ℕ) (r : Turn) (h : kind_of t p ≡ 19) where
-  pub con-missed : (argument_of t p ≡ constructor_of w y → ⊥) ⊎ (min (operand_count t p) 6 ≡ min (child_count w y) 6 → ⊥)
-      → r ≡ ending Missed p 0
+  con-missed : (argument_of t p ≡ constructor_of w y → ⊥) ⊎ (min (operand_count t p) 6 ≡ min (child_count w y) 6 → ⊥)
+      → r ≡ Missed p
       → Begins t w p y (match p y c) c r
-  unfolding acts looked matching when_at
+  unfolding plan_of looked matching when_at
   con-missed n e =
       meets t w p y c r 19 _ h e
       (λ f b. sym (guard-lost w (when_at p) match (λ hs d. ret y d) (argument_of t p) (operand_count t p) (six t p) (constructor_of w y)
       (child_count w y) (six w y) refl refl c n))
 
   module _ (same : argument_of t p ≡ constructor_of w y) (count : min (operand_count t p) 6 ≡ min (child_count w y) 6) where
-    pub con-empty : min (operand_count t p) 6 ≡ 0 → r ≡ ending Done 0 y → Begins t w p y (match p y c) c r
-    unfolding acts looked matching when_at
+    con-empty : min (operand_count t p) 6 ≡ 0 → r ≡ Done y → Begins t w p y (match p y c) c r
+    unfolding plan_of looked matching when_at
     con-empty z e =
         meets t w p y c r 19 _ h e
         (λ f b. sym (guard_empty w (when_at p) match (λ hs d. ret y d) (argument_of t p) (operand_count t p) (six t p) (constructor_of w y)
         (child_count w y) (six w y) refl refl c same count z))
 
-    pub con-asked : {one g : ℕ} → (min (operand_count t p) 6 ≡ 0 → ⊥) → one ≡ word_at t p 2 → g ≡ word_at w y 2 → r ≡ asking-for Ask 1 14 one g
+    con-asked : {one g : ℕ} → (min (operand_count t p) 6 ≡ 0 → ⊥) → one ≡ word_at t p 2 → g ≡ word_at w y 2 → r ≡ Ask (asking-for 1 14 one g)
         → Begins t w p y (match p y c) c r
-    unfolding acts way_of ways visit_of looked matching when_at
+    unfolding plan_of way_of ways visit_of looked matching when_at
     con-asked {one} {g} z o q e =
         meets t w p y c r 19 _ h e
         (λ f b. (λ z. ask keep (match (o z) (q z) c)
@@ -466,34 +492,38 @@ module _ (t w : List ℕ) (p y : ℕ) (c : Bindings ℕ) (r : Turn) (h : kind_of
         ∙ sym (guard-first w (when_at p) match (λ hs d. ret y d) (argument_of t p) (operand_count t p) (six t p) (constructor_of w y)
         (child_count w y) (six w y) refl refl c same count z))
 
+  pub con-begins : Beside w y (argument_of t p) (operand_count t p) (Missed p) (asking-for 1 14 (word_at t p 2) (word_at w y 2)) r
+      → Begins t w p y (match p y c) c r
+  con-begins b = of-beside b con-missed con-empty (λ same count z. con-asked same count z refl refl)
+
 -- a pair is compared
 module _ (t w : List ℕ) (x y : ℕ) (c : Bindings ℕ) (r : Turn) where
   compares : (s : Turn) → r ≡ s
-      → ((f : Frame) (b : Bindings ℕ) → plan_of t s f (opened t w x y s) b c ≡ looked w (comparing x y c))
+      → ((f : Frame) (b : Bindings ℕ) → plan_of t s f (opened t w x y (asked_of s)) b c ≡ looked w (comparing x y c))
       → Begins t w x y (compare x y c) c r
   unfolding does
-  compares s e q f b = ap (λ r. plan_of t r f (opened t w x y r) b c) e ∙ q f b
+  compares s e q f b = ap (λ r. plan_of t r f (opened t w x y (asked_of r)) b c) e ∙ q f b
 
-  pub pair-lost : (constructor_of w x ≡ constructor_of w y → ⊥) ⊎ (min (child_count w x) 6 ≡ min (child_count w y) 6 → ⊥)
-      → r ≡ ending Failed 0 0
+  pair-lost : (constructor_of w x ≡ constructor_of w y → ⊥) ⊎ (min (child_count w x) 6 ≡ min (child_count w y) 6 → ⊥)
+      → r ≡ Failed
       → Begins t w x y (compare x y c) c r
-  unfolding acts looked comparing when
+  unfolding plan_of looked comparing when
   pair-lost n e =
       compares _ e
       (λ f b. sym (guard-lost w when compare (λ hs d. ret y d) (constructor_of w x) (child_count w x) (six w x) (constructor_of w y)
       (child_count w y) (six w y) refl refl c n))
 
   module _ (same : constructor_of w x ≡ constructor_of w y) (count : min (child_count w x) 6 ≡ min (child_count w y) 6) where
-    pub pair-empty : min (child_count w x) 6 ≡ 0 → r ≡ ending Done 0 y → Begins t w x y (compare x y c) c r
-    unfolding acts looked comparing when
+    pair-empty : min (child_count w x) 6 ≡ 0 → r ≡ Done y → Begins t w x y (compare x y c) c r
+    unfolding plan_of looked comparing when
     pair-empty z e =
         compares _ e
         (λ f b. sym (guard_empty w when compare (λ hs d. ret y d) (constructor_of w x) (child_count w x) (six w x) (constructor_of w y)
         (child_count w y) (six w y) refl refl c same count z))
 
-    pub pair-asked : {g h : ℕ} → (min (child_count w x) 6 ≡ 0 → ⊥) → g ≡ word_at w x 2 → h ≡ word_at w y 2 → r ≡ asking-for Ask 3 16 g h
+    pair-asked : {g h : ℕ} → (min (child_count w x) 6 ≡ 0 → ⊥) → g ≡ word_at w x 2 → h ≡ word_at w y 2 → r ≡ Ask (asking-for 3 16 g h)
         → Begins t w x y (compare x y c) c r
-    unfolding acts way_of ways visit_of looked comparing when
+    unfolding plan_of way_of ways visit_of looked comparing when
     pair-asked {g} {h} z o q e =
         compares _ e
         (λ f b. (λ z. ask keep (compare (o z) (q z) c)
@@ -501,6 +531,10 @@ module _ (t w : List ℕ) (x y : ℕ) (c : Bindings ℕ) (r : Turn) where
         (take 0 (children w y) ++ (h ∷ [])) e (λ hs d. ret y d))) fail)
         ∙ sym (guard-first w when compare (λ hs d. ret y d) (constructor_of w x) (child_count w x) (six w x) (constructor_of w y)
         (child_count w y) (six w y) refl refl c same count z))
+
+  pub pair-begins : Beside w y (constructor_of w x) (child_count w x) Failed (asking-for 3 16 (word_at w x 2) (word_at w y 2)) r
+      → Begins t w x y (compare x y c) c r
+  pair-begins b = of-beside b pair-lost pair-empty (λ same count z. pair-asked same count z refl refl)
 
 -- BUILD meets a PCON
 take-as-long : (n : ℕ) (zs xs : List ℕ) → length zs ≡ length xs → take (length (take n zs)) xs ≡ take n xs
@@ -511,16 +545,16 @@ take-as-long (suc n) (z ∷ zs) [] e = absurd (omega arith)
 take-as-long (suc n) (z ∷ zs) (x ∷ xs) e = ap (λ r. x ∷ r) (take-as-long n zs xs (omega arith))
 
 module _ (t w : List ℕ) (p y : ℕ) (c : Bindings ℕ) (r : Turn) (h : kind_of t p ≡ 19) where
-  pub leaf-built : {a : ℕ} → operand_count t p ≡ 0 → a ≡ argument_of t p → r ≡ ending Leaf a 0 → Begins t w p y (build p y c) c r
-  unfolding acts looked building walk
+  pub leaf-built : {a : ℕ} → operand_count t p ≡ 0 → a ≡ argument_of t p → r ≡ Leaf a → Begins t w p y (build p y c) c r
+  unfolding plan_of looked building walk
   leaf-built z o e =
       builds t w p y c r 19 _ h e
       (λ f b. ap (λ (a : ℕ). make a [] (λ n. ret n c)) o
       ∙ sym (ap (λ (n : ℕ). looked w (walk (map (λ p. build p y) (take n (six t p))) [] c (makes (argument_of t p)))) z))
 
-  pub build-asked : {one : ℕ} → (operand_count t p ≡ 0 → ⊥) → one ≡ word_at t p 2 → r ≡ asking-for Ask 2 15 one y
+  pub build-asked : {one : ℕ} → (operand_count t p ≡ 0 → ⊥) → one ≡ word_at t p 2 → r ≡ Ask (asking-for 2 15 one y)
       → Begins t w p y (build p y c) c r
-  unfolding acts way_of ways visit_of looked building
+  unfolding plan_of way_of ways visit_of looked building
   build-asked {one} z o e =
       builds t w p y c r 19 _ h e
       (λ f b. (λ z. ask keep (build (o z) y c)
@@ -534,7 +568,24 @@ module _ (t w : List ℕ) (p y : ℕ) (c : Bindings ℕ) (r : Turn) (h : kind_of
       ∙ ap (looked w) (walk_from (λ p h. build p y) (six t p) (makes (argument_of t p)) (kids (row_to_build t p)) c
       (omega (arith, length-take (operand_count t p) (drop 2 (row_to_build t p)))) (omega arith))))
 
--- a variable is met: its word in the list, its bit in the mask
+-- a variable's word in the list, its bit in the mask
+module _ (k : List ℕ) (m v : ℕ) (few : v < variables) where
+  pub bound-to : bit_of m v ≡ 1 → held_at k record_from m v ≡ some (get_or k (record_from + v) 0)
+  unfolding held_at
+  bound-to z = rw (lt-ltb v variables few, bit-has m v z) refl
+
+  pub bound-to-none : (bit_of m v ≡ 1 → ⊥) → held_at k record_from m v ≡ none
+  unfolding held_at
+  bound-to-none z = rw (lt-ltb v variables few, no-bit-has m v z) refl
+
+-- the pattern of entry p, of which the code has read the word n, is a PCON or none
+pub is-con : (t : List ℕ) (p : ℕ) {n : ℕ} → n ≡ word_at t p 0 → n / 16 ≡ 19 → kind_of t p ≡ 19
+is-con t p r e = ap (λ (n : ℕ). n / 16) (sym r) ∙ e
+
+pub is-other : (t : List ℕ) (p : ℕ) {n : ℕ} → n ≡ word_at t p 0 → (n / 16 ≡ 19 → ⊥) → kind_of t p ≡ 19 → ⊥
+is-other t p r never e = never (ap (λ (n : ℕ). n / 16) r ∙ e)
+
+-- a variable is met
 module _ (t w k : List ℕ) (m p y : ℕ) (fit : Fit t p) (other : kind_of t p ≡ 19 → ⊥) {v : ℕ} (o : v ≡ argument_of t p % 64) (r : Turn) where
   inside : argument_of t p < variables
   inside = fit.variable (fit.is other)
@@ -542,41 +593,30 @@ module _ (t w k : List ℕ) (m p y : ℕ) (fit : Fit t p) (other : kind_of t p �
   var-is : argument_of t p ≡ v
   var-is = omega (arith, inside)
 
-  bound-to : bit_of m v ≡ 1 → held_at k record_from m (argument_of t p) ≡ some (get_or k (record_from + v) 0)
-  unfolding held_at
-  bound-to z = rw (var-is, lt-ltb v variables (omega (arith, inside)), bit-has m v z) refl
-
-  bound-to-none : (bit_of m v ≡ 1 → ⊥) → held_at k record_from m (argument_of t p) ≡ none
-  unfolding held_at
-  bound-to-none z = rw (var-is, no-bit-has m v z) (go (ltb v variables))
-    where
-      go : (b : Bool) → (if b && false then some (get_or k (record_from + v) 0) else none) ≡ none
-      go true = refl
-      go false = refl
-
   abbrev held : Bindings ℕ
   held = held_at k record_from m
 
-  pub var-compared : bit_of m v ≡ 1 → r ≡ asking-for Ask 3 3 (get_or k (record_from + v) 0) y → Begins t w p y (match p y held) held r
-  unfolding acts way_of ways visit_of looked matching variable
+  pub var-compared : {n : ℕ} → some n ≡ held v → r ≡ Ask (asking-for 3 3 n y) → Begins t w p y (match p y held) held r
+  unfolding plan_of way_of ways visit_of looked matching variable
   var-compared z e =
-      meets t w p y held r 18 _ (fit.is other) e (λ f b. sym (ap (λ g. looked w (variable p g (argument_of t p) y held)) (bound-to z)))
+      meets t w p y held r 18 _ (fit.is other) e
+      (λ f b. ap (λ g. looked w (variable p g (argument_of t p) y held)) (z ∙ ap held (sym var-is)))
 
-  pub var-bound : (bit_of m v ≡ 1 → ⊥) → r ≡ ending Bound v y → Begins t w p y (match p y held) held r
-  unfolding acts looked matching variable
+  pub var-bound : none ≡ held v → r ≡ Bound v y → Begins t w p y (match p y held) held r
+  unfolding plan_of looked matching variable
   var-bound z e =
       meets t w p y held r 18 _ (fit.is other) e
       (λ f b. ap (λ (v : ℕ). ret y (bind v y held)) (omega (arith, inside))
-      ∙ sym (ap (λ g. looked w (variable p g (argument_of t p) y held)) (bound-to-none z)))
+      ∙ ap (λ g. looked w (variable p g (argument_of t p) y held)) (z ∙ ap held (sym var-is)))
 
-  pub var-built : bit_of m v ≡ 1 → r ≡ ending Done 0 (get_or k (record_from + v) 0) → Begins t w p y (build p y held) held r
-  unfolding acts looked building needed
+  pub var-built : {n : ℕ} → some n ≡ held v → r ≡ Done n → Begins t w p y (build p y held) held r
+  unfolding plan_of looked building needed
   var-built z e =
       builds t w p y held r 18 _ (fit.is other) e
-      (λ f b. sym (ap (λ g. looked w (needed (argument_of t p) g (λ g. ret g held))) (bound-to z)))
+      (λ f b. ap (λ g. looked w (needed (argument_of t p) g (λ g. ret g held))) (z ∙ ap held (sym var-is)))
 
-  pub var-stuck : (bit_of m v ≡ 1 → ⊥) → r ≡ ending Stuck v 0 → Begins t w p y (build p y held) held r
-  unfolding acts looked building needed
+  pub var-stuck : none ≡ held v → r ≡ Stuck v → Begins t w p y (build p y held) held r
+  unfolding plan_of looked building needed
   var-stuck z e =
       builds t w p y held r 18 _ (fit.is other) e
-      (λ f b. ap stuck (sym var-is) ∙ sym (ap (λ g. looked w (needed (argument_of t p) g (λ g. ret g held))) (bound-to-none z)))
+      (λ f b. ap stuck (sym var-is) ∙ ap (λ g. looked w (needed (argument_of t p) g (λ g. ret g held))) (z ∙ ap held (sym var-is)))

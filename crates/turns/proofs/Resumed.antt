@@ -19,13 +19,13 @@ use Rattle.meaning.specs.Bindings.{Bindings, masked}
 use Rattle.meaning.specs.Table.{six}
 use Rattle.meaning.specs.Plan.{ret, fail, make, ask, keep}
 use Rattle.meaning.specs.Rules.{Visit, Do, apply, build, walk, again, zip, one_of, some_of, when}
-use Rattle.turns.specs.declared.turn.Act.{Act}
-use Rattle.turns.specs.declared.turn.Act.TheVariants.{Done, Failed, Made, Ask, Next, Unscope}
+use Rattle.turns.specs.declared.turn.Asked.{Asked}
 use Rattle.turns.specs.declared.turn.Turn.{Turn}
+use Rattle.turns.specs.declared.turn.Turn.TheVariants.{Done, Failed, Missed, Made, Ask, Next, Unscope}
 use Rattle.turns.specs.declared.resume.Head.{Head}
 use Rattle.turns.specs.declared.resume.Seen.{Seen}
 use Rattle.turns.specs.Turns.{OfHead, OfSeen}
-use Rattle.turns.specs.Ways.{Frame, filled, kids, within, makes, stepping, ways, way_of, visit_of, acts, plan_of, current}
+use Rattle.turns.specs.Ways.{Frame, filled, kids, within, makes, stepping, ways, way_of, visit_of, asked_of, plan_of, current}
 use Rattle.turns.proofs.Rows.{six-at, kids-length, kid_at, kids-set, name_set, again-made, walk-on, walk-over, one_on, one-over}
 use Rattle.turns.proofs.Rows.{some-on, some-over}
 use Rattle.turns.proofs.Ways.{without-row, with_row, way-is}
@@ -113,12 +113,9 @@ module _ (r : List ℕ) (long : length r ≡ 8) (i y : ℕ) where
 
 -- ---- the turns
 
--- a turn that asks for nothing, and one that asks for a visit
-abbrev pub ending : Act → (x y : ℕ) → Turn
-ending a x y = record { act = a; mode = 0; what = 0; at = 0; x = x; y = y; mask = 0 }
-
-abbrev pub asking-for : Act → (m w x y : ℕ) → Turn
-asking-for a m w x y = record { act = a; mode = m; what = w; at = 0; x = x; y = y; mask = 0 }
+-- a visit that is asked for, with no variable unbound
+abbrev pub asking-for : (m w x y : ℕ) → Asked
+asking-for m w x y = record { mode = m; what = w; at = 0; x = x; y = y; mask = 0 }
 
 -- a visit goes on by the way that its word picks
 module _ (t : List ℕ) (f : Frame) (b : Bindings ℕ) (r : Turn) (g : Frame) where
@@ -134,34 +131,34 @@ module _ (t : List ℕ) (f : Frame) (b : Bindings ℕ) (r : Turn) (g : Frame) wh
   recovers k s h e z = ap (λ r. plan_of t r f g b b) e ∙ z ∙ sym (ap (λ w. w.no) (way-is t f b k h))
 
   -- a frame that hands on what comes of its visit is asked for
-  last-asked : (c : Bindings ℕ) (one y : ℕ) → g.what ≡ 0 → plan_of t (asking-for Ask 0 0 one y) f g b c ≡ ask keep (apply one y c) ret fail
-  unfolding acts ways visit_of
+  last-asked : (c : Bindings ℕ) (one y : ℕ) → g.what ≡ 0 → plan_of t (Ask (asking-for 0 0 one y)) f g b c ≡ ask keep (apply one y c) ret fail
+  unfolding plan_of ways visit_of
   last-asked c one y z = ap (λ w. ask w.keeps (apply one y c) w.yes w.no) (way-is t g c 0 z)
 
   module _ (h : Head) (o : OfHead f h) where
     -- SEQ goes on with its second operand, and so does CHOICE or LEFT after a failure
-    pub second-asked : (one y : ℕ) (c : Bindings ℕ) → h.what ≡ 1 → one ≡ word_at t h.x 3 → r ≡ asking-for Ask 0 0 one y
-        → g.what ≡ r.what
+    pub second-asked : (one y : ℕ) (c : Bindings ℕ) → h.what ≡ 1 → one ≡ word_at t h.x 3 → r ≡ Ask (asking-for 0 0 one y)
+        → g.what ≡ (asked_of r).what
         → plan_of t r f g b (current f b c) ≡ (way_of t f b).yes y c
     unfolding ways
     second-asked one y c k i e w =
-        resumes 1 (asking-for Ask 0 0 one y) y c (o.what ∙ k) e
-        (last-asked c one y (w ∙ ap (λ r. r.what) e) ∙ ap (λ (i : ℕ). ask keep (apply i y c) ret fail)
+        resumes 1 (Ask (asking-for 0 0 one y)) y c (o.what ∙ k) e
+        (last-asked c one y (w ∙ ap (λ r. (asked_of r).what) e) ∙ ap (λ (i : ℕ). ask keep (apply i y c) ret fail)
         (i ∙ ap (λ (x : ℕ). word_at t x 3) (sym o.x)))
 
-    pub other-asked : (one : ℕ) → h.what ≡ 6 → one ≡ word_at t h.x 3 → r ≡ asking-for Ask 0 0 one h.y → g.what ≡ r.what
+    pub other-asked : (one : ℕ) → h.what ≡ 6 → one ≡ word_at t h.x 3 → r ≡ Ask (asking-for 0 0 one h.y) → g.what ≡ (asked_of r).what
         → plan_of t r f g b b ≡ (way_of t f b).no
     unfolding ways
     other-asked one k i e w =
-        recovers 6 (asking-for Ask 0 0 one h.y) (o.what ∙ k) e
-        (last-asked b one h.y (w ∙ ap (λ r. r.what) e)
+        recovers 6 (Ask (asking-for 0 0 one h.y)) (o.what ∙ k) e
+        (last-asked b one h.y (w ∙ ap (λ r. (asked_of r).what) e)
         ∙ (λ z. ask keep (apply ((i ∙ ap (λ (x : ℕ). word_at t x 3) (sym o.x)) z) (sym o.y z) b) ret fail))
 
     -- SCOPE puts its outer bindings back
     pub scope-ended : (m y : ℕ) (c : Bindings ℕ) → h.what ≡ 7 → m ≡ mask_by ours t h.x
-        → r ≡ record { act = Unscope; mode = 0; what = 0; at = 0; x = 0; y = y; mask = m }
+        → r ≡ Unscope y m
         → plan_of t r f g b (current f b c) ≡ (way_of t f b).yes y c
-    unfolding acts ways
+    unfolding plan_of ways
     scope-ended m y c k i e =
         resumes 7 _ y c (o.what ∙ k) e (ap (λ (m : ℕ). ret y (masked m b c)) (i ∙ ap (mask_by ours t) (sym o.x)))
 
@@ -210,9 +207,9 @@ module _ (t : List ℕ) (f : Frame) (h : Head) (s : Seen) (o : OfHead f h) (n : 
     -- a walk goes on to the next child
     pub walker-on : (k m : ℕ) (q : ℕ → ℕ → Bindings ℕ → Visit ℕ) (xs : List ℕ) (d : ℕ → List ℕ → Bindings ℕ → Do ℕ) {one next : ℕ}
         {v : Visit ℕ}
-        → h.what ≡ k → r ≡ asking-for Next m k one next → s.at + 1 < s.count → s.at + 1 < length xs
+        → h.what ≡ k → r ≡ Next (asking-for m k one next) → s.at + 1 < s.count → s.at + 1 < length xs
         → v ≡ q (get_or xs (f.at + 1) 0) (get_or f.row (3 + f.at) 0) c
-        → plan_of t (asking-for Next m k one next) (filled f y) g b c ≡ ask keep v (after q xs d ((f.at + 1) % 8) walked_row) fail
+        → plan_of t (Next (asking-for m k one next)) (filled f y) g b c ≡ ask keep v (after q xs d ((f.at + 1) % 8) walked_row) fail
         → (get_or (ways t f b) k (stepping f fail)).yes y c ≡ after q xs d f.at f.row y c
         → plan_of t r (filled f y) g b c ≡ (way_of t f b).yes y c
     walker-on k m q xs d what e l j v p w =
@@ -222,11 +219,11 @@ module _ (t : List ℕ) (f : Frame) (h : Head) (s : Seen) (o : OfHead f h) (n : 
         ∙ sym (ap (λ w. w.yes y c) (way-is t f b k (o.what ∙ what)) ∙ w)
 
     -- SOME goes on to the next child
-    pub some-walks-on : (k : ℕ) {one : ℕ} → h.what ≡ k → r ≡ asking-for Next 0 10 one s.next → s.at + 1 < s.count
+    pub some-walks-on : (k : ℕ) {one : ℕ} → h.what ≡ k → r ≡ Next (asking-for 0 10 one s.next) → s.at + 1 < s.count
         → one ≡ word_at t h.x 2
         → (get_or (ways t f b) k (stepping f fail)).yes y c ≡ given (word_at t f.x 2) f.y f.at f.row y c
         → plan_of t r (filled f y) g b c ≡ (way_of t f b).yes y c
-    unfolding acts way_of ways visit_of
+    unfolding plan_of way_of ways visit_of
     some-walks-on k {one} what e l i w =
         let j : one ≡ word_at t f.x 2 = first-operand i in
         let m : s.next ≡ get_or walked_row (3 + f.at) 0 = n.next ∙ sym (get_or-set_other f.row (2 + f.at) (3 + f.at) y 0 (λ e. omega arith)) in
@@ -255,17 +252,17 @@ module _ (t : List ℕ) (f : Frame) (h : Head) (s : Seen) (o : OfHead f h) (n : 
         (λ n9 n10 n12 n13 n14 n15 n16. absurd (n16 refl)) (λ j n9 n10 n12 n13 n14 n15 n16. refl)
 
     pub step-made : (k : ℕ) → 7 < k → (k ≡ 9 → ⊥) → (k ≡ 10 → ⊥) → (k ≡ 12 → ⊥) → (k ≡ 13 → ⊥) → (k ≡ 14 → ⊥) → (k ≡ 15 → ⊥) → (k ≡ 16 → ⊥)
-        → h.what ≡ k → r ≡ ending Made 0 0 → s.at < s.count → plan_of t r (filled f y) g b c ≡ (way_of t f b).yes y c
-    unfolding acts
+        → h.what ≡ k → r ≡ Made → s.at < s.count → plan_of t r (filled f y) g b c ≡ (way_of t f b).yes y c
+    unfolding plan_of
     step-made k l n9 n10 n12 n13 n14 n15 n16 what e m =
         ap (λ r. plan_of t r (filled f y) g b c) e
         ∙ made-anew f.row n.long f.at y f.y c (omega (arith, few-kids, n.at))
         ∙ sym (ap (λ w. w.yes y c) (way-is t f b k (o.what ∙ what)) ∙ steps-yes k l n9 n10 n12 n13 n14 n15 n16)
 
     -- a child that the row does not have
-    pub beyond-lost : (k : ℕ) → 7 < k → h.what ≡ k → r ≡ ending Failed 0 0 → s.count ≤ s.at
+    pub beyond-lost : (k : ℕ) → 7 < k → h.what ≡ k → r ≡ Failed → s.count ≤ s.at
         → plan_of t r (filled f y) g b c ≡ (way_of t f b).yes y c
-    unfolding acts ways
+    unfolding plan_of ways
     beyond-lost k l what e m =
         ap (λ r. plan_of t r (filled f y) g b c) e ∙ sym (ap (λ w. w.yes y c) (way-is t f b k (o.what ∙ what)) ∙ go k l)
       where
@@ -286,10 +283,10 @@ module _ (t : List ℕ) (f : Frame) (h : Head) (s : Seen) (o : OfHead f h) (n : 
       last_one = omega (arith, few-kids, n.at)
 
       -- a walk whose children's terms are of no account
-      pub walker-done : (k : ℕ) (q : ℕ → ℕ → Bindings ℕ → Visit ℕ) (xs : List ℕ) → h.what ≡ k → r ≡ ending Done 0 h.y
+      pub walker-done : (k : ℕ) (q : ℕ → ℕ → Bindings ℕ → Visit ℕ) (xs : List ℕ) → h.what ≡ k → r ≡ Done h.y
           → (get_or (ways t f b) k (stepping f fail)).yes y c ≡ after q xs (λ n hs d. ret f.y d) f.at f.row y c
           → plan_of t r (filled f y) g b c ≡ (way_of t f b).yes y c
-      unfolding acts
+      unfolding plan_of
       walker-done k q xs what e w =
           ap (λ r. plan_of t r (filled f y) g b c) e
           ∙ ap (λ (y : ℕ). ret y c) (sym o.y)
@@ -319,9 +316,9 @@ module _ (t : List ℕ) (f : Frame) (h : Head) (s : Seen) (o : OfHead f h) (n : 
           (rw (kids-set f.row n.long f.at y inside) (simp length-set last_one))
           ∙ given_is f.row n.long f.at y e f.y c inside
 
-      pub last_made : (k : ℕ) → 7 < k → (k ≡ 14 → ⊥) → (k ≡ 16 → ⊥) → h.what ≡ k → r ≡ ending Made 0 0
+      pub last_made : (k : ℕ) → 7 < k → (k ≡ 14 → ⊥) → (k ≡ 16 → ⊥) → h.what ≡ k → r ≡ Made
           → plan_of t r (filled f y) g b c ≡ (way_of t f b).yes y c
-      unfolding acts ways
+      unfolding plan_of ways
       last_made k j n14 n16 what e =
           ap (λ r. plan_of t r (filled f y) g b c) e ∙ go k j n14 n16 ∙ sym (ap (λ w. w.yes y c) (way-is t f b k (o.what ∙ what)))
         where
@@ -344,8 +341,8 @@ module _ (t : List ℕ) (f : Frame) (h : Head) (s : Seen) (o : OfHead f h) (n : 
   -- a child has failed
   module _ (g : Frame) (b : Bindings ℕ) (r : Turn) where
     -- PATH, ALL, CONG, a PCON, a pair, and what no word `what` means
-    pub lost-above : (k : ℕ) → 10 < k → h.what ≡ k → r ≡ ending Failed 0 0 → plan_of t r f g b b ≡ (way_of t f b).no
-    unfolding acts ways
+    pub lost-above : (k : ℕ) → 10 < k → h.what ≡ k → r ≡ Failed → plan_of t r f g b b ≡ (way_of t f b).no
+    unfolding plan_of ways
     lost-above k l what e = recovers t f b r g k _ (o.what ∙ what) e (go k (omega arith) l)
       where
         go : (k : ℕ) → 7 < k → 10 < k → fail ≡ (get_or (ways t f b) k (stepping f fail)).no
@@ -361,10 +358,10 @@ module _ (t : List ℕ) (f : Frame) (h : Head) (s : Seen) (o : OfHead f h) (n : 
         (λ m. absurd (omega arith)) (λ m. absurd (omega arith)) (λ j m. absurd (omega arith)) k l m
 
     -- ONE and SOME try the next child
-    pub next-tried : {one : ℕ} → 7 < h.what → h.what ≤ 10 → r ≡ asking-for Next 0 h.what one s.next → s.at + 1 < s.count
+    pub next-tried : {one : ℕ} → 7 < h.what → h.what ≤ 10 → r ≡ Next (asking-for 0 h.what one s.next) → s.at + 1 < s.count
         → one ≡ word_at t h.x 2
         → plan_of t r f g b b ≡ (way_of t f b).no
-    unfolding acts way_of ways visit_of
+    unfolding plan_of way_of ways visit_of
     next-tried {one} l m e q i = go h.what l m o.what e
       where
         j : one ≡ word_at t f.x 2
@@ -388,16 +385,16 @@ module _ (t : List ℕ) (f : Frame) (h : Head) (s : Seen) (o : OfHead f h) (n : 
             (λ k. ask keep (apply (j k) (n.next k) b) (anew f.y ((f.at + 1) % 8) f.row) (first_of (word_at t f.x 2) f.y b ((f.at + 1) % 8) f.row))
             ∙ one-tries-on f.row n.long f.at 0 (word_at t f.x 2) f.y b u
 
-        go : (k : ℕ) → 7 < k → k ≤ 10 → f.what ≡ k → r ≡ asking-for Next 0 k one s.next → plan_of t r f g b b ≡ (way_of t f b).no
+        go : (k : ℕ) → 7 < k → k ≤ 10 → f.what ≡ k → r ≡ Next (asking-for 0 k one s.next) → plan_of t r f g b b ≡ (way_of t f b).no
         go k l m =
-            one-or-some k (λ k. f.what ≡ k → r ≡ asking-for Next 0 k one s.next → plan_of t r f g b b ≡ (way_of t f b).no) l m
+            one-or-some k (λ k. f.what ≡ k → r ≡ Next (asking-for 0 k one s.next) → plan_of t r f g b b ≡ (way_of t f b).no) l m
             (λ w e. recovers t f b r g 8 _ w e one-tries) (λ w e. recovers t f b r g 9 _ w e (some-tries false))
             (λ w e. recovers t f b r g 10 _ w e (some-tries true))
 
     -- there is no next child, and none has succeeded, or the row has not even this one
-    pub none_left : 7 < h.what → h.what ≤ 10 → r ≡ ending Failed 0 0 → s.count ≤ s.at + 1 → (h.what ≡ 10 → s.count ≤ s.at)
+    pub none_left : 7 < h.what → h.what ≤ 10 → r ≡ Failed → s.count ≤ s.at + 1 → (h.what ≡ 10 → s.count ≤ s.at)
         → plan_of t r f g b b ≡ (way_of t f b).no
-    unfolding acts ways when
+    unfolding plan_of ways when
     none_left l m e q z = go h.what l m o.what z
       where
         no-kid : (p : Do ℕ) → s.count ≤ s.at → fail ≡ within f.at (kids f.row) p
@@ -421,8 +418,8 @@ module _ (t : List ℕ) (f : Frame) (h : Head) (s : Seen) (o : OfHead f h) (n : 
             (λ w z. recovers t f b r g 10 _ w e (no-kid _ (z refl)))
 
     -- one has succeeded before
-    pub some-kept : h.what ≡ 10 → r ≡ ending Made 0 0 → s.at < s.count → s.count ≤ s.at + 1 → plan_of t r f g b b ≡ (way_of t f b).no
-    unfolding acts ways when
+    pub some-kept : h.what ≡ 10 → r ≡ Made → s.at < s.count → s.count ≤ s.at + 1 → plan_of t r f g b b ≡ (way_of t f b).no
+    unfolding plan_of ways when
     some-kept what e l m =
         recovers t f b r g 10 _ (o.what ∙ what) e
         (sym (again-made f.y (get_or f.row 0 0) (kids f.row) b (omega (arith, few-kids)))

@@ -11,9 +11,9 @@ use Rattle.meaning.specs.Table.{six}
 use Rattle.meaning.specs.Plan.{Keep, keep, drop as give, ret, fail, miss, stuck, look, make, ask}
 use Rattle.meaning.specs.Rules.{Visit, apply, match, build, compare, Do, walk, again, zip, one_of, some_of}
 use Rattle.meaning.specs.Store.{children}
-use Rattle.turns.specs.declared.turn.Act.{Act}
-use Rattle.turns.specs.declared.turn.Act.TheVariants.{Done, Failed, Missed, Stuck, Bound, Leaf, Made, Ask, Next, Unscope}
+use Rattle.turns.specs.declared.turn.Asked.{Asked}
 use Rattle.turns.specs.declared.turn.Turn.{Turn}
+use Rattle.turns.specs.declared.turn.Turn.TheVariants.{Done, Failed, Missed, Stuck, Bound, Leaf, Made, Ask, Next, Unscope}
 
 -- where the words of the variables stand in the work list
 abbrev pub record_from : ℕ
@@ -125,39 +125,42 @@ visit_of m x y b = if eqb m 0 then apply x y b else if eqb m 1 then match x y b 
 abbrev pub hiding : ℕ → Bindings ℕ → Bindings ℕ
 hiding m b = if eqb m 0 then b else masked m unbound b
 
+-- the visit that a turn asks for; of a turn that asks for none it is of no account
+abbrev pub asked_of : Turn → Asked
+asked_of (Ask a) = a
+asked_of (Next a) = a
+asked_of r = record { mode = 0; what = 0; at = 0; x = 0; y = 0; mask = 0 }
+
 -- the frame that the visit of x and y opens, and the one with which it goes on to its next child
-abbrev pub opened : List ℕ → List ℕ → ℕ → ℕ → Turn → Frame
-opened t w x y r = record {
-  what = r.what;
+abbrev pub opened : List ℕ → List ℕ → ℕ → ℕ → Asked → Frame
+opened t w x y a = record {
+  what = a.what;
   x = x;
   y = y;
-  at = r.at % 8;
-  row = if eqb r.what 15 then row_to_build t x else row_of w y;
+  at = a.at % 8;
+  row = if eqb a.what 15 then row_to_build t x else row_of w y;
   other = row_of w x;
 }
 
-abbrev pub next_of : Frame → Turn → Frame
-next_of f r = record { what = r.what; x = f.x; y = f.y; at = (f.at + 1) % 8; row = f.row; other = f.other }
+abbrev pub next_of : Frame → Asked → Frame
+next_of f a = record { what = a.what; x = f.x; y = f.y; at = (f.at + 1) % 8; row = f.row; other = f.other }
 
 -- a visit is asked for: g is the frame that waits, c the bindings
-abbrev pub asking : List ℕ → Frame → Turn → Bindings ℕ → Do ℕ
-asking t g r c = ask (way_of t g c).keeps (visit_of (r.mode % 4) r.x r.y (hiding r.mask c)) (way_of t g c).yes (way_of t g c).no
+abbrev pub asking : List ℕ → Frame → Asked → Bindings ℕ → Do ℕ
+asking t g a c = ask (way_of t g c).keeps (visit_of (a.mode % 4) a.x a.y (hiding a.mask c)) (way_of t g c).yes (way_of t g c).no
 
 -- what a turn says is next: f is the frame at hand, g the one that it opens, b the bindings that f keeps, c the present ones
-unfoldable pub acts : List ℕ → Act → Turn → Frame → Frame → (b c : Bindings ℕ) → Do ℕ
-acts t Done r f g b c = ret r.y c
-acts t Failed r f g b c = fail
-acts t Missed r f g b c = miss r.x
-acts t Stuck r f g b c = stuck r.x
-acts t Bound r f g b c = ret r.y (bind (r.x % 64) r.y c)
-acts t Leaf r f g b c = make r.x [] (λ n. ret n c)
-acts t Made r f g b c = make (get_or f.row 0 0) (kids f.row) (λ n. ret n c)
-acts t Ask r f g b c = asking t g r c
-acts t Next r f g b c = asking t (next_of f r) r c
-acts t Unscope r f g b c = ret r.y (masked r.mask b c)
-
-abbrev pub plan_of : List ℕ → Turn → Frame → Frame → (b c : Bindings ℕ) → Do ℕ
-plan_of t r f g b c = acts t r.act r f g b c
+unfoldable pub plan_of : List ℕ → Turn → Frame → Frame → (b c : Bindings ℕ) → Do ℕ
+plan_of t (Done y) f g b c = ret y c
+plan_of t Failed f g b c = fail
+plan_of t (Missed p) f g b c = miss p
+plan_of t (Stuck v) f g b c = stuck v
+plan_of t (Bound v y) f g b c = ret y (bind (v % 64) y c)
+plan_of t (Leaf a) f g b c = make a [] (λ n. ret n c)
+plan_of t Made f g b c = make (get_or f.row 0 0) (kids f.row) (λ n. ret n c)
+plan_of t (Ask a) f g b c = asking t g a c
+plan_of t (Next a) f g b c = asking t (next_of f a) a c
+plan_of t (Unscope y m) f g b c = ret y (masked m b c)
 
 -- the plan with the terms looked at that it looks at first
 unfoldable pub looked : List ℕ → Do ℕ → Do ℕ

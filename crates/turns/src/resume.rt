@@ -5,8 +5,8 @@ ghost use Rattle.turns.specs.Turns.{OfHead, OfSeen, Resumes, Recovers, Walks};
 
 use crate::begin::scope_mask;
 use crate::turn::{
-    APPLY, Act, BUILT, COMPARED, CONDITION, DENIED, EACH, EQUAL, EVERY, FIRST, MAKING, MATCHED,
-    NONE_YET, ONE_HAS, PAIRS, PARTS, PASS, SCOPED, SECOND, TRIED, Turn, asks, ends,
+    APPLY, BUILT, COMPARED, CONDITION, DENIED, EACH, EQUAL, EVERY, FIRST, MAKING, MATCHED,
+    NONE_YET, ONE_HAS, PAIRS, PARTS, PASS, SCOPED, SECOND, TRIED, Turn, visit,
 };
 use words::word;
 
@@ -32,22 +32,16 @@ pub fn succeeded(table: &[u32], h: Head, y: u32) -> Turn
     requires { h.what < 8 }
     ensures { (f : Frame) → OfHead f h → Resumes table.now f y result }
 {
-    let what = h.what;
-    match what {
-        SECOND => asks(Act::Ask, APPLY, PASS, word(table, h.x, 3), y),
-        CONDITION => ends(Act::Done, 0, h.y),
-        TRIED => ends(Act::Done, 0, h.y),
-        DENIED => ends(Act::Failed, 0, 0),
-        SCOPED => Turn {
-            act: Act::Unscope,
-            mode: 0,
-            what: 0,
-            at: 0,
-            x: 0,
-            y,
+    match h.what {
+        SECOND => Turn::Ask(visit(APPLY, PASS, word(table, h.x, 3), y)),
+        CONDITION => Turn::Done(h.y),
+        TRIED => Turn::Done(h.y),
+        DENIED => Turn::Failed,
+        SCOPED => Turn::Unscope {
+            node: y,
             mask: scope_mask(table, h.x),
         },
-        _ => ends(Act::Done, 0, y),
+        _ => Turn::Done(y),
     }
 }
 
@@ -56,12 +50,11 @@ pub fn failed(table: &[u32], h: Head) -> Turn
     requires { h.what < 8 }
     ensures { (f : Frame) → OfHead f h → Recovers table.now f result }
 {
-    let what = h.what;
-    match what {
-        EQUAL => ends(Act::Missed, h.x, 0),
-        DENIED => ends(Act::Done, 0, h.y),
-        FIRST => asks(Act::Ask, APPLY, PASS, word(table, h.x, 3), h.y),
-        _ => ends(Act::Failed, 0, 0),
+    match h.what {
+        EQUAL => Turn::Missed(h.x),
+        DENIED => Turn::Done(h.y),
+        FIRST => Turn::Ask(visit(APPLY, PASS, word(table, h.x, 3), h.y)),
+        _ => Turn::Failed,
     }
 }
 
@@ -70,22 +63,17 @@ fn walk_on(table: &[u32], h: Head, s: Seen) -> Turn
     requires { (7 < h.what) × (s.at + 1 < s.count) × (s.count ≤ 6) }
     ensures { (f : Frame) (y : ℕ) → OfHead f h → OfSeen f s → Walks table.now f y result }
 {
-    let what = h.what;
-    match what {
-        NONE_YET => asks(Act::Next, APPLY, ONE_HAS, word(table, h.x, 2), s.next),
-        ONE_HAS => asks(Act::Next, APPLY, ONE_HAS, word(table, h.x, 2), s.next),
-        EVERY => asks(Act::Next, APPLY, EVERY, word(table, h.x, 2), s.next),
-        EACH => asks(Act::Next, APPLY, EACH, word(table, h.x, 3 + s.at), s.next),
-        PARTS => asks(
-            Act::Next,
-            MATCHED,
-            PARTS,
-            word(table, h.x, 3 + s.at),
-            s.next,
-        ),
-        MAKING => asks(Act::Next, BUILT, MAKING, word(table, h.x, 3 + s.at), h.y),
-        PAIRS => asks(Act::Next, COMPARED, PAIRS, s.mate, s.next),
-        _ => ends(Act::Made, 0, 0),
+    let same = word(table, h.x, 2);
+    let beside = word(table, h.x, 3 + s.at);
+    match h.what {
+        NONE_YET => Turn::Next(visit(APPLY, ONE_HAS, same, s.next)),
+        ONE_HAS => Turn::Next(visit(APPLY, ONE_HAS, same, s.next)),
+        EVERY => Turn::Next(visit(APPLY, EVERY, same, s.next)),
+        EACH => Turn::Next(visit(APPLY, EACH, beside, s.next)),
+        PARTS => Turn::Next(visit(MATCHED, PARTS, beside, s.next)),
+        MAKING => Turn::Next(visit(BUILT, MAKING, beside, h.y)),
+        PAIRS => Turn::Next(visit(COMPARED, PAIRS, s.mate, s.next)),
+        _ => Turn::Made,
     }
 }
 
@@ -98,15 +86,12 @@ pub fn walked(table: &[u32], h: Head, s: Seen) -> Turn
         return walk_on(table, h, s);
     }
     if s.count <= s.at {
-        return ends(Act::Failed, 0, 0);
+        return Turn::Failed;
     }
-    if h.what == PARTS {
-        return ends(Act::Done, 0, h.y);
+    match h.what {
+        PARTS | PAIRS => Turn::Done(h.y),
+        _ => Turn::Made,
     }
-    if h.what == PAIRS {
-        return ends(Act::Done, 0, h.y);
-    }
-    ends(Act::Made, 0, 0)
 }
 
 // It has failed: the row has the child as it was.
@@ -114,17 +99,14 @@ pub fn skipped(table: &[u32], h: Head, s: Seen) -> Turn
     requires { (7 < h.what) × (s.at < 8) × (s.count ≤ 6) }
     ensures { (f : Frame) → OfHead f h → OfSeen f s → Recovers table.now f result }
 {
-    if ONE_HAS < h.what {
-        return ends(Act::Failed, 0, 0);
+    if ONE_HAS < h.what || s.count <= s.at {
+        return Turn::Failed;
     }
     if s.at + 1 < s.count {
-        return asks(Act::Next, APPLY, h.what, word(table, h.x, 2), s.next);
-    }
-    if s.count <= s.at {
-        return ends(Act::Failed, 0, 0);
+        return Turn::Next(visit(APPLY, h.what, word(table, h.x, 2), s.next));
     }
     if h.what == ONE_HAS {
-        return ends(Act::Made, 0, 0);
+        return Turn::Made;
     }
-    ends(Act::Failed, 0, 0)
+    Turn::Failed
 }

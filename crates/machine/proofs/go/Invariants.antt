@@ -5,10 +5,10 @@ use Rattle.machine.proofs.Going.{rank, SoFar}
 use Rattle.machine.proofs.Going.{Untouched}
 use Rattle.machine.proofs.go.Given as goal
 
-abbrev pub invariant-loop-m : goal.invariant-loop-m
-invariant-loop-m l =
+abbrev pub invariant-loop-next : goal.invariant-loop-next
+invariant-loop-next l =
     SoFar l.shares l.table l.initial.store l.initial.work l.initial.m l.stop l.store l.work l.m × Untouched l.once l.initial.store l.initial.work l.initial.m l.store l.work l.m
 
-abbrev pub decreases-loop-m : goal.decreases-loop-m
-decreases-loop-m l =
+abbrev pub decreases-loop-next : goal.decreases-loop-next
+decreases-loop-next l =
     4098 * l.m.fuel + rank l.m

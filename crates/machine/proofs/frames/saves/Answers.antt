@@ -4,8 +4,8 @@ use native.Mathlib.Omega.{arith}
 use borrow.Author.Tests.{lt-ltb, le-ltb}
 use Rattle.machine.proofs.frames.saves.Goals as goal
 
-pub returns-then-what-lt-TRIED : goal.returns-then-what-lt-TRIED
-returns-then-what-lt-TRIED c = rw (le-ltb 3 c.args.what (omega (arith, c.if-what-lt-TRIED.true))) refl
+pub returns-then-what-ge-TRIED : goal.returns-then-what-ge-TRIED
+returns-then-what-ge-TRIED c = rw (lt-ltb 3 c.args.what (omega (arith, c.if-what-ge-TRIED.true))) refl
 
-pub returns : goal.returns
-returns c = rw (lt-ltb 3 c.args.what (omega (arith, c.if-what-lt-TRIED.false))) refl
+pub returns-else-what-ge-TRIED : goal.returns-else-what-ge-TRIED
+returns-else-what-ge-TRIED c = rw (le-ltb 3 c.args.what (omega (arith, c.if-what-ge-TRIED.false))) refl

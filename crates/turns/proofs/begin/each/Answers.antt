@@ -1,38 +1,12 @@
 -- `begin::each` meets its contract. Assumes nothing.
-use mathlib.Core.Path.{ap, sym, ◌∙◌}
-use mathlib.Core.Logic.{inl, inr}
-use Prim.Native.Nat.{ℕ, ◌%◌, min}
-use Rattle.turns.proofs.Begun.{cong-lost, cong-empty, cong-asked}
+use mathlib.Core.Path.{ap, ◌∙◌}
+use Prim.Native.Nat.{ℕ, ◌%◌}
+use Rattle.turns.proofs.Resumed.{asking-for}
+use Rattle.turns.proofs.Begun.{beside-as, cong-begins}
 use Rattle.turns.proofs.begin.each.Goals as goal
-
-pub returns-then-word : goal.returns-then-word
-returns-then-word c d = cong-lost _ _ _ _ d _ c.requires
-    (inl (λ e. c.if-word.true (c.word-2.ensures ∙ e ∙ sym c.word-3.ensures)))
-    c.ends.ensures
-
-pub returns-then-n-few : goal.returns-then-n-few
-returns-then-n-few c d =
-    let first = c.few-n.ensures
-    ∙ ap (λ (n : ℕ). min (n % 16) 6) c.word.ensures in
-    let second = c.few.ensures ∙ ap (λ (n : ℕ). min n 6) c.word-4.ensures in
-    cong-lost _ _ _ _ d _ c.requires
-    (inr (λ e. c.if-n-few.true (first ∙ e ∙ sym second))) c.ends-then-n-few.ensures
-
-pub returns-then-n-eq0 : goal.returns-then-n-eq0
-returns-then-n-eq0 c d =
-    let first = c.few-n.ensures
-    ∙ ap (λ (n : ℕ). min (n % 16) 6) c.word.ensures in
-    let second = c.few.ensures ∙ ap (λ (n : ℕ). min n 6) c.word-4.ensures in
-    cong-empty _ _ _ _ d _ c.requires
-    (sym c.word-2.ensures ∙ c.if-word.false ∙ c.word-3.ensures) (sym first ∙ c.if-n-few.false ∙ second)
-    (sym first ∙ c.if-n-eq0.true) c.ends-then-n-eq0.ensures
 
 pub returns : goal.returns
 returns c d =
-    let first = c.few-n.ensures
-    ∙ ap (λ (n : ℕ). min (n % 16) 6) c.word.ensures in
-    let second = c.few.ensures ∙ ap (λ (n : ℕ). min n 6) c.word-4.ensures in
-    cong-asked _ _ _ _ d _ c.requires (sym c.word-2.ensures
-    ∙ c.if-word.false ∙ c.word-3.ensures) (sym first ∙ c.if-n-few.false ∙ second)
-    (λ e. c.if-n-eq0.false (first ∙ e)) c.word-5.ensures c.word-6.ensures
-    c.asks.ensures
+    cong-begins _ _ _ _ d _ c.requires
+    (beside-as c.word-3.ensures (ap (λ (n : ℕ). n % 16) c.word-4.ensures)
+    (c.visit-first.ensures ∙ (λ z. asking-for 0 13 (c.word.ensures z) (c.word-2.ensures z))) c.beside.ensures)
