@@ -1,5 +1,7 @@
 -- The laws of the definitions in specs/, and the proofs of its promises.
 pub mod Words
+pub mod Starts
+pub mod Distinct
 pub mod Accepting
 pub mod Promises
 pub mod Signed

@@ -1,7 +1,7 @@
 -- The laws of the passes: what a pass keeps, what it makes less, and what the masks are once nothing grows.
 -- Assumes nothing.
 use mathlib.Core.Path.{◌≡◌, refl, ap, sym, ◌∙◌, subst}
-use mathlib.Core.Bool.{Bool, true, false, not, ◌||◌, true≢false, false≢true}
+use mathlib.Core.Bool.{Bool, true, false, not, ◌||◌, true≢false, false≢true, or_assoc}
 use mathlib.Core.Logic.{◌≢◌, ◌⊎◌, inl, inr, ⊎_elim}
 use mathlib.Core.List.{List, [], ◌∷◌}
 use Prim.Native.Nat.{ℕ, zero, suc, ◌+◌, ◌-◌, ◌^◌, ◌≤◌, ◌<◌}
@@ -281,11 +281,8 @@ module _ (W : ℕ) (t ms : List ℕ) (e : ℕ) where
     unfolding changed
     either_way = ap (λ (n : ℕ). changed W t n ms) last ∙ rw (r, p)
 
-    pub changed-grew : (any : Bool) → g ≡ true → true ≡ any || changed W t e ms
-    changed-grew any h = rw (either_way, h) (sym (or-true any))
-
-    pub changed-same : (any : Bool) → g ≡ false → any || changed W t (e - 1) ms' ≡ any || changed W t e ms
-    changed-same any h = rw (either_way, h)
+    pub changed-turn : (any : Bool) → (any || g) || changed W t (e - 1) ms' ≡ any || changed W t e ms
+    changed-turn any = or_assoc any g (changed W t (e - 1) ms') ∙ ap (λ (b : Bool). any || b) (sym either_way)
 
   pub pass-end : e ≤ 0 → passed W t e ms ≡ ms
   unfolding passed

@@ -14,6 +14,7 @@ mod order;
 pub mod passes;
 
 // Entry e is inside the table and a strategy.
+#[tactic(auto, unfolding(crate::specs::Answered::is_strategy))]
 fn is_strategy(table: &[u32], e: u32) -> bool
     ensures { result ≡ is_strategy table.now e }
 {

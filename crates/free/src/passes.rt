@@ -20,8 +20,7 @@ use words::word;
 fn mask_at(masks: &[u64], x: u32) -> u64
     ensures { result ≡ get_or masks.now x 0 }
 {
-    let i = x as usize;
-    if i < masks.len() { masks[i] } else { 0 }
+    masks.get(x as usize).copied().unwrap_or(0)
 }
 
 // The masks of entry e's operands, joined; e is no SCOPE.
@@ -29,12 +28,9 @@ fn joined(table: &[u32], masks: &[u64], e: u32) -> u64
     requires { operand_count table.now e ≤ 6 }
     ensures { result ≡ joined_operands table.now masks.now e }
 {
-    let n = operand_count(table, e);
-    let mut all: u64 = 0;
-    let mut i: u32 = 0;
-    while i < n {
-        all = all | mask_at(masks, held(table, e, i));
-        i += 1;
+    let mut all = 0;
+    for i in 0..operand_count(table, e) {
+        all |= mask_at(masks, held(table, e, i));
     }
     all
 }
@@ -45,8 +41,7 @@ fn rule(table: &[u32], masks: &[u64], e: u32) -> u64
     ensures { result ≡ ruled ours table.now masks.now e }
 {
     match kind_of(table, e) {
-        SCOPE => mask_at(masks, operand(table, e, operands_from(SCOPE), 0))
-            & (18446744073709551615 - mask(table, e)),
+        SCOPE => mask_at(masks, operand(table, e, operands_from(SCOPE), 0)) & !mask(table, e),
         PVAR => 1 << word(table, e, 1),
         _ => joined(table, masks, e),
     }
@@ -70,12 +65,8 @@ fn pass(table: &[u32], masks: &mut [u64]) -> bool
         × (masks.new ≡ passed ours table.now (rows table.now) masks.old) }
 {
     let mut any = false;
-    let mut e = (table.len() / 8) as u32;
-    while 0 < e {
-        e -= 1;
-        if grow(table, masks, e) {
-            any = true;
-        }
+    for e in (0..(table.len() / 8) as u32).rev() {
+        any |= grow(table, masks, e);
     }
     any
 }

@@ -14,83 +14,52 @@ use checks::refusal::Refusal;
 use checks::signature::{check_entries, check_nodes, signature_fits};
 
 // The lengths, and the mark within the store.
+#[tactic(auto, unfolding(calls::specs::Refused::sizes_fit_by))]
 fn sizes_fit(table: &[u32], store: &[u32], bindings: &[u32], mark: u32) -> bool
     ensures { result ≡ sizes_fit table.now store.now bindings.now mark }
 {
-    if !table_length_fits(table.len()) {
-        return false;
-    }
-    if !store_length_fits(store.len()) {
-        return false;
-    }
-    if bindings.len() != VARIABLES {
-        return false;
-    }
-    mark as usize <= store.len() / 8
+    table_length_fits(table.len())
+        && store_length_fits(store.len())
+        && bindings.len() == VARIABLES
+        && mark as usize <= store.len() / 8
 }
 
 // The start is a strategy of the table.
+#[tactic(auto, unfolding(calls::specs::Refused::is_start))]
 fn is_start(table: &[u32], start: u32) -> bool
     ensures { result ≡ is_start table.now start }
 {
-    if table.len() / 8 <= start as usize {
-        return false;
-    }
-    let sort = sort_of(kind_of(table, start));
-    let Sort::Strategy = sort else {
-        return false;
-    };
-    true
+    (start as usize) < table.len() / 8 && sort_of(kind_of(table, start)) == Sort::Strategy
 }
 
 // Every subject is below the mark.
 fn subjects_below(subjects: &[u32], mark: u32) -> bool
     ensures { result ≡ subjects_below subjects.now mark }
 {
-    let mut j: usize = 0;
-    while j < subjects.len() {
-        if mark <= subjects[j] {
-            return false;
-        }
-        j += 1;
-    }
-    true
+    subjects.iter().all(|subject| *subject < mark)
 }
 
-// The start is a strategy of the table, the subject lies below the mark, and so do the bindings.
-pub fn start_fits(table: &[u32], bindings: &[u32], mark: u32, start: u32, subject: u32) -> bool
-    ensures { result ≡ start_fits table.now bindings.now mark start subject }
-{
-    if !is_start(table, start) {
-        return false;
-    }
-    if mark <= subject {
-        return false;
-    }
-    bindings_below(bindings, mark)
-}
-
-// The same for a list of subjects.
+// The start is a strategy of the table, every subject lies below the mark, and so do the bindings.
+#[tactic(auto, unfolding(calls::specs::Refused::starts_fit))]
 pub fn starts_fit(table: &[u32], bindings: &[u32], mark: u32, start: u32, subjects: &[u32]) -> bool
     ensures { result ≡ starts_fit table.now bindings.now mark start subjects.now }
 {
-    if !is_start(table, start) {
-        return false;
-    }
-    if !subjects_below(subjects, mark) {
-        return false;
-    }
-    bindings_below(bindings, mark)
+    is_start(table, start) && subjects_below(subjects, mark) && bindings_below(bindings, mark)
+}
+
+// The same for one subject.
+#[tactic(auto, using(calls::proofs::Starts::starts_fit_one))]
+pub fn start_fits(table: &[u32], bindings: &[u32], mark: u32, start: u32, subject: u32) -> bool
+    ensures { result ≡ start_fits table.now bindings.now mark start subject }
+{
+    starts_fit(table, bindings, mark, start, &[subject])
 }
 
 // A lent signature fits; where none is lent there is nothing to fit.
 fn lent_fits(signature: Option<&[u32]>) -> bool
     ensures { result ≡ lent_fits (lent_signature signature.entry) }
 {
-    match signature {
-        Some(words) => signature_fits(words),
-        None => true,
-    }
+    signature.is_none_or(|words| signature_fits(words))
 }
 
 // The entries and the nodes below the mark obey a lent signature.

@@ -1,68 +1,67 @@
--- `marshtrundle::refusals::words_refusal` meets its contract: the sizes, the table, the store, the signature. Assumes nothing.
-use mathlib.Core.Path.{◌≡◌, ap, sym, ◌∙◌}
-use borrow.Author.Rules.{rules}
-use borrow.Author.Tests.{eq-eqb, ne_eqb, not-true, not-false}
+-- `refusals::check_words` meets its contract: the sizes, the table, the store, the signature. Assumes nothing.
+use Rattle.std.proofs.Common.{ap, sym}
+use Rattle.std.proofs.lemmas.Result.{err_from_is_err_and}
 use Rattle.checks.specs.Kinds.{ours}
 use Rattle.checks.specs.Checked.{Checked}
+use Rattle.checks.proofs.Numbers.{answer-some}
 use Rattle.checks.proofs.Promises.{table_passes}
 use Rattle.calls.specs.Refused.{words_refused_by}
-use Rattle.refusals.proofs.words_refusal.Goals as goal
+use Rattle.refusals.proofs.check_words.Goals as goal
+use Rattle.refusals.proofs.check_words.Goals.{then-not-sizes_fit-via-then-not-sizes_fit, then-not-sizes_fit-via-else-not-sizes_fit+then-not-lent_fits}
 
 pub returns-then-not-sizes_fit : goal.returns-then-not-sizes_fit
 unfolding words_refused_by
-returns-then-not-sizes_fit c = rw (← c.sizes_fit.ensures, not-true c.sizes_fit.result c.if-not-sizes_fit.true-raw)
+returns-then-not-sizes_fit c =
+    elim c.then-not-sizes_fit.branch [
+      | then-not-sizes_fit-via-then-not-sizes_fit w ↦ rw (← c.sizes_fit.ensures, w.if-not-sizes_fit.true)
+      | then-not-sizes_fit-via-else-not-sizes_fit+then-not-lent_fits w ↦
+          rw (← c.sizes_fit.ensures, w.if-not-sizes_fit.false, ← w.lent_fits.ensures, w.if-not-lent_fits.true)
+    ]
 
-pub returns-then-not-lent_fits : goal.returns-then-not-lent_fits
+pub returns-in_err-check_table : goal.returns-in_err-check_table
 unfolding words_refused_by
-returns-then-not-lent_fits c =
+returns-in_err-check_table c =
+    let p = err_from_is_err_and c.from_residual.result c.from_residual.ensures.1 in
     rw (
+      p.1,
+      p.2,
       ← c.sizes_fit.ensures,
-      not-false c.sizes_fit.result c.if-not-sizes_fit.false-raw,
+      c.if-not-sizes_fit.false,
       ← c.lent_fits.ensures,
-      not-true c.lent_fits.result c.if-not-lent_fits.true-raw,
+      c.if-not-lent_fits.false,
+      ← c.in_err-check_table.ensures,
+      answer-some _,
     )
 
-pub returns-then-entry-ne0 : goal.returns-then-entry-ne0
+pub returns-in_err-check_store : goal.returns-in_err-check_store
 unfolding words_refused_by
-returns-then-entry-ne0 c =
+returns-in_err-check_store c =
+    let r = c.from_residual-in_err-check_store in
+    let p = err_from_is_err_and r.result r.ensures.1 in
     rw (
+      p.1,
+      p.2,
       ← c.sizes_fit.ensures,
-      not-false c.sizes_fit.result c.if-not-sizes_fit.false-raw,
+      c.if-not-sizes_fit.false,
       ← c.lent_fits.ensures,
-      not-false c.lent_fits.result c.if-not-lent_fits.false-raw,
-      ← c.check_table-entry.ensures,
-      ne_eqb _ _ c.if-entry-ne0.true,
+      c.if-not-lent_fits.false,
+      ← c.in_ok-check_table.ensures,
+      ← c.in_err-check_store.ensures,
+      answer-some _,
     )
 
-pub returns-then-node-ne0 : goal.returns-then-node-ne0
-unfolding words_refused_by
-returns-then-node-ne0 c =
-    rw (
-      ← c.sizes_fit.ensures,
-      not-false c.sizes_fit.result c.if-not-sizes_fit.false-raw,
-      ← c.lent_fits.ensures,
-      not-false c.lent_fits.result c.if-not-lent_fits.false-raw,
-      ← c.check_table-entry.ensures,
-      eq-eqb _ _ c.if-entry-ne0.false,
-      ← c.check_store-node.ensures,
-      ne_eqb _ 0 c.if-node-ne0.true,
-    )
-
-pub obeyed-requires : goal.obeyed-requires
-obeyed-requires c =
-    ((table_passes ours _).0 (ap (λ (r : Checked). r.answer) (sym c.check_table-entry.ensures) ∙ c.if-entry-ne0.false)).0.most
+pub check_obeyed-requires : goal.check_obeyed-requires
+check_obeyed-requires c = ((table_passes ours _).0 (ap (λ (r : Checked). r.answer) (sym c.in_ok-check_table.ensures))).0.most
 
 pub returns : goal.returns
 unfolding words_refused_by
 returns c =
     rw (
       ← c.sizes_fit.ensures,
-      not-false c.sizes_fit.result c.if-not-sizes_fit.false-raw,
+      c.if-not-sizes_fit.false,
       ← c.lent_fits.ensures,
-      not-false c.lent_fits.result c.if-not-lent_fits.false-raw,
-      ← c.check_table-entry.ensures,
-      eq-eqb _ _ c.if-entry-ne0.false,
-      ← c.check_store-node.ensures,
-      eq-eqb _ 0 c.if-node-ne0.false,
+      c.if-not-lent_fits.false,
+      ← c.in_ok-check_table.ensures,
+      ← c.in_ok-check_store.ensures,
     )
-    c.obeyed.ensures
+    c.check_obeyed.ensures
