@@ -90,9 +90,6 @@ fn check_operands(table: &[u32], e: u32, k: u32, n: u32) -> Result<(), Fault>
     requires { (k ≡ kind_of table.now e) × ((n ≡ operand_count table.now e) × ((k ≤ 19) × (operands_from_by ours k + n ≤ 8))) }
     ensures { fault_of result ≡ operands_fault_by ours table.now e }
 {
-    if n == 0 {
-        return Ok(());
-    }
     let sort = takes(k);
     let from = operands_from(k);
     let mut sorted = Ok(());

@@ -6,10 +6,9 @@ use Prim.Native.Nat.{ℕ, ◌+◌, ◌≤◌, ◌<◌}
 use native.Mathlib.Nat.{sub-zero}
 use native.Mathlib.Omega.{arith}
 use Rattle.std.specs.Prelude.{if◌then◌else◌}
-use Rattle.words.specs.Tests.{every}
 use Rattle.words.proofs.Tests.{every-turn, every-stop, every-end}
 use Rattle.checks.specs.Kinds.{ours, operands_from_by}
-use Rattle.checks.specs.Good.{kind_of, operand_count, operand_by, placed_for, sorted_for, operand_placed_by, operand_sorted_by, operands_fault_by}
+use Rattle.checks.specs.Good.{kind_of, operand_by, placed_for, sorted_for, operand_placed_by, operand_sorted_by, operands_fault_by}
 use Rattle.checks.specs.Numbers.{fault_of}
 use Rattle.checks.proofs.entries.check_operands.Goals as goal
 use Rattle.checks.proofs.entries.check_operands.Goals.{else-not-operand_sorted, then-not-operand_sorted}
@@ -46,12 +45,6 @@ placed-is t e k o i p q = rw (p, q)
 sorted-is : (t : List ℕ) (e k o i : ℕ) → k ≡ kind_of t e → o ≡ operand_by ours t e i → sorted_for t k o ≡ operand_sorted_by ours t e i
 unfolding operand_sorted_by
 sorted-is t e k o i p q = rw (p, q)
-
-pub returns-then-n-eq0 : goal.returns-then-n-eq0
-unfolding operands_fault_by every
-returns-then-n-eq0 c =
-    let n : operand_count c.args.table.now c.args.e ≡ 0 = sym c.requires.1.0 ∙ c.if-n-eq0.true in
-    rw n
 
 pub takes-sort-requires : goal.takes-sort-requires
 takes-sort-requires c = c.requires.1.1.0
