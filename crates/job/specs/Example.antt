@@ -6,7 +6,7 @@ use Rattle.text.specs.Text.{parts, valued, number_of, numbers_of, digits}
 use Rattle.text.specs.Written.{numbers_text}
 use Rattle.job.specs.Lines.{Line, letter_of, name_of, job_fits, entry_fits, node_fits, binding_fits, fits, entry_numbers, line_of, entry_row, node_row}
 use Rattle.job.specs.Job.{bad, zeros, admitted, headed, table_with, store_with, bindings_with, with, read_lines, meant, parsed_of, table_of, store_of}
-use Rattle.job.specs.declared.Parsed.TheVariants as told
+use Rattle.job.specs.Job as told
 use Rattle.job.specs.Written.{name_text, entry_text, line_text, written}
 use Rattle.job.specs.Answer.{node_shown, node_numbers, node_lines, binding_line, binding_lines, shown, answer_line, answered}
 use Rattle.words.specs.Words.{put_row}

@@ -7,9 +7,18 @@ use Rattle.checks.specs.Kinds.{variables}
 use Rattle.words.specs.Words.{put_row}
 use Rattle.text.specs.Text.{parts}
 use Rattle.job.specs.Lines.{Line, line_of, words, upper, entry_row, node_row}
-use Rattle.job.specs.declared.Heading.{Heading}
-use Rattle.job.specs.declared.Parsed.{Parsed}
-use Rattle.job.specs.declared.Parsed.TheVariants as told
+
+-- what the lines so far say: how far the order has come, the rows so far, the least variable that may come next, and the numbers of
+-- line 1
+pub record Heading : Type 0 where
+  pub section : ℕ
+  pub entries : ℕ
+  pub nodes : ℕ
+  pub variable : ℕ
+  pub units : ℕ
+  pub start : ℕ
+  pub subject : ℕ
+  pub room : ℕ
 
 -- what is read so far: the numbers of the heading, and the words
 pub record Reading : Type 0 where
@@ -109,10 +118,15 @@ unfoldable pub meant : List ℕ → Meant
 unfolding read_lines
 meant s = if ltb 60000 (length s) then bad 0 else read_lines unread 1 (parts 10 s)
 
+-- a job's heading, or the number of the first bad line
+pub data Parsed : Type 0 where
+  Bad : ℕ → Parsed
+  Read : Heading → Parsed
+
 -- what the code has read and the words of its arrays; a bad text leaves zeros
 abbrev pub parsed_of : Meant → Parsed
-parsed_of (bad n) = told.Bad n
-parsed_of (good g) = told.Read g.heading
+parsed_of (bad n) = Bad n
+parsed_of (good g) = Read g.heading
 
 abbrev pub table_of : Meant → List ℕ
 table_of (bad n) = zeros 4096
@@ -128,5 +142,5 @@ bindings_of (good g) = g.bindings
 
 -- what the code gives and leaves in its arrays; of a bad text, the line alone
 abbrev pub Holds : Meant → Parsed → List ℕ → List ℕ → List ℕ → Type 0
-Holds (bad n) o t s b = o ≡ told.Bad n
-Holds (good g) o t s b = (o ≡ told.Read g.heading) × (t ≡ g.table) × (s ≡ g.store) × (b ≡ g.bindings)
+Holds (bad n) o t s b = o ≡ Bad n
+Holds (good g) o t s b = (o ≡ Read g.heading) × (t ≡ g.table) × (s ≡ g.store) × (b ≡ g.bindings)

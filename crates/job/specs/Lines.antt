@@ -5,7 +5,6 @@ use Rattle.std.proofs.Math.Option.{Option, none, some}
 use Rattle.checks.specs.Kinds.{variables}
 use Rattle.text.specs.Text.{one_word, two_words, parts, up_to, number_of, in_front, numbers_of, eight}
 use Rattle.text.specs.Lines.{line_end}
-use Rattle.job.specs.declared.Taken.{Taken}
 
 pub record Line : Type 0 where
   pub name : ℕ
@@ -96,7 +95,14 @@ node_row n vs =
     get_or vs 0 0 ∷ (n - 1)
     ∷ get_or vs 1 0 ∷ get_or vs 2 0 ∷ get_or vs 3 0 ∷ get_or vs 4 0 ∷ get_or vs 5 0 ∷ get_or vs 6 0 ∷ []
 
--- a line as the code holds it, with the place after it; name 4 is a bad line
+-- a line as it is held, with the place after it; name 4 is a bad line
+pub record Taken : Type 0 where
+  pub name : ℕ
+  pub count : ℕ
+  pub at : List ℕ
+  pub high : ℕ
+  pub next : ℕ
+
 abbrev pub no_line : ℕ → Taken
 no_line next = record { name = 4; count = 0; at = replicate 8 0; high = 0; next = next }
 

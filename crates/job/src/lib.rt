@@ -5,22 +5,37 @@ pub mod answer;
 pub mod lines;
 pub mod read;
 
-// A line of a job, its numbers and the place after it. The name is 0 to 3 for job, e, n and b; 4 is a bad line. Of an argument of two
-// words `at` has the lower one.
+use text::Numbers;
+
+// What a line is: `job`, `e`, `n` or `b`.
+#[derive(Clone, Copy, PartialEq, Eq)]
+pub enum Name {
+    Job,
+    Entry,
+    Node,
+    Binding,
+}
+
+// A line of a job. Of an argument of two words `numbers` has the lower one, and `high` is the upper one.
+#[derive(Clone, Copy)]
+pub struct Line {
+    pub name: Name,
+    pub numbers: Numbers,
+    pub high: u32,
+}
+
+// The line that begins at a place, or none where it is bad, and the place after it.
 #[derive(Clone, Copy)]
 pub struct Taken {
-    pub name: u32,
-    pub count: u32,
-    pub at: [u32; 8],
-    pub high: u32,
+    pub line: Option<Line>,
     pub next: usize,
 }
 
-// What the lines so far say: how far the order has come, the rows so far, the least variable that may come next, and the
+// What the lines so far say: the name of the last one, the rows so far, the least variable that may come next, and the
 // numbers of line 1.
 #[derive(Clone, Copy)]
 pub struct Heading {
-    pub section: u32,
+    pub last: Option<Name>,
     pub entries: u32,
     pub nodes: u32,
     pub variable: u32,
@@ -30,9 +45,6 @@ pub struct Heading {
     pub room: u32,
 }
 
-// A job, or the number of the first bad line.
-#[derive(Clone, Copy)]
-pub enum Parsed {
-    Bad(u32),
-    Read(Heading),
-}
+// The number of the first bad line of a text that is no job.
+#[derive(Clone, Copy, PartialEq, Eq)]
+pub struct BadLine(pub u32);

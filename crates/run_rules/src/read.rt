@@ -1,8 +1,8 @@
 // The `e` lines that a text begins with.
 ghost use Rattle.std.specs.Prelude.{◌≡◌, ◌≤◌, length};
 
+use job::Name;
 use job::lines::line_at;
-use job::read::entry_row;
 use words::put_row;
 
 // How many entries there are, and where the text goes on with rules.
@@ -20,14 +20,15 @@ pub(crate) fn read_entries(text: &[u8], table: &mut [u32]) -> Base
 {
     let mut at: usize = 0;
     for used in 0..4096 {
-        let line = line_at(text, at);
-        if line.name != 1 {
+        let taken = line_at(text, at);
+        let Some(line) = taken.line else {
+            return Base { used, rules: at };
+        };
+        if line.name != Name::Entry {
             return Base { used, rules: at };
         }
-        let numbers = line.at;
-        let row = entry_row(line.count, numbers, line.high);
-        put_row(table, used, row);
-        at = line.next;
+        put_row(table, used, line.entry_row());
+        at = taken.next;
     }
     Base {
         used: 4096,

@@ -11,6 +11,8 @@ use borrow.Author.Tests.{eq-eqb, ne_eqb}
 use Rattle.text.specs.Text.{parts, up_to, one_word, valued, number_of, in_front, numbers_of, eight}
 use Rattle.text.specs.Held.{numbers_held}
 use Rattle.text.specs.declared.Numbers.{Numbers}
+use Rattle.std.specs.Prelude as std
+use Rattle.std.specs.Prelude.{Some}
 use Rattle.text.proofs.Parts.{parts-on, parts-end, parts_first, up_to-take, length-up_to, up_to-stops}
 
 -- An empty field is no number.
@@ -149,10 +151,10 @@ unfolding numbers_of
 numbers-end line i k vs l = rw (parts-end 9 line i l) (ap some (append-nil vs))
 
 -- Eight places that hold the numbers so far are the numbers held.
-pub numbers-held : (at : List ℕ) (n : ℕ) → Filled at n → n ≤ 8 → record { count = n; at = at } ≡ numbers_held (some (take n at))
+pub numbers-held : (at : List ℕ) (n : ℕ) → Filled at n → n ≤ 8 → Some (record { count = n; at = at }) ≡ numbers_held (some (take n at))
 numbers-held at n filled l =
     ap (λ (k : ℕ). made k at) (sym (filled-length at n filled l))
     ∙ ap (made (length (take n at))) (filled-eight at n filled l)
   where
-    made : ℕ → List ℕ → Numbers
-    made k xs = record { count = k; at = xs }
+    made : ℕ → List ℕ → std.Option Numbers
+    made k xs = Some (record { count = k; at = xs })

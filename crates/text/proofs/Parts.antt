@@ -6,11 +6,15 @@ use mathlib.Core.Option.{none, some}
 use Prim.Native.Nat.{ℕ, suc, ◌+◌, ◌-◌, ◌*◌, ◌≤◌, ◌<◌}
 use native.Mathlib.Numerals.{add-one}
 use native.Mathlib.Omega.{arith}
-use lib.Dec.{eqb}
+use Rattle.std.proofs.lemmas.Bool.Decides.{nat_tests}
+use lib.Dec.{eqb, ltb}
 use lib.ListN.{length, get_or, take, drop, drop_of_length-le}
 use lib.Seq.{drop-cons}
-use borrow.Author.Tests.{eq-eqb, ne_eqb, lt-ltb, le-ltb, eqb-true}
-use Rattle.std.specs.Prelude.{if◌then◌else◌}
+use borrow.Author.Tests.{eq-eqb, ne_eqb, lt-ltb, le-ltb, eqb-true, ltb-false}
+use Rattle.std.specs.Prelude.{if◌then◌else◌, cond}
+use Rattle.std.specs.List.{position_or_len}
+use Rattle.core.specs.Char.{is_ascii_digit}
+use Rattle.std.proofs.lemmas.List.Recursion.{is_position_or_len}
 use Rattle.text.specs.Text.{grown, parts, up_to, valued}
 
 -- A text from place i on is its byte there and the rest.
@@ -94,15 +98,24 @@ module _ (c : ℕ) where
       go true e h l = eqb-true b c e
       go false e h l = h (omega arith)
 
+-- From 48 to 57 a byte is a digit.
+no-digit : (b : ℕ) → is_ascii_digit b ≡ false → 48 ≤ b → b ≤ 57 → ⊥
+no-digit b h lo hi = grind (arith, nat_tests)
+
 module _ (m : ℕ) (f : List ℕ) (i v : ℕ) (l : i < length f) where
   -- No digit: no number.
-  pub valued-low : get_or f i 0 < 48 → valued m v (drop i f) ≡ none
+  pub valued-other : is_ascii_digit (get_or f i 0) ≡ false → valued m v (drop i f) ≡ none
   unfolding valued
-  valued-low h = rw (from-here f i l, lt-ltb _ _ h)
+  valued-other h = rw (from-here f i l) (go (ltb b 48) refl (ltb 57 b) refl)
+    where
+      b : ℕ
+      b = get_or f i 0
 
-  pub valued-high : 48 ≤ get_or f i 0 → 57 < get_or f i 0 → valued m v (drop i f) ≡ none
-  unfolding valued
-  valued-high h n = rw (from-here f i l, le-ltb _ _ h, lt-ltb _ _ n)
+      go : (x : Bool) → ltb b 48 ≡ x → (y : Bool) → ltb 57 b ≡ y
+          → (if x then none else (if y then none else (if ltb m (v * 10 + (b - 48)) then none else valued m (v * 10 + (b - 48)) (drop (i + 1) f)))) ≡ none
+      go true x y z = refl
+      go false x true z = refl
+      go false x false z = absurd (no-digit b h (ltb-false b 48 x) (ltb-false 57 b z))
 
   -- A digit: the number so far and the rest decide, within the limit.
   pub valued-over : 48 ≤ get_or f i 0 → get_or f i 0 ≤ 57 → m < v * 10 + (get_or f i 0 - 48) → valued m v (drop i f) ≡ none
@@ -118,3 +131,15 @@ module _ (m : ℕ) (f : List ℕ) (i v : ℕ) (l : i < length f) where
 pub valued-end : (m : ℕ) (f : List ℕ) (i v : ℕ) → length f ≤ i → valued m v (drop i f) ≡ some v
 unfolding valued
 valued-end m f i v l = rw (drop_of_length-le f l)
+
+-- The part before the first separator is as long as the place of the first separator.
+pub length-up_to-position : (c : ℕ) (s : List ℕ) → length (up_to c s) ≡ position_or_len (λ (b : ℕ). eqb b c) s
+unfolding up_to
+length-up_to-position c = is_position_or_len (λ (s : List ℕ). length (up_to c s)) (λ (b : ℕ). eqb b c) refl step
+  where
+    step : (b : ℕ) (s : List ℕ) → length (up_to c (b ∷ s)) ≡ cond (eqb b c) 0 (1 + length (up_to c s))
+    step b s = go (eqb b c)
+      where
+        go : (q : Bool) → length (if q then [] else b ∷ up_to c s) ≡ cond q 0 (1 + length (up_to c s))
+        go true = refl
+        go false = omega arith

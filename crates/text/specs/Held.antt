@@ -10,7 +10,7 @@ abbrev pub value_of : std.Option ℕ → Option ℕ
 value_of (std.Some v) = some v
 value_of std.None = none
 
--- numbers: their count, 9 for fields that are not numbers or too many, and eight places
-abbrev pub numbers_held : Option (List ℕ) → Numbers
-numbers_held none = record { count = 9; at = replicate 8 0 }
-numbers_held (some vs) = record { count = length vs; at = eight vs }
+-- numbers: their count and eight places, or none
+abbrev pub numbers_held : Option (List ℕ) → std.Option Numbers
+numbers_held none = std.None
+numbers_held (some vs) = std.Some (record { count = length vs; at = eight vs })

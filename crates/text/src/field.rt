@@ -11,14 +11,10 @@ pub fn next_at(s: &[u8], from: usize, c: u8) -> usize
     requires { from ≤ length s.now }
     ensures { result ≡ from + length (up_to c (drop from s.now)) }
 {
-    let mut i = from;
-    while i < s.len() {
-        if s[i] == c {
-            return i;
-        }
-        i += 1;
+    match s[from..].iter().position(|b| *b == c) {
+        Some(k) => from + k,
+        None => s.len(),
     }
-    i
 }
 
 // The number of digits, the first of which is no zero.
@@ -27,21 +23,15 @@ fn digits(field: &[u8], most: u64) -> Option<u64>
     ensures { value_of result ≡ valued most 0 field.now }
 {
     let mut value: u64 = 0;
-    let mut i = 0;
-    while i < field.len() {
-        let b = field[i];
-        if b < 48 {
+    for b in field {
+        if !b.is_ascii_digit() {
             return None;
         }
-        if 57 < b {
-            return None;
-        }
-        let digit = (b - 48) as u64;
+        let digit = u64::from(*b - b'0');
         if (most - digit) / 10 < value {
             return None;
         }
         value = value * 10 + digit;
-        i += 1;
     }
     Some(value)
 }
@@ -51,28 +41,24 @@ pub fn number_within(field: &[u8], most: u64) -> Option<u64>
     requires { 9 ≤ most }
     ensures { value_of result ≡ number_of most field.now }
 {
-    if field.len() == 0 {
-        return None;
+    match field {
+        [] => None,
+        [first, ..] if *first != b'0' => digits(field, most),
+        [_] => Some(0),
+        _ => None,
     }
-    if field[0] != 48 {
-        return digits(field, most);
-    }
-    if field.len() == 1 {
-        return Some(0);
-    }
-    None
 }
 
 // The number of a field, of one word.
 pub fn number(field: &[u8]) -> Option<u32>
     ensures { value_of result ≡ number_of one_word field.now }
 {
-    let v = number_within(field, 4294967295)?;
+    let v = number_within(field, u64::from(u32::MAX))?;
     Some(v as u32)
 }
 
-// The numbers of a line from a tab, or the end, on.
-pub fn numbers(line: &[u8], from: usize) -> Numbers
+// The numbers of a line from a tab, or the end, on; none where a field is no number, or there are more than eight.
+pub fn numbers(line: &[u8], from: usize) -> Option<Numbers>
     requires { (from ≤ length line.now) × (from < length line.now → get_or line.now from 0 ≡ 9) }
     ensures { result ≡ numbers_held (numbers_of 8 (tail (parts 9 (drop from line.now)))) }
 {
@@ -81,23 +67,13 @@ pub fn numbers(line: &[u8], from: usize) -> Numbers
     let mut i = from;
     while i < line.len() {
         if 8 <= count {
-            return Numbers {
-                count: 9,
-                at: [0u32; 8],
-            };
+            return None;
         }
-        let start = i + 1;
-        let end = next_at(line, start, 9);
-        let field = number(&line[start..end]);
-        let Some(v) = field else {
-            return Numbers {
-                count: 9,
-                at: [0u32; 8],
-            };
-        };
+        let end = next_at(line, i + 1, b'\t');
+        let v = number(&line[i + 1..end])?;
         at[count as usize] = v;
         count += 1;
         i = end;
     }
-    Numbers { count, at }
+    Some(Numbers { count, at })
 }

@@ -7,7 +7,8 @@ pub mod line;
 pub mod reader;
 pub mod write;
 
-// The numbers of a line's fields after its first: how many, or 9 for fields that are none or too many; then zeros.
+// The numbers of a line's fields after its first: how many, and then zeros.
+// As it is: the library uses no heap, so the numbers stand in an array of fixed length with their count.
 #[derive(Clone, Copy)]
 pub struct Numbers {
     pub count: u32,

@@ -4,8 +4,7 @@ use Rattle.std.specs.Prelude.{◌≡◌, List, [], ℕ, ◌*◌, ◌≤◌, leng
 use Rattle.meaning.specs.Store.{Input}
 use Rattle.meaning.specs.Answer.{Returned}
 use Rattle.calls.specs.Run.{input, run_of}
-use Rattle.job.specs.declared.Heading.{Heading}
-use Rattle.job.specs.Job.{Reading, Meant, bad, good, meant}
+use Rattle.job.specs.Job.{Heading, Reading, Meant, bad, good, meant}
 use Rattle.text.specs.Written.{Put}
 use Rattle.job.specs.Answer.{answered}
 

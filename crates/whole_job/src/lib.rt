@@ -4,12 +4,14 @@
 ghost use Rattle.std.specs.Prelude.{◌≡◌, ◌≤◌, length};
 ghost use Rattle.checks.specs.Kinds.{variables};
 ghost use Rattle.text.specs.Written.{Put};
+ghost use Rattle.job.specs.Held.{heading_of};
 ghost use Rattle.whole_job.specs.Whole.{input_of, run_text, answer_to, JobAnswered};
 
+use calls::five_numbers;
 use checks::kinds::VARIABLES;
 use job::answer::answer;
 use job::read::read;
-use job::{Heading, Parsed};
+use job::{BadLine, Heading};
 use running::run;
 
 // Runs what a job hands over, and writes what comes back.
@@ -21,12 +23,13 @@ fn answer_run(
     out: &mut [u8],
 ) -> usize
     requires { (length out.old ≡ 82944) × (length store.old ≤ 8192) × (length bindings.old ≡ variables) × (h.nodes ≤ 1024) }
-    ensures { Put out.old 0 (run_text (input_of h table.now store.old bindings.old)) out.new result }
+    ensures { Put out.old 0 (run_text (input_of (heading_of h) table.now store.old bindings.old)) out.new result }
 {
-    let r = run(table, store, bindings, h.nodes, h.start, h.subject, h.units);
-    answer(
-        out, r.answer, r.place, r.subject, r.mark, r.units, store, bindings,
-    )
+    let ran = run(
+        table, store, bindings, h.nodes, h.start, h.subject, h.units, None,
+    );
+    let five = five_numbers(ran, h.subject, h.nodes);
+    answer(out, five, store, bindings)
 }
 
 // The answer to a text, by way of the arrays that its words are read into.
@@ -40,12 +43,11 @@ fn answer_in(
     requires { (length table.old ≡ 4096) × (length store.old ≡ 8192) × (length bindings.old ≡ variables) × (length out.old ≡ 82944) }
     ensures { Put out.old 0 (answer_to text.now) out.new result }
 {
-    let o = read(text, table, store, bindings);
-    match o {
-        Parsed::Bad(n) => answer(out, 9, n, 0, 0, 0, store, bindings),
-        Parsed::Read(h) => {
-            let entries = 8 * (h.entries as usize);
-            let room = 8 * (h.room as usize);
+    match read(text, table, store, bindings) {
+        Err(BadLine(n)) => answer(out, [9, n, 0, 0, 0], store, bindings),
+        Ok(h) => {
+            let entries = 8 * h.entries as usize;
+            let room = 8 * h.room as usize;
             answer_run(&table[..entries], &mut store[..room], bindings, h, out)
         }
     }

@@ -1,54 +1,29 @@
-use mathlib.Core.Path.{◌≡◌, refl, sym, ◌∙◌}
-use Prim.Native.Nat.{◌-◌, ◌≤◌}
-use borrow.Author.Rules.{rules}
-use native.Mathlib.Omega.{arith}
-use lib.ListN.{length, drop}
-use Rattle.text.specs.Text.{valued}
-use Rattle.text.proofs.Parts.{valued-low, valued-high, valued-over, valued-on, valued-end}
+-- A byte that is no digit, a number beyond the limit, a digit more, and the end.
+use Rattle.std.proofs.Common.{arith, ◌+◌, ◌-◌, ◌*◌, ◌≤◌, ◌≡◌, get_or, sym, ◌∙◌}
+use Rattle.text.proofs.Parts.{valued-other, valued-over, valued-on, valued-end}
 use Rattle.text.proofs.field.digits.Goals as goal
 
-pub loop-i-init : goal.loop-i-init
-loop-i-init c = (omega arith, omega arith, refl)
-
-pub returns-then-b-lt48 : goal.returns-then-b-lt48
-returns-then-b-lt48 c =
-    sym (valued-low c.args.most c.args.field.now
-    c.loop-i.i c.loop-i.value c.loop-i-test.true c.if-b-lt48.true)
-    ∙ c.loop-i.invariant.2
-
-pub returns-then-b-gt57 : goal.returns-then-b-gt57
-returns-then-b-gt57 c =
-    sym (valued-high c.args.most c.args.field.now
-    c.loop-i.i c.loop-i.value
-    c.loop-i-test.true c.if-b-lt48.false c.if-b-gt57.true) ∙ c.loop-i.invariant.2
-
-pub overflow_sub-most : goal.overflow_sub-most
-overflow_sub-most c = omega (arith, c.requires, c.if-b-lt48.false, c.if-b-gt57.false)
+pub returns-then-not-is_ascii_digit : goal.returns-then-not-is_ascii_digit
+returns-then-not-is_ascii_digit c =
+    sym (valued-other c.args.most c.args.field.now c.loop-b.b-index c.loop-b.value c.loop-b-test.true (sym c.if-not-is_ascii_digit.ensures.value))
+    ∙ c.loop-b.invariant.1
 
 pub returns-then-most-digit : goal.returns-then-most-digit
 returns-then-most-digit c =
-    sym (valued-over c.args.most c.args.field.now c.loop-i.i c.loop-i.value
-    c.loop-i-test.true c.if-b-lt48.false c.if-b-gt57.false
-    (omega (arith, c.if-most-digit.true, c.requires, c.if-b-lt48.false, c.if-b-gt57.false))) ∙ c.loop-i.invariant.2
+    sym (valued-over c.args.most c.args.field.now c.loop-b.b-index c.loop-b.value c.loop-b-test.true
+    c.if-not-is_ascii_digit.ensures.cases.0 c.if-not-is_ascii_digit.ensures.cases.1 (omega arith))
+    ∙ c.loop-b.invariant.1
 
--- the number with one digit more is within the limit
-pub overflow_mul-value : goal.overflow_mul-value
-overflow_mul-value c =
-    omega (arith, c.if-most-digit.false, c.requires, c.ranges.most.fits, c.if-b-lt48.false, c.if-b-gt57.false)
-
-pub overflow_add-value : goal.overflow_add-value
-overflow_add-value c =
-    omega (arith, c.if-most-digit.false, c.requires, c.ranges.most.fits, c.if-b-lt48.false, c.if-b-gt57.false)
-
-pub loop-i-preserved : goal.loop-i-preserved
-loop-i-preserved c = (
-  omega arith,
-  omega (arith, c.if-most-digit.false, c.requires, c.if-b-lt48.false, c.if-b-gt57.false),
-  sym
-      (valued-on c.args.most c.args.field.now c.loop-i.i c.loop-i.value c.loop-i-test.true
-      c.if-b-lt48.false c.if-b-gt57.false (omega (arith, c.if-most-digit.false, c.requires, c.if-b-lt48.false, c.if-b-gt57.false)))
-      ∙ c.loop-i.invariant.2,
-)
+pub loop-b-preserved : goal.loop-b-preserved
+loop-b-preserved c =
+    let d = c.if-not-is_ascii_digit.ensures.cases in
+    let most : c.loop-b.value * 10 + c.from-digit.result ≤ c.args.most = omega arith in
+    let on : c.loop-b.value * 10 + (get_or c.args.field.now c.loop-b.b-index 0 - 48) ≡ c.loop-b.value * 10 + c.from-digit.result = omega arith in (
+      most,
+      rw (← on) (sym (valued-on c.args.most c.args.field.now c.loop-b.b-index c.loop-b.value c.loop-b-test.true d.0 d.1 (omega arith))
+          ∙ c.loop-b.invariant.1),
+    )
 
 pub returns : goal.returns
-returns c = sym (valued-end c.args.most c.args.field.now c.loop-i.i c.loop-i.value c.loop-i-test.false) ∙ c.loop-i.invariant.2
+returns c =
+    sym (valued-end c.args.most c.args.field.now c.loop-b.b-index c.loop-b.value c.loop-b-test.false) ∙ c.loop-b.invariant.1

@@ -1,14 +1,8 @@
-use mathlib.Core.Path.{◌≡◌, refl, sym, ◌∙◌, ap}
-use Prim.Native.Nat.{◌-◌, ◌≤◌}
-use borrow.Author.Rules.{rules}
+use mathlib.Core.Path.{refl, sym, ◌∙◌, ap}
 use native.Mathlib.Omega.{arith}
-use lib.ListN.{length, drop}
-use Prim.Native.Nat.{◌<◌}
-use lib.ListN.{take, get_or}
-use mathlib.Core.List.{tail}
-use Rattle.text.specs.Text.{parts, numbers_of}
-use Rattle.text.proofs.Fields.{Filled, filled_none, filled_more, after, after_none, field_end, numbers-over, numbers-bad, numbers_on, numbers-end, filled-taken, numbers-held}
-use Rattle.text.specs.Held.{value_of, numbers_held}
+use lib.ListN.{take}
+use Rattle.text.proofs.Fields.{filled_none, filled_more, after_none, field_end, numbers-over, numbers-bad, numbers_on, numbers-end, filled-taken, numbers-held}
+use Rattle.text.specs.Held.{numbers_held}
 use Rattle.text.proofs.field.numbers.Goals as goal
 
 pub loop-i-init : goal.loop-i-init
@@ -19,12 +13,6 @@ returns-then-count-ge8 c =
     sym (ap numbers_held (sym c.loop-i.invariant.4
     ∙ numbers-over c.args.line.now c.loop-i.i c.loop-i-test.true
     (c.loop-i.invariant.2 c.loop-i-test.true) _ c.loop-i.count _ refl c.if-count-ge8.true))
-
-pub slice_bounds-number-count : goal.slice_bounds-number-count
-slice_bounds-number-count c =
-    let h : _ = field_end c.args.line.now c.loop-i.i
-    c.loop-i-test.true (c.loop-i.invariant.2 c.loop-i-test.true)
-    c.next_at-end.result c.next_at-end.ensures in omega arith
 
 pub slice_bounds-number-start : goal.slice_bounds-number-start
 slice_bounds-number-start c =
@@ -38,13 +26,13 @@ slice_bounds-number-end c =
     c.loop-i-test.true (c.loop-i.invariant.2 c.loop-i-test.true)
     c.next_at-end.result c.next_at-end.ensures in omega arith
 
-pub returns-in_default : goal.returns-in_default
-returns-in_default c =
-    sym (ap numbers_held
-    (sym c.loop-i.invariant.4
+pub returns-in_err-v : goal.returns-in_err-v
+returns-in_err-v c =
+    c.from_residual.ensures
+    ∙ ap numbers_held (sym (sym c.loop-i.invariant.4
     ∙ numbers-bad c.args.line.now c.loop-i.i c.loop-i-test.true
     (c.loop-i.invariant.2 c.loop-i-test.true) _ c.loop-i.count c.next_at-end.result
-    c.next_at-end.ensures c.if-count-ge8.false (sym (ap value_of c.in_default.is) ∙ c.number-field.ensures)))
+    c.next_at-end.ensures c.if-count-ge8.false c.in_err-v.ensures))
 
 pub loop-i-smaller : goal.loop-i-smaller
 loop-i-smaller c =
@@ -58,12 +46,12 @@ loop-i-preserved c =
       omega arith,
       h.1,
       h.2,
-      filled_more c.loop-i.at c.loop-i.count c.loop-i.invariant.3 c.in-Number.v c.if-count-ge8.false,
-      rw (filled-taken c.loop-i.at c.loop-i.count c.loop-i.invariant.3 c.in-Number.v c.if-count-ge8.false)
+      filled_more c.loop-i.at c.loop-i.count c.loop-i.invariant.3 c.in_ok-v.v c.if-count-ge8.false,
+      rw (filled-taken c.loop-i.at c.loop-i.count c.loop-i.invariant.3 c.in_ok-v.v c.if-count-ge8.false)
           (numbers_on c.args.line.now c.loop-i.i c.loop-i-test.true
           (c.loop-i.invariant.2 c.loop-i-test.true) (take c.loop-i.count c.loop-i.at)
           c.loop-i.count c.next_at-end.result c.next_at-end.ensures c.if-count-ge8.false
-          c.in-Number.v (sym (ap value_of c.in-Number.is) ∙ c.number-field.ensures)
+          c.in_ok-v.v c.in_ok-v.ensures
           ∙ c.loop-i.invariant.4),
     )
 

@@ -1,15 +1,12 @@
 -- `text::field::numbers` meets its contract. The loop's invariant: the numbers so far and the fields from i on decide. Assumes nothing.
-use mathlib.Core.Path.{◌≡◌, refl, sym, ◌∙◌, ap}
+use mathlib.Core.Path.{◌≡◌}
 use Prim.Native.Nat.{◌-◌, ◌≤◌}
-use borrow.Author.Rules.{rules}
-use native.Mathlib.Omega.{arith}
 use lib.ListN.{length, drop}
 use Prim.Native.Nat.{◌<◌}
 use lib.ListN.{take, get_or}
 use mathlib.Core.List.{tail}
 use Rattle.text.specs.Text.{parts, numbers_of}
-use Rattle.text.proofs.Fields.{Filled, filled_none, filled_more, after, after_none, field_end, numbers-over, numbers-bad, numbers_on, numbers-end, filled-taken, numbers-held}
-use Rattle.text.specs.Held.{value_of, numbers_held}
+use Rattle.text.proofs.Fields.{Filled, after}
 use Rattle.text.proofs.field.numbers.Given as goal
 
 abbrev pub invariant-loop-i : goal.invariant-loop-i

@@ -1,5 +1,4 @@
 -- `text::line::line_at` meets its contract, by where the line feed stands. Assumes nothing.
-use borrow.Author.Rules.{rules}
 use native.Mathlib.Omega.{arith}
 use Rattle.text.proofs.Lines.{bounds-fed, bounds-unfed}
 use Rattle.text.proofs.line.line_at.Goals as goal

@@ -1,5 +1,4 @@
 -- `text::write::put_byte` meets its contract. Assumes nothing.
-use borrow.Author.Rules.{rules}
 use Rattle.text.proofs.Put.{put_one}
 use Rattle.text.proofs.write.put_byte.Goals as goal
 

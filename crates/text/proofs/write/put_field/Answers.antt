@@ -1,5 +1,4 @@
 -- `text::write::put_field` meets its contract. Assumes nothing.
-use borrow.Author.Rules.{rules}
 use native.Mathlib.Omega.{arith}
 use Rattle.text.proofs.Put.{put-more}
 use Rattle.text.proofs.write.put_field.Goals as goal
