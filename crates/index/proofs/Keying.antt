@@ -1,6 +1,5 @@
 -- A place lies among the n; equal lists of words. Assumes nothing.
-use Rattle.std.proofs.Common.{◌≡◌, ℕ, zero, suc, ◌+◌, ◌*◌, ◌%◌, ◌<◌, ◌≤◌, Bool, true, false, eqb, List, [], ◌∷◌, length, get_or, set, sym, refl, ap, subst, div-lt_iff_lt-mul, mul-le-mul, mul-lt-mul_of_pos_right, arith, get_or-set_other, ext_get_or, eq-eqb, eqb-true}
-use borrow.Author.Tests.{eqb-false}
+use Rattle.std.proofs.Common.{◌≡◌, ℕ, zero, suc, ◌+◌, ◌*◌, ◌%◌, ◌<◌, ◌≤◌, Bool, true, false, eqb, List, [], ◌∷◌, length, get_or, set, sym, refl, ap, ◌∙◌, ◌↔◌, subst, div-lt_iff_lt-mul, mul-le-mul, mul-lt-mul_of_pos_right, arith, get_or-set_other, ext_get_or, eq-eqb, eqb-true}
 use Rattle.words.specs.Words.{word_at}
 use Rattle.words.proofs.Tests.{and-true}
 use Rattle.meaning.specs.Shared.{eight, alike}
@@ -48,10 +47,6 @@ differ xs ys n = go (alike xs ys) refl
     go true e = absurd (n (alike-equal xs ys e))
     go false e = e
 
--- where one word differs
-pub differ-at : (xs ys : List ℕ) (i : ℕ) → (get_or xs i 0 ≡ get_or ys i 0 → ⊥) → alike xs ys ≡ false
-differ-at xs ys i n = differ xs ys (λ e. n (ap (λ l. get_or l i 0) e))
-
 -- what holds at each of eight numbers
 pub each_of : (P : ℕ → Type 0) → P 0 → P 1 → P 2 → P 3 → P 4 → P 5 → P 6 → P 7 → (i : ℕ) → i < 8 → P i
 each_of P a b c d e f g h zero l = a
@@ -64,15 +59,18 @@ each_of P a b c d e f g h (suc (suc (suc (suc (suc (suc zero)))))) l = g
 each_of P a b c d e f g h (suc (suc (suc (suc (suc (suc (suc zero))))))) l = h
 each_of P a b c d e f g h (suc (suc (suc (suc (suc (suc (suc (suc i)))))))) l = absurd (omega arith)
 
--- where all but the last agree
-pub last-decides : (w r : List ℕ) (k : ℕ) → length r ≡ 8
-    → word_at w k 0 ≡ get_or r 0 0 → word_at w k 1 ≡ get_or r 1 0 → word_at w k 2 ≡ get_or r 2 0 → word_at w k 3 ≡ get_or r 3 0
-    → word_at w k 4 ≡ get_or r 4 0 → word_at w k 5 ≡ get_or r 5 0 → word_at w k 6 ≡ get_or r 6 0
-    → (t : Bool) → eqb (word_at w k 7) (get_or r 7 0) ≡ t → alike (eight w k) r ≡ t
-last-decides w r k l a b c d e f g false h = differ-at (eight w k) r 7 (eqb-false _ _ h)
-last-decides w r k l a b c d e f g true h =
-    let same : eight w k ≡ r = ext_get_or 0 (eight w k) r (sym l) (each_of (λ i. get_or (eight w k) i 0 ≡ get_or r i 0) a b c d e f g (eqb-true _ _ h)) in
-    subst (λ s. alike (eight w k) s ≡ true) same (alike_refl (eight w k))
+-- a Bool that is true just where each of the eight words is the one of r
+pub words-alike : (w r : List ℕ) (k : ℕ) → length r ≡ 8 → (b : Bool) → b ≡ true ↔ ((j : ℕ) → j < 8 → word_at w k j ≡ get_or r j 0) → b ≡ alike (eight w k) r
+words-alike w r k l b h = go b refl
+  where
+    word : (j : ℕ) → j < 8 → get_or (eight w k) j 0 ≡ word_at w k j
+    word = each_of (λ j. get_or (eight w k) j 0 ≡ word_at w k j) refl refl refl refl refl refl refl refl
+
+    go : (t : Bool) → b ≡ t → b ≡ alike (eight w k) r
+    go true e =
+        let same : eight w k ≡ r = ext_get_or 0 (eight w k) r (sym l) (λ j m. word j m ∙ h.0 e j m) in
+        e ∙ sym (subst (λ s. alike (eight w k) s ≡ true) same (alike_refl (eight w k)))
+    go false e = e ∙ sym (differ (eight w k) r (λ s. impossible (let t : b ≡ true = h.1 (λ j m. sym (word j m) ∙ ap (λ l. get_or l j 0) s) in cc)))
 
 -- words from place i on do not touch the rows below
 pub eight-set : (w : List ℕ) (i v k : ℕ) → 8 * k + 8 ≤ i → eight (set w i v) k ≡ eight w k

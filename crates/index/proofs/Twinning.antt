@@ -1,12 +1,12 @@
 -- A store without twins has no two nodes with the same words, and then two nodes are equal terms only where they are one node.
 -- Assumes nothing.
-use Rattle.std.proofs.Common.{◌≡◌, ℕ, zero, suc, ◌+◌, ◌<◌, Bool, true, false, List, replicate, sym, refl, ap, ◌∙◌, subst, true≢false, arith, if◌then◌else◌}
+use Rattle.std.proofs.Common.{◌≡◌, ℕ, zero, suc, ◌+◌, ◌<◌, Bool, true, false, not, Option, Some, None, List, replicate, sym, refl, ap, ◌∙◌, subst, true≢false, arith, if◌then◌else◌}
 use mathlib.Core.Option.{none, some}
+use Rattle.std.specs.Prelude.{is_some}
 use native.Mathlib.Decide.{ℕ_discrete}
 use lib.ListN.{length-replicate, get_or-replicate}
 use Rattle.words.proofs.Tests.{rejected-none}
 use Rattle.checks.specs.Checked.{place_of}
-use Rattle.checks.specs.declared.Found.{Found}
 use Rattle.meaning.specs.Shared.{eight, alike, node_with, Distinct, absent, fresh, twin}
 use Rattle.index.specs.Chains.{Indexed}
 use Rattle.index.proofs.Chaining.{indexed-none}
@@ -30,7 +30,12 @@ distinct w m e j k h l s =
     let b : fresh w k ≡ false = stands w (eight w k) k j h s in
     absurd (true≢false (sym a ∙ b))
 
-pub fresh-by : (w r : List ℕ) (k : ℕ) (f : Found) (t : Bool) → place_of f ≡ node_with w r k → r ≡ eight w k → absent (place_of f) ≡ t → fresh w k ≡ t
+-- what was searched for is absent where nothing was found
+pub absent-some : (f : Option ℕ) → absent (place_of f) ≡ not (is_some f)
+absent-some (Some k) = refl
+absent-some None = refl
+
+pub fresh-by : (w r : List ℕ) (k : ℕ) (f : Option ℕ) (t : Bool) → place_of f ≡ node_with w r k → r ≡ eight w k → absent (place_of f) ≡ t → fresh w k ≡ t
 unfolding fresh
 fresh-by w r k f t a b h = ap absent (ap (λ s. node_with w s k) (sym b) ∙ sym a) ∙ h
 

@@ -12,28 +12,7 @@ use words::word;
 pub fn has(store: &[u32], k: u32, r: [u32; 8]) -> bool
     ensures { result ≡ alike (eight store.now k) r }
 {
-    if word(store, k, 0) != r[0] {
-        return false;
-    }
-    if word(store, k, 1) != r[1] {
-        return false;
-    }
-    if word(store, k, 2) != r[2] {
-        return false;
-    }
-    if word(store, k, 3) != r[3] {
-        return false;
-    }
-    if word(store, k, 4) != r[4] {
-        return false;
-    }
-    if word(store, k, 5) != r[5] {
-        return false;
-    }
-    if word(store, k, 6) != r[6] {
-        return false;
-    }
-    word(store, k, 7) == r[7]
+    (0..8).all(|j| word(store, k, j) == r[j as usize])
 }
 
 // The node below m with these words, in an index of the nodes below `top`. A node from m on is passed over.
@@ -54,10 +33,8 @@ pub(crate) fn find(
     let mut x = index[at + p];
     while x != 0 {
         let k = x - 1;
-        if k < m {
-            if has(store, k, r) {
-                return Some(k);
-            }
+        if k < m && has(store, k, r) {
+            return Some(k);
         }
         x = index[nexts + (k as usize)];
     }

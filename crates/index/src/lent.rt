@@ -6,8 +6,8 @@ ghost use Rattle.meaning.specs.Shared.{node_with, full_for, number_for};
 ghost use Rattle.index.specs.Lent.{Held, built, forgotten, made, Asked};
 
 use crate::chains::{find, link, unlink};
-use crate::key::{eight_words, home_of};
-use words::{clear_from, put_row};
+use crate::key::home_of;
+use words::{put_row, row};
 
 // The nodes below the mark put in, from the first to the last, into an index that is zero.
 pub fn build(lent: &mut [u32], n: u32, mark: u32)
@@ -15,11 +15,9 @@ pub fn build(lent: &mut [u32], n: u32, mark: u32)
     ensures { (lent.new ≡ built n 0 mark lent.old) × Held lent.new n mark }
 {
     let at = 8 * (n as usize);
-    let mut k: u32 = 0;
-    while k < mark {
-        let p = home_of(n, eight_words(lent, k));
+    for k in 0..mark {
+        let p = home_of(n, row(lent, k));
         link(lent, at, n, p, k);
-        k += 1;
     }
 }
 
@@ -29,10 +27,8 @@ fn forget(lent: &mut [u32], n: u32, mark: u32, top: u32)
     ensures { (lent.new ≡ forgotten n mark (top - mark) lent.old) × Held lent.new n mark }
 {
     let at = 8 * (n as usize);
-    let mut k = top;
-    while mark < k {
-        k -= 1;
-        let p = home_of(n, eight_words(lent, k));
+    for k in (mark..top).rev() {
+        let p = home_of(n, row(lent, k));
         unlink(lent, at, n, p, k);
     }
 }
@@ -51,8 +47,7 @@ pub fn ask(lent: &mut [u32], n: u32, mark: u32, top: u32, r: [u32; 8]) -> Node
     ensures { Asked n mark top r lent.old result lent.new }
 {
     let at = 8 * (n as usize);
-    let found = find(lent, lent, at, n, mark, top, r);
-    match found {
+    match find(lent, lent, at, n, mark, top, r) {
         Some(k) => Node::Stands(k),
         None => {
             if n <= mark {

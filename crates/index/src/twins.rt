@@ -6,23 +6,21 @@ ghost use Rattle.meaning.specs.Shared.{twin};
 ghost use Rattle.index.specs.Chains.{Indexed};
 
 use crate::chains::{find, link};
-use crate::key::{eight_words, home_of};
+use crate::key::home_of;
+use words::row;
 
 // The lowest node below the mark with an earlier one's words, by an index that is empty.
 fn twin_by(store: &[u32], index: &mut [u32], n: u32, mark: u32) -> Option<u32>
     requires { Indexed store.now index.old 0 n 0 × (mark ≤ n) }
     ensures { place_of result ≡ twin store.now mark }
 {
-    let mut k: u32 = 0;
-    while k < mark {
-        let r = eight_words(store, k);
-        let found = find(store, index, 0, n, k, k, r);
-        if let Some(_) = found {
+    for k in 0..mark {
+        let r = row(store, k);
+        if find(store, index, 0, n, k, k, r).is_some() {
             return Some(k);
         }
         let p = home_of(n, r);
         link(index, 0, n, p, k);
-        k += 1;
     }
     None
 }

@@ -2,7 +2,7 @@ use Rattle.std.proofs.Common.{◌+◌, get_or, sym, ◌∙◌, subst, arith}
 use Rattle.index.proofs.Keying.{home_below, above_zero}
 use Rattle.index.proofs.Chaining.{Follows, follows-head, follows-less, follows-past, follows_next, follows-found, follows-end}
 use Rattle.index.proofs.chains.find.Goals as goal
-use Rattle.index.proofs.chains.find.Goals.{else-k-m, then-k-m+else-has}
+use Rattle.index.proofs.chains.find.Goals.{else-k-m-via-else-k-m, else-k-m-via-then-k-m+else-has}
 
 pub overflow_add-nexts : goal.overflow_add-nexts
 overflow_add-nexts c = omega (arith, c.requires.0.long)
@@ -99,13 +99,13 @@ loop-x-smaller c =
 
 pub loop-x-preserved : goal.loop-x-preserved
 loop-x-preserved c =
-    elim c.if-k-m.branch [
-      | then-k-m+else-has w ↦ follows_next c.requires.0
+    elim c.else-k-m.branch [
+      | else-k-m-via-then-k-m+else-has w ↦ follows_next c.requires.0
           c.args.r
           c.args.m c.loop-x.x
           (above_zero c.loop-x-test.true) c.loop-x.invariant w.if-k-m.true
           (sym w.has.ensures ∙ w.if-has.false)
-      | else-k-m w ↦ follows-past c.requires.0
+      | else-k-m-via-else-k-m w ↦ follows-past c.requires.0
           c.args.r
           c.args.m c.loop-x.x
           (above_zero c.loop-x-test.true) c.loop-x.invariant w.if-k-m.false

@@ -10,7 +10,7 @@ returns-then-n-mark c =
     asked-full c.args.n c.args.mark
     c.args.top c.args.r
     c.args.lent.now
-    (sym (ap place_of c.in-Nothing.is) ∙ c.find-found.ensures)
+    (sym (ap place_of c.in-None.is) ∙ c.find.ensures)
     c.if-n-mark.true
 
 pub link-requires : goal.link-requires
@@ -19,8 +19,8 @@ link-requires c =
     = search rules in (
       subst (λ l. 8 * c.args.n + c.args.n + c.args.n ≤ length l) (sym c.put_row.ensures)
           (made-long c.args.n c.args.mark c.args.top c.args.r c.args.lent.now
-          (sym (ap place_of c.in-Nothing.is)
-          ∙ c.find-found.ensures)
+          (sym (ap place_of c.in-None.is)
+          ∙ c.find.ensures)
           c.if-n-mark.false eight
           c.forget.new.lent
           c.forget.ensures.0
@@ -29,19 +29,19 @@ link-requires c =
       c.if-n-mark.false,
     )
 
-pub returns-in-At : goal.returns-in-At
-returns-in-At c =
+pub returns-in-Some : goal.returns-in-Some
+returns-in-Some c =
     asked-stands c.args.n
     c.args.mark c.args.top
     c.args.r c.args.lent.now _
-    (sym (ap place_of c.in-At.is) ∙ c.find-found.ensures)
+    (sym (ap place_of c.in-Some.is) ∙ c.find.ensures)
 
 pub returns-else-n-mark : goal.returns-else-n-mark
 returns-else-n-mark c =
     let eight : length c.args.r ≡ 8
     = search rules in
     asked-made c.args.n c.args.mark c.args.top c.args.r c.args.lent.now
-    (sym (ap place_of c.in-Nothing.is) ∙ c.find-found.ensures) c.if-n-mark.false eight
+    (sym (ap place_of c.in-None.is) ∙ c.find.ensures) c.if-n-mark.false eight
     c.forget.new.lent c.forget.ensures.0 c.forget.ensures.1
     c.put_row.new.words c.link.new.index c.home_of-p.result
     c.put_row.ensures c.home_of-p.ensures c.link.ensures

@@ -8,44 +8,37 @@ pub overflow_mul-at : goal.overflow_mul-at
 overflow_mul-at c = omega (arith, c.requires.0.long)
 
 pub loop-k-init : goal.loop-k-init
-loop-k-init c = (omega arith, refl, c.requires.0, ap (λ d. built c.args.n 0 d c.args.lent.now) (omega arith))
+loop-k-init c = (refl, c.requires.0, ap (λ d. built c.args.n 0 d c.args.lent.now) (omega arith))
 
 pub home_of-p-requires : goal.home_of-p-requires
-home_of-p-requires c = c.loop-k.invariant.2.some
+home_of-p-requires c = c.loop-k.invariant.1.some
 
 pub link-requires : goal.link-requires
 link-requires c = (
-  c.loop-k.invariant.2.long,
+  c.loop-k.invariant.1.long,
   place-below
-      c.args.n c.eight_words.result
-      c.home_of-p.ensures c.loop-k.invariant.2.some,
+      c.args.n c.row.result
+      c.home_of-p.ensures c.loop-k.invariant.1.some,
   omega
       (arith, c.loop-k-test.true, c.requires.1),
 )
 
-pub overflow_add-k : goal.overflow_add-k
-overflow_add-k c = omega arith
-
-pub loop-k-smaller : goal.loop-k-smaller
-loop-k-smaller c = omega (arith, c.loop-k-test.true)
-
 pub loop-k-preserved : goal.loop-k-preserved
 loop-k-preserved c =
     let e : c.link.new.index ≡ joined c.args.n c.loop-k.k c.loop-k.lent = joined-so c.args.n
-    c.loop-k.lent c.loop-k.k c.eight_words.result c.home_of-p.result
-    c.link.ensures c.home_of-p.ensures c.eight_words.ensures in
+    c.loop-k.lent c.loop-k.k c.row.result c.home_of-p.result
+    c.link.ensures c.home_of-p.ensures c.row.ensures in
     let h = held-joined c.args.n
     c.loop-k.lent
     c.loop-k.k
-    c.loop-k.invariant.2
+    c.loop-k.invariant.1
     (omega (
       arith,
       c.loop-k-test.true,
       c.requires.1,
     )) in (
-      omega (arith, c.loop-k-test.true),
       ap length e ∙ length-joined c.args.n _ _
-          ∙ c.loop-k.invariant.1,
+          ∙ c.loop-k.invariant.0,
       subst (λ l. Held l c.args.n
           (c.loop-k.k + 1)) (sym e)
           (subst (Held _ c.args.n)
@@ -59,18 +52,18 @@ loop-k-preserved c =
           c.loop-k.k
           c.args.mark
           c.loop-k-test.true)
-          ∙ c.loop-k.invariant.3,
+          ∙ c.loop-k.invariant.2,
     )
 
 pub shape_of-lent : goal.shape_of-lent
-shape_of-lent c = c.loop-k.invariant.1
+shape_of-lent c = c.loop-k.invariant.0
 
 pub returns : goal.returns
 unfolding built
 returns c =
-    let e : c.loop-k.k ≡ c.args.mark = omega (arith, c.loop-k-test.false, c.loop-k.invariant.0) in
+    let e : c.loop-k.k ≡ c.args.mark = omega (arith, c.loop-k-test.false, c.loop-k.auto.k-end) in
     let z : c.args.mark - c.loop-k.k ≡ 0 = omega arith in (
       ap (λ d. built c.args.n c.loop-k.k d c.loop-k.lent) (sym z)
-          ∙ c.loop-k.invariant.3,
-      subst (Held c.loop-k.lent c.args.n) e c.loop-k.invariant.2,
+          ∙ c.loop-k.invariant.2,
+      subst (Held c.loop-k.lent c.args.n) e c.loop-k.invariant.1,
     )

@@ -10,9 +10,6 @@ overflow_mul-at c = omega (arith, c.requires.0.long)
 pub loop-k-init : goal.loop-k-init
 loop-k-init c = (c.requires.1, refl, c.requires.0, refl)
 
-pub overflow_sub-k : goal.overflow_sub-k
-overflow_sub-k c = omega (arith, c.loop-k-test.true)
-
 pub home_of-p-requires : goal.home_of-p-requires
 home_of-p-requires c = c.loop-k.invariant.2.some
 
@@ -20,14 +17,11 @@ pub unlink-requires : goal.unlink-requires
 unlink-requires c = (
   c.loop-k.invariant.2.long,
   place-below
-      c.args.n c.eight_words.result
+      c.args.n c.row.result
       c.home_of-p.ensures c.loop-k.invariant.2.some,
   omega
       (arith, c.loop-k-test.true, c.loop-k.invariant.2.fits),
 )
-
-pub loop-k-smaller : goal.loop-k-smaller
-loop-k-smaller c = omega (arith, c.loop-k-test.true)
 
 pub loop-k-preserved : goal.loop-k-preserved
 loop-k-preserved c =
@@ -38,9 +32,9 @@ loop-k-preserved c =
     parted-so c.args.n
     c.loop-k.lent
     (c.loop-k.k - 1)
-    c.eight_words.result c.home_of-p.result
+    c.row.result c.home_of-p.result
     c.unlink.ensures c.home_of-p.ensures
-    c.eight_words.ensures in
+    c.row.ensures in
     let s : c.loop-k.k
     ≡ suc (c.loop-k.k - 1) =
     omega (arith, c.loop-k-test.true) in

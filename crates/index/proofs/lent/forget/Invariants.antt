@@ -7,7 +7,3 @@ use Rattle.index.proofs.lent.forget.Given as goal
 abbrev pub invariant-loop-k : goal.invariant-loop-k
 invariant-loop-k l =
     (l.mark ≤ l.k) × (length l.lent ≡ length l.initial.lent) × Held l.lent l.n l.k × (forgotten l.n l.mark (l.k - l.mark) l.lent ≡ forgotten l.n l.mark (l.top - l.mark) l.initial.lent)
-
-abbrev pub decreases-loop-k : goal.decreases-loop-k
-decreases-loop-k l =
-    l.k

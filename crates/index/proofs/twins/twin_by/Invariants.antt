@@ -8,8 +8,4 @@ use Rattle.index.proofs.twins.twin_by.Given as goal
 
 abbrev pub invariant-loop-k : goal.invariant-loop-k
 invariant-loop-k l =
-    (l.k ≤ l.mark) × (length l.index ≡ length l.initial.index) × Indexed l.store l.index 0 l.n l.k × (rejected (fresh l.store) l.k (l.mark - l.k) ≡ twin l.store l.mark)
-
-abbrev pub decreases-loop-k : goal.decreases-loop-k
-decreases-loop-k l =
-    l.mark - l.k
+    (length l.index ≡ length l.initial.index) × Indexed l.store l.index 0 l.n l.k × (rejected (fresh l.store) l.k (l.mark - l.k) ≡ twin l.store l.mark)
