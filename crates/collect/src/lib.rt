@@ -11,9 +11,9 @@ use crate::moving::{move_bindings, move_kept};
 use checks::refusal::Refusal;
 use words::clear_from;
 
+mod checking;
 mod marking;
 mod moving;
-mod checking;
 
 // The subject's new number, and the new mark.
 #[derive(Clone, Copy)]

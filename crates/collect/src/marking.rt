@@ -17,13 +17,10 @@ fn mark_roots(bindings: &[u32], work: &mut [u32], subject: u32)
 {
     clear_from(work, 0);
     work[subject as usize] = 1;
-    let mut v: usize = 0;
-    while v < bindings.len() {
-        let bound = bindings[v] as usize;
-        if bound != 0 {
-            work[bound - 1] = 1;
+    for bound in bindings {
+        if *bound != 0 {
+            work[*bound as usize - 1] = 1;
         }
-        v += 1;
     }
 }
 
@@ -32,12 +29,8 @@ fn mark_children(store: &[u32], work: &mut [u32], k: u32)
     requires { (child_count store.now k ≤ 6) × ((i : ℕ) → i < child_count store.now k → child store.now k i < length work.old) }
     ensures { MarksOver work.old (is_child store.now k) work.new }
 {
-    let n = word(store, k, 1);
-    let mut i: u32 = 0;
-    while i < n {
-        let c = held(store, k, i) as usize;
-        work[c] = 1;
-        i += 1;
+    for i in 0..word(store, k, 1) {
+        work[held(store, k, i) as usize] = 1;
     }
 }
 
@@ -53,9 +46,7 @@ pub(crate) fn mark_reached(
     ensures { Flags (length work.old) (kept store.now bindings.now mark subject) work.new }
 {
     mark_roots(bindings, work, subject);
-    let mut k = mark;
-    while 0 < k {
-        k -= 1;
+    for k in (0..mark).rev() {
         if work[k as usize] != 0 {
             mark_children(store, work, k);
         }

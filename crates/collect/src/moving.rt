@@ -15,11 +15,8 @@ fn renumbered_row(store: &[u32], work: &[u32], k: u32) -> [u32; 8]
 {
     let n = word(store, k, 1);
     let mut row = [word(store, k, 0), n, 0, 0, 0, 0, 0, 0];
-    let mut i: u32 = 0;
-    while i < n {
-        let c = held(store, k, i) as usize;
-        row[2 + (i as usize)] = work[c];
-        i += 1;
+    for i in 0..n {
+        row[2 + i as usize] = work[held(store, k, i) as usize];
     }
     row
 }
@@ -29,16 +26,14 @@ pub(crate) fn move_kept(store: &mut [u32], work: &mut [u32], mark: u32) -> u32
     requires { Movable store.old work.old mark }
     ensures { Moved store.old work.old mark result store.new work.new }
 {
-    let mut n: u32 = 0;
-    let mut k: u32 = 0;
-    while k < mark {
+    let mut n = 0;
+    for k in 0..mark {
         if work[k as usize] != 0 {
             let row = renumbered_row(store, work, k);
             put_row(store, n, row);
             work[k as usize] = n;
             n += 1;
         }
-        k += 1;
     }
     n
 }
@@ -48,12 +43,9 @@ pub(crate) fn move_bindings(bindings: &mut [u32], work: &[u32])
     requires { (v k : ℕ) → get_or bindings.old v 0 ≡ suc k → (k < length work.now) × (get_or work.now k 0 < 131072) }
     ensures { bindings.new ≡ map (rebound (λ k. get_or work.now k 0)) bindings.old }
 {
-    let mut v: usize = 0;
-    while v < bindings.len() {
-        let bound = bindings[v] as usize;
-        if bound != 0 {
-            bindings[v] = work[bound - 1] + 1;
+    for bound in bindings.iter_mut() {
+        if *bound != 0 {
+            *bound = work[*bound as usize - 1] + 1;
         }
-        v += 1;
     }
 }

@@ -17,16 +17,14 @@ mark_roots-requires c =
 
 pub loop-k-init : goal.loop-k-init
 loop-k-init c =
-    let a = c.args in (
-      omega arith,
-      pass-begun a.store.now a.bindings.now a.mark a.subject (length a.work.now) c.mark_roots.new.work c.mark_roots.ensures,
-    )
+    let a = c.args in
+    pass-begun a.store.now a.bindings.now a.mark a.subject (length a.work.now) c.mark_roots.new.work c.mark_roots.ensures
 
 pub bounds-work-k : goal.bounds-work-k
 bounds-work-k c =
     let a = c.args in
     let i : Lent = lent a.store.now a.bindings.now a.work.now a.mark a.subject in
-    omega (arith, c.loop-k.invariant.1.long, c.mark_roots.ensures.long, mark-inside i c.requires)
+    omega (arith, c.loop-k.invariant.long, c.mark_roots.ensures.long, mark-inside i c.requires)
 
 pub mark_children-requires : goal.mark_children-requires
 mark_children-requires c =
@@ -34,35 +32,31 @@ mark_children-requires c =
     let i : Lent = lent a.store.now a.bindings.now a.work.now a.mark a.subject in
     let k : ℕ = c.loop-k.k - 1 in (
       few i c.requires k (omega arith),
-      λ j l. omega (arith, below i c.requires k j (omega arith) l, c.loop-k.invariant.1.long, c.mark_roots.ensures.long, mark-inside i c.requires),
+      λ j l. omega (arith, below i c.requires k j (omega arith) l, c.loop-k.invariant.long, c.mark_roots.ensures.long, mark-inside i c.requires),
     )
 
 pub loop-k-preserved-then-work-k-ne0 : goal.loop-k-preserved-then-work-k-ne0
 loop-k-preserved-then-work-k-ne0 c =
     let a = c.args in
-    let i : Lent = lent a.store.now a.bindings.now a.work.now a.mark a.subject in (
-      omega arith,
-      pass-marked a.store.now a.bindings.now a.mark a.subject (length c.mark_roots.new.work) c.loop-k.k c.loop-k.work
-          (omega arith) c.loop-k.invariant.0 (omega (arith, c.mark_roots.ensures.long, mark-inside i c.requires)) c.loop-k.invariant.1
-          c.mark_children.new.work c.if-work-k-ne0.true c.mark_children.ensures,
-    )
+    let i : Lent = lent a.store.now a.bindings.now a.work.now a.mark a.subject in
+    pass-marked a.store.now a.bindings.now a.mark a.subject (length c.mark_roots.new.work) c.loop-k.k c.loop-k.work
+    (omega arith) (omega arith) (omega (arith, c.mark_roots.ensures.long, mark-inside i c.requires)) c.loop-k.invariant
+    c.mark_children.new.work c.if-work-k-ne0.true c.mark_children.ensures
 
 pub loop-k-preserved : goal.loop-k-preserved
 loop-k-preserved c =
     let a = c.args in
-    let i : Lent = lent a.store.now a.bindings.now a.work.now a.mark a.subject in (
-      omega arith,
-      pass-passed a.store.now a.bindings.now a.mark a.subject (length c.mark_roots.new.work) c.loop-k.k c.loop-k.work
-          (omega arith) c.loop-k.invariant.0 (omega (arith, c.mark_roots.ensures.long, mark-inside i c.requires)) c.loop-k.invariant.1
-          c.if-work-k-ne0.false,
-    )
+    let i : Lent = lent a.store.now a.bindings.now a.work.now a.mark a.subject in
+    pass-passed a.store.now a.bindings.now a.mark a.subject (length c.mark_roots.new.work) c.loop-k.k c.loop-k.work
+    (omega arith) (omega arith) (omega (arith, c.mark_roots.ensures.long, mark-inside i c.requires)) c.loop-k.invariant
+    c.if-work-k-ne0.false
 
 pub shape_of-work : goal.shape_of-work
 shape_of-work c =
-    omega (arith, c.loop-k.invariant.1.long, c.mark_roots.ensures.long)
+    omega (arith, c.loop-k.invariant.long, c.mark_roots.ensures.long)
 
 pub returns : goal.returns
 returns c =
     let a = c.args in
     pass-ended a.store.now a.bindings.now a.mark a.subject (length c.mark_roots.new.work) (length a.work.now) c.loop-k.k c.loop-k.work
-    c.mark_roots.ensures.long c.loop-k-test.false c.loop-k.invariant.1
+    c.mark_roots.ensures.long c.loop-k-test.false c.loop-k.invariant

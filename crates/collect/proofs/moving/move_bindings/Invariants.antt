@@ -1,16 +1,8 @@
--- `collect::moving::move_bindings` meets its contract. The loop's invariant: the words before v are moved, and those from v on are
+-- `collect::moving::move_bindings` meets its contract. The loop's invariant: the words so far are moved, and those after them are
 -- as lent. Assumes nothing.
-use mathlib.Core.Logic.{⊎_elim}
-use Prim.Native.Nat.{ℕ, ◌+◌, ◌-◌, ◌≤◌}
-use native.Mathlib.Omega.{arith}
-use lib.ListN.{length, get_or}
-use Rattle.collect.proofs.Rebinding.{Rebinds, rebinds-none, rebinds-set, rebinds-zero, rebinds-all}
+use lib.ListN.{get_or}
+use Rattle.collect.proofs.Rebinding.{Rebinds}
 use Rattle.collect.proofs.moving.move_bindings.Given as goal
 
-abbrev pub invariant-loop-v : goal.invariant-loop-v
-invariant-loop-v l =
-    (l.v ≤ length l.initial.bindings) × Rebinds (λ k. get_or l.work k 0) l.initial.bindings l.v l.bindings
-
-abbrev pub decreases-loop-v : goal.decreases-loop-v
-decreases-loop-v l =
-    length l.initial.bindings - l.v
+abbrev pub invariant-loop-bound : goal.invariant-loop-bound
+invariant-loop-bound l = Rebinds (λ k. get_or l.work k 0) l.initial.bindings l.bound-index l.bindings
