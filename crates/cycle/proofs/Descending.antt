@@ -1,7 +1,8 @@
 -- PATH and ONE: a child is visited, and the node is made again with what the visit gave in the child's place.
 use mathlib.Core.Path.{◌≡◌, refl, ap, sym, ◌∙◌}
 use mathlib.Core.Bool.{Bool, true, false}
-use mathlib.Core.Option.{Option, none, some}
+use mathlib.Core.Option.{Option as Maybe, none, some}
+use Rattle.std.specs.Prelude.{Option, Some, None}
 use mathlib.Core.List.{List, [], ◌∷◌, ◌++◌}
 use Prim.Native.Nat.{ℕ, zero, suc, ◌+◌, ◌-◌, ◌≤◌, ◌<◌}
 use native.Mathlib.Omega.{arith}
@@ -92,7 +93,7 @@ module _ {t w st : List ℕ} {e s i : ℕ} (n : ℕ) (ready : Ready t w st e s) 
   Returns r st'' w'' = Gives (ruled t n e (node_in s) (held st) w (standing st) (units_in s)) st r st'' w''
 
   -- what follows, by the child
-  picks : (x : ℕ) → x ≡ word_at t e 2 → {o : Option ℕ} → nth (children w (node_in s)) i ≡ o
+  picks : (x : ℕ) → x ≡ word_at t e 2 → {o : Maybe ℕ} → nth (children w (node_in s)) i ≡ o
       → ruled t n e (node_in s) (held st) w (standing st) (units_in s)
       ≡ plan t n (given o (λ g. ask keep (apply x g (held st)) (λ y c. again (node_in s) (constructor_of w (node_in s)) (put (children w (node_in s)) i y) c) fail)) w (standing st) (units_in s)
   picks x xe q =
@@ -322,23 +323,23 @@ module _ {t w₀ st₀ : List ℕ} {e s : ℕ} (n : ℕ) (ready : Ready t w₀ s
           pub gives-one-off : {d : ℕ} → a ≡ Off d → Gave got st' w'
           gives-one-off {d} q = off was framed (attempt-cut (answer_of got) d (sym attempted ∙ q))
 
-          module _ {yes : Bool} {z v : ℕ} (q : a ≡ Ended yes z v) where
-            did : yes ≡ true → answer_of got ≡ Done z v
-            did p = attempt-done (answer_of got) z v (sym attempted ∙ q ∙ ap (λ b. Ended b z v) p)
+          module _ {o : Option ℕ} {v : ℕ} (q : a ≡ Ended o v) where
+            did : {z : ℕ} → o ≡ Some z → answer_of got ≡ Done z v
+            did {z} p = attempt-done (answer_of got) z v (sym attempted ∙ q ∙ ap (λ o. Ended o v) p)
 
-            did-not : yes ≡ false → answer_of got ≡ Failed v
-            did-not p = attempt-failed (answer_of got) z v (sym attempted ∙ q ∙ ap (λ b. Ended b z v) p)
+            did-not : o ≡ None → answer_of got ≡ Failed v
+            did-not p = attempt-failed (answer_of got) v (sym attempted ∙ q ∙ ap (λ o. Ended o v) p)
 
-            pub fits_one : yes ≡ true → Fits w' (mark_of st') (notes_of st')
+            pub fits_one : {z : ℕ} → o ≡ Some z → Fits w' (mark_of st') (notes_of st')
             fits_one p = fits-done turn.steady ready.entries n x y u below-mark got st' w' was refl (did p)
 
-            pub stored_one : yes ≡ true → Stored w' (node_in s)
+            pub stored_one : {z : ℕ} → o ≡ Some z → Stored w' (node_in s)
             stored_one p =
                 kept-stored (kept-done turn.steady ready.entries n x y u below-mark got st' w' was refl (did p)) ready.subject
                 (steady-stored turn.steady (node_in s) ready.subject)
 
-            pub gives_one : {r : ℕ} {words st'' w'' : List ℕ} → yes ≡ true → words ≡ row_at w' (node_in s) → Gives (noded (set words (2 + i) z) st' w' v) st' r st'' w'' → Gave r st'' w''
-            gives_one {r} {words} {st''} p we made = record {
+            pub gives_one : {z r : ℕ} {words st'' w'' : List ℕ} → o ≡ Some z → words ≡ row_at w' (node_in s) → Gives (noded (set words (2 + i) z) st' w' v) st' r st'' w'' → Gave r st'' w''
+            gives_one {z} {r} {words} {st''} p we made = record {
               is = made.is ∙ sym (
                   goes_on t n w (tried st₀ st) u _ got st' w' was (answer_of got) refl follows others z v (did p)
                   ∙ ap (λ gs. plan t n (again (node_in s) (constructor_of w (node_in s)) gs (held st')) w' (standing st') v) (set_next w (node_in s) i has-next z)
@@ -348,7 +349,7 @@ module _ {t w₀ st₀ : List ℕ} {e s : ℕ} (n : ℕ) (ready : Ready t w₀ s
             }
 
             -- mark and mask are put back, and the next child is tried
-            pub one_again : yes ≡ false → Trying t w₀ st₀ n e s c w' (back st₀ st') v (i + 1)
+            pub one_again : o ≡ None → Trying t w₀ st₀ n e s c w' (back st₀ st') v (i + 1)
             one_again p =
                 let (kept, fits) = kept-failed turn.steady ready.entries n x y u below-mark got st' w' was refl (did-not p) in
                 let kids = kept-children kept (node_in s) ready.subject in

@@ -29,10 +29,6 @@ pub operand-inside : {t : List ℕ} {q x : ℕ} → Entries t → q < 4096 → (
 operand-inside {t} {q} en inside other e = rw e (operand_below t en q 0 inside other (omega arith))
 
 module _ {t w : List ℕ} {q k p : ℕ} where
-  -- nothing is known
-  pub skips-none : (most : ℕ) → VisitsToFailure t w q k p most 0
-  skips-none most = record { few = omega arith; fails = λ z. absurd (z refl) }
-
   -- the bound may grow
   pub skips-more : {i j n : ℕ} → VisitsToFailure t w q k p i n → i ≤ j → VisitsToFailure t w q k p j n
   skips-more s l = record { few = omega (arith, s.few, l); fails = s.fails }
@@ -41,7 +37,7 @@ module _ {t w : List ℕ} {q k p : ℕ} where
   pub match-fails : Entries t → q < 4096 → kind_of t q ≡ 14 → p ≡ word_at t q 2 → kind_of t p ≡ 19 → agreeing t w p k ≡ false → VisitsToFailure t w q k p 2 2
   match-fails en inside h e g a = record {
     few = omega arith;
-    fails = λ z. record {
+    fails = record {
       is = λ b m d u i j.
           let s : u - 1 - 1 ≡ u - 2 = omega arith in
           applied t d q k b w m u (λ z. omega arith) (λ z. omega arith)
@@ -52,17 +48,17 @@ module _ {t w : List ℕ} {q k p : ℕ} where
   }
 
   -- the operand x fails after n visits, and nothing catches that
-  module _ {x n most : ℕ} (skips : VisitsToFailure t w x k p most n) (some : n ≡ 0 → ⊥) where
+  module _ {x n most : ℕ} (skips : VisitsToFailure t w x k p most n) where
     asked : (c : Bindings ℕ → Bindings ℕ) (f : Bindings ℕ → ℕ → Bindings ℕ → Do ℕ)
         → ((b : Bindings ℕ) (m : Standing) (d u : ℕ) → ruled t d q k b w m u ≡ plan t d (ask keep (apply x k (c b)) (f b) fail) w m u) → VisitsToFailure t w q k p (most + 1) (n + 1)
     asked c f rule = record {
       few = omega (arith, skips.few);
-      fails = λ z. record {
+      fails = record {
         is = λ b m d u i j.
             let s : u - 1 - n ≡ u - (n + 1) = omega arith in
             applied t d q k b w m u (λ z. omega arith) (λ z. omega arith)
             ∙ rule b m (d - 1) (u - 1)
-            ∙ ask-failed t (d - 1) w m (u - 1) (apply x k (c b)) (f b) fail (u - 1 - n) w keep (missed_at p m) ((skips.fails some).is (c b) m (d - 1) (u - 1) (omega arith) (omega arith))
+            ∙ ask-failed t (d - 1) w m (u - 1) (apply x k (c b)) (f b) fail (u - 1 - n) w keep (missed_at p m) (skips.fails.is (c b) m (d - 1) (u - 1) (omega arith) (omega arith))
             ∙ failing t (d - 1) w (missed_at p m) (u - 1 - n)
             ∙ ap (λ v. lost (left_of w (missed_at p m)) v) s;
       };
@@ -75,13 +71,8 @@ module _ {t w : List ℕ} {q k p : ℕ} where
     scope-fails xe h = asked (λ b. masked (mask_by ours t q) unbound b) (λ b g c. ret g (masked (mask_by ours t q) b c)) (λ b m d u. ruled-scope t d q k b w m u x xe (mask_by ours t q) refl h)
 
 -- what is known of a first operand, at a node of another constructor or count
-pub skips-hint : {t w : List ℕ} {e k p d u n : ℕ} → Hinted t → e < 4096 → (kind_of t e ≡ 5) ⊎ (kind_of t e ≡ 6) → n ≡ word_at t e 5 → p ≡ word_at t e 4 → agreeing t w p k ≡ false
+pub skips-hint : {t w : List ℕ} {e k p d u n : ℕ} → Hinted t → e < 4096 → (kind_of t e ≡ 5) ⊎ (kind_of t e ≡ 6) → n ≡ word_at t e 5 → (n ≡ 0 → ⊥) → p ≡ word_at t e 4 → agreeing t w p k ≡ false
     → 4 ≤ d → 4 ≤ u → VisitsToFailure t w (word_at t e 2) k (word_at t e 4) (min d u) n
-skips-hint {t} {w} {e} {k} {p} {d} {u} {n} h l κ q pe a i j = go (eqb n 0) refl
-  where
-    go : (z : Bool) → eqb n 0 ≡ z → VisitsToFailure t w (word_at t e 2) k (word_at t e 4) (min d u) n
-    go true z = rw (eqb-true n 0 z) (skips-none (min d u))
-    go false z =
-        let some : word_at t e 5 ≡ 0 → ⊥ = λ f. eqb-false n 0 z (q ∙ f) in
-        let f = h.head e l κ some in
-        rw q (record { few = omega (arith, f.few); fails = λ g. f.fails w k (ap (λ p. agreeing t w p k) (sym pe) ∙ a) })
+skips-hint {t} {w} {e} {k} {p} {d} {u} {n} h l κ q z pe a i j =
+    let f = h.head e l κ (λ g. z (q ∙ g)) in
+    rw q (record { few = omega (arith, f.few); fails = f.fails w k (ap (λ p. agreeing t w p k) (sym pe) ∙ a) })

@@ -193,15 +193,15 @@ module _ {t w₀ st₀ : List ℕ} {start given deep : ℕ} {w st : List ℕ} {e
 
   -- the first operand of CHOICE or LEFT fails after n visits, which are counted and not made; where it gives up is noted
   pub skip-turn : {x y p n : ℕ} → x ≡ word_at t e 2 → VisitsToFailure t w x (node_in (s - 1)) (word_at t e 4) (min (d - 1) (units_in (s - 1))) n
-      → (n ≡ 0 → ⊥) → (kind_of t e ≡ 5) ⊎ (kind_of t e ≡ 6) → p ≡ word_at t e 4 → y ≡ word_at t e 3
+      → (kind_of t e ≡ 5) ⊎ (kind_of t e ≡ 6) → p ≡ word_at t e 4 → y ≡ word_at t e 3
       → Turn t w₀ st₀ start given deep w (missing st p) y (s - 1 - n) (d - 1)
-  skip-turn {x} {y} {p} {n} xe skips some h pe ye =
+  skip-turn {x} {y} {p} {n} xe skips h pe ye =
       let enough = under n (d - 1) (units_in (s - 1)) skips.few in
       let v : ℕ = units_in (s - 1) - n in
       let few = few-by (s - 1) n in
       let node-as = same-node-by (s - 1) n enough.1 in
       let units-as = less_by (s - 1) n enough.1 in
-      let fails = (skips.fails some).is (held st) (standing st) (d - 1) (units_in (s - 1)) enough.0 enough.1 in
+      let fails = skips.fails.is (held st) (standing st) (d - 1) (units_in (s - 1)) enough.0 enough.1 in
       let noted : notes_of (missing st p) ≡ noting (notes_of st) (word_at t e 4) = notes-missing further st p turn.ready.long ∙ ap (noting (notes_of st)) pe in
       let frame = framed-missing further st p in
       record {

@@ -17,6 +17,7 @@ use Rattle.state.specs.declared.answers.Answer.{Answer}
 use Rattle.state.specs.declared.answers.Answer.TheVariants.{Done, Failed, Cut}
 use Rattle.state.specs.declared.answers.Attempt.{Attempt}
 use Rattle.state.specs.declared.answers.Attempt.TheVariants.{Ended, Cut as Off}
+use Rattle.std.specs.Prelude.{Some, None}
 use Rattle.state.specs.Answers.{packed, node_in, units_in, failed_word, answer_of, attempt_of}
 use Rattle.state.specs.Record.{mark_of, notes_of, standing, held, back, Framed}
 use Rattle.state.specs.Visits.{visit, plan, ruled, out, Steady}
@@ -97,7 +98,7 @@ module _ (t : List ℕ) (n e s : ℕ) (st w : List ℕ) (x got : ℕ) (st' w' : 
       restored : v < 4294967296 → out r st'' w' ≡ ended (node_in s) (held st) (on w' (back_to (standing st) (standing st'))) v
       restored l = gave st'' w' r (node_in s) v re small l ∙ rw (same, mark, miss)
 
-      pub test-done : kind_of t e ≡ 2 → (y : ℕ) → g ≡ Ended true y v → out r st'' w' ≡ answer
+      pub test-done : kind_of t e ≡ 2 → (y : ℕ) → g ≡ Ended (Some y) v → out r st'' w' ≡ answer
       test-done h y q =
           let f : answer_of got ≡ Done y v = attempt-done (answer_of got) y v (sym attempted ∙ q) in
           restored (done-units got y v (answer_of got) refl f)
@@ -105,9 +106,9 @@ module _ (t : List ℕ) (n e s : ℕ) (st w : List ℕ) (x got : ℕ) (st' w' : 
           ∙ goes_back t n w (standing st) (units_in s) _ got st' w' is (answer_of got) refl _ fail y v f
           ∙ ends t n (node_in s) (held st) w' (back_to (standing st) (standing st')) v)
 
-      pub not-did : kind_of t e ≡ 3 → (y : ℕ) → g ≡ Ended false y v → out r st'' w' ≡ answer
-      not-did h y q =
-          let f : answer_of got ≡ Failed v = attempt-failed (answer_of got) y v (sym attempted ∙ q) in
+      pub not-did : kind_of t e ≡ 3 → g ≡ Ended None v → out r st'' w' ≡ answer
+      not-did h q =
+          let f : answer_of got ≡ Failed v = attempt-failed (answer_of got) v (sym attempted ∙ q) in
           restored (failed-few got v (answer_of got) refl f)
           ∙ sym (ruled-not t n e (node_in s) (held st) w (standing st) (units_in s) x xe h
           ∙ caught t n w (standing st) (units_in s) _ got st' w' is (answer_of got) refl keep _ (ret (node_in s) (held st)) v f
@@ -117,15 +118,15 @@ module _ (t : List ℕ) (n e s : ℕ) (st w : List ℕ) (x got : ℕ) (st' w' : 
       failing-as : v < 4294967296 → out r st'' w' ≡ lost (left_of w' (standing st')) v
       failing-as l = gave-failed st'' w' r v re l ∙ rw miss
 
-      pub test-failed : kind_of t e ≡ 2 → (y : ℕ) → g ≡ Ended false y v → out r st'' w' ≡ answer
-      test-failed h y q =
-          let f : answer_of got ≡ Failed v = attempt-failed (answer_of got) y v (sym attempted ∙ q) in
+      pub test-failed : kind_of t e ≡ 2 → g ≡ Ended None v → out r st'' w' ≡ answer
+      test-failed h q =
+          let f : answer_of got ≡ Failed v = attempt-failed (answer_of got) v (sym attempted ∙ q) in
           failing-as (failed-few got v (answer_of got) refl f)
           ∙ sym (ruled-test t n e (node_in s) (held st) w (standing st) (units_in s) x xe h
           ∙ caught t n w (standing st) (units_in s) _ got st' w' is (answer_of got) refl drop _ fail v f
           ∙ fails t n w' (back_to (standing st) (standing st')) v)
 
-      pub not-failed-then : kind_of t e ≡ 3 → (y : ℕ) → g ≡ Ended true y v → out r st'' w' ≡ answer
+      pub not-failed-then : kind_of t e ≡ 3 → (y : ℕ) → g ≡ Ended (Some y) v → out r st'' w' ≡ answer
       not-failed-then h y q =
           let f : answer_of got ≡ Done y v = attempt-done (answer_of got) y v (sym attempted ∙ q) in
           failing-as (done-units got y v (answer_of got) refl f)

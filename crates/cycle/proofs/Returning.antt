@@ -1,6 +1,6 @@
 -- What each operator returns, whole: the rule's answer, the words of the variables that were bound, the record's length.
 use mathlib.Core.Path.{◌≡◌, refl, ap, sym, ◌∙◌, subst}
-use mathlib.Core.Bool.{Bool, true, false}
+use mathlib.Core.Bool.{Bool, true, false, true≢false}
 use mathlib.Core.List.{List}
 use mathlib.Core.Logic.{◌⊎◌, inl, inr, ⊎_elim}
 use Prim.Native.Nat.{ℕ, ◌<◌, ◌≤◌, ◌+◌}
@@ -17,16 +17,18 @@ use Rattle.state.specs.Record.{record_long, mark_of, notes_of, standing, held, b
 use Rattle.meaning.specs.Limits.{lost}
 use Rattle.state.specs.Noted.{Ran, left_of}
 use native.Mathlib.Omega.{arith}
-use Rattle.state.specs.Visits.{visit, ruled, count_of, noded, Pattern, Gives}
+use Rattle.state.specs.Visits.{out, visit, ruled, count_of, noded, Pattern, Gives}
 use Rattle.cycle.specs.Cycle.{finished, Ready, Last}
-use borrow.Author.Tests.{ne_eqb}
+use borrow.Author.Tests.{eq-eqb, ne_eqb}
+use lib.Dec.{eqb}
+use Rattle.std.specs.Prelude.{Option, Some, None, is_some}
 use Rattle.state.proofs.AnswerWords.{packed-again, gave, gave-failed}
 use Rattle.cycle.proofs.Ruling.{ruled-id, ruled-fail, ruled-above, ruled-all}
 use Rattle.state.proofs.Asking.{Tagged}
 use Rattle.cycle.proofs.Walker.{childless}
 use Rattle.leaves.proofs.Keeping.{node-small}
 use Rattle.state.proofs.Holding.{further, held_back, mark-back, notes-back, framed-back, length_back, framed-refl}
-use Rattle.cycle.proofs.Operators.{other, where-stops, where-done, guard-off, test-done, not-did, test-failed, not-failed-then}
+use Rattle.cycle.proofs.Operators.{where-stops, where-done, guard-off, test-done, not-did, test-failed, not-failed-then}
 
 -- the first operand x of entry e ran on the operator's own state, and gave `got`
 module _ {t w st : List ℕ} {e s x got : ℕ} {st' w' : List ℕ} (n : ℕ) (ready : Ready t w st e s) (xe : x ≡ word_at t e 2)
@@ -51,46 +53,33 @@ module _ {t w st : List ℕ} {e s x got : ℕ} {st' w' : List ℕ} (n : ℕ) (re
     pub gives-guard-off : {c : ℕ} → g ≡ Off c → Returns got st'
     gives-guard-off {c} q = record { is = guard-off t n e s st w x got st' w' xe gives.is g attempted h c q; frame = gives.frame }
 
-    module _ {b : Bool} {y v : ℕ} (q : g ≡ Ended b y v) where
-      attempted-as : {c : Bool} → b ≡ c → g ≡ Ended c y v
-      attempted-as z = q ∙ ap (λ b. Ended b y v) z
-
+    module _ {o : Option ℕ} {v k : ℕ} (q : g ≡ Ended o v) (ke : k ≡ kind_of t e) where
       framed : Framed st (back st st')
       framed = framed-back further st st' long gives.frame
 
-      pub gives-test : {k r : ℕ} → k ≡ kind_of t e → k ≡ 2 → b ≡ true → r ≡ packed (node_in s) v → Returns r (back st st')
-      gives-test {r = r} k i z p = record {
-        is =
-            test-done t n e s st w x got st' w' xe gives.is g attempted (back st st') (held_back further st st' long gives.frame)
-            (mark-back further st st' long) (notes-back further st st' long) small r v p (sym k ∙ i) y (attempted-as z);
-        frame = framed;
-      }
+      -- the operand did what the operator wants: success for TEST, failure for NOT
+      pub gives-guard : {r : ℕ} → is_some o ≡ eqb k 2 → r ≡ packed (node_in s) v → Returns r (back st st')
+      gives-guard {r} z p = record { is = go o q z h; frame = framed }
+        where
+          go : (o : Option ℕ) → g ≡ Ended o v → is_some o ≡ eqb k 2 → (kind_of t e ≡ 2) ⊎ (kind_of t e ≡ 3) →
+              out r (back st st') w' ≡ ruled t n e (node_in s) (held st) w (standing st) (units_in s)
+          go (Some y) f z (inl i) = test-done t n e s st w x got st' w' xe gives.is g attempted (back st st') (held_back further st st' long gives.frame)
+              (mark-back further st st' long) (notes-back further st st' long) small r v p i y f
+          go (Some y) f z (inr i) = absurd (true≢false (z ∙ ne_eqb k 2 (λ j. omega (arith, ke, i, j))))
+          go None f z (inl i) = absurd (true≢false (sym (z ∙ eq-eqb k 2 (ke ∙ i))))
+          go None f z (inr i) = not-did t n e s st w x got st' w' xe gives.is g attempted (back st st') (held_back further st st' long gives.frame)
+              (mark-back further st st' long) (notes-back further st st' long) small r v p i f
 
-      pub gives-test-failed : {k r : ℕ} → k ≡ kind_of t e → k ≡ 2 → b ≡ false → r ≡ failed_word v → Returns r (back st st')
-      gives-test-failed {r = r} k i z p =
-          record {
-            is =
-                test-failed t n e s st w x got st' w' xe gives.is g attempted (back st st') (notes-back further st st' long) r v p (sym k ∙ i)
-                y (attempted-as z);
-            frame = framed;
-          }
-
-      pub gives-not-failed : {k r : ℕ} → k ≡ kind_of t e → (k ≡ 2 → ⊥) → b ≡ true → r ≡ failed_word v → Returns r (back st st')
-      gives-not-failed {r = r} k i z p =
-          record {
-            is =
-                not-failed-then t n e s st w x got st' w' xe gives.is g attempted (back st st') (notes-back further st st' long) r v p
-                (other h (λ e. i (k ∙ e))) y (attempted-as z);
-            frame = framed;
-          }
-
-      pub gives-not : {k r : ℕ} → k ≡ kind_of t e → (k ≡ 2 → ⊥) → b ≡ false → r ≡ packed (node_in s) v → Returns r (back st st')
-      gives-not {r = r} k i z p = record {
-        is =
-            not-did t n e s st w x got st' w' xe gives.is g attempted (back st st') (held_back further st st' long gives.frame)
-            (mark-back further st st' long) (notes-back further st st' long) small r v p (other h (λ e. i (k ∙ e))) y (attempted-as z);
-        frame = framed;
-      }
+      -- and not
+      pub gives-guard-failed : {r : ℕ} → (is_some o ≡ eqb k 2 → ⊥) → r ≡ failed_word v → Returns r (back st st')
+      gives-guard-failed {r} z p = record { is = go o q z h; frame = framed }
+        where
+          go : (o : Option ℕ) → g ≡ Ended o v → (is_some o ≡ eqb k 2 → ⊥) → (kind_of t e ≡ 2) ⊎ (kind_of t e ≡ 3) →
+              out r (back st st') w' ≡ ruled t n e (node_in s) (held st) w (standing st) (units_in s)
+          go (Some y) f z (inl i) = absurd (z (sym (eq-eqb k 2 (ke ∙ i))))
+          go (Some y) f z (inr i) = not-failed-then t n e s st w x got st' w' xe gives.is g attempted (back st st') (notes-back further st st' long) r v p i y f
+          go None f z (inl i) = test-failed t n e s st w x got st' w' xe gives.is g attempted (back st st') (notes-back further st st' long) r v p i f
+          go None f z (inr i) = absurd (z (sym (ne_eqb k 2 (λ j. omega (arith, ke, i, j)))))
 
 -- the same answer under another name
 pub renamed : {o o' : Ran} {st : List ℕ} {r : ℕ} {st' w' : List ℕ} → Gives o st r st' w' → o ≡ o' → Gives o' st r st' w'
@@ -156,17 +145,17 @@ no-rule k r e l h z a c f g i j m =
     l.outside) h
 
 -- the end of a walk, by its four ways
-module _ (k won n g : ℕ) (made st w : List ℕ) (u : ℕ) where
+module _ (k : ℕ) (won : Bool) (n g : ℕ) (made st w : List ℕ) (u : ℕ) where
   abbrev Finishes : ℕ → List ℕ → List ℕ → Type 0
   Finishes r st' w' = Gives (finished k won n g made st w u) st r st' w'
 
-  pub finish-failed : {r : ℕ} → k ≡ 13 → won ≡ 0 → r ≡ failed_word u → u < 4294967296 → Finishes r st w
+  pub finish-failed : {r : ℕ} → k ≡ 13 → won ≡ false → r ≡ failed_word u → u < 4294967296 → Finishes r st w
   unfolding finished
   finish-failed {r} h z p l = record { is = gave-failed st w r u p l ∙ rw (h, z); frame = framed-refl further st }
 
-  pub finish-some : {r : ℕ} {st' w' : List ℕ} → k ≡ 13 → (won ≡ 0 → ⊥) → Gives (noded made st w u) st r st' w' → Finishes r st' w'
+  pub finish-some : {r : ℕ} {st' w' : List ℕ} → k ≡ 13 → won ≡ true → Gives (noded made st w u) st r st' w' → Finishes r st' w'
   unfolding finished
-  finish-some h z f = renamed f (rw (h, ne_eqb won 0 z))
+  finish-some h z f = renamed f (rw (h, z))
 
   pub finish-itself : (k ≡ 13 → ⊥) → n ≡ 0 → node_in g < 131072 → Finishes g st w
   unfolding finished

@@ -1,6 +1,6 @@
 -- The child walker: the rest of the walk from child i, one turn of it, and its end.
 use mathlib.Core.Path.{◌≡◌, refl, ap, sym, ◌∙◌, subst}
-use mathlib.Core.Bool.{Bool, true, false, not}
+use mathlib.Core.Bool.{Bool, true, false, true≢false}
 use mathlib.Core.List.{List, [], ◌∷◌, ◌++◌, map}
 use mathlib.Core.Logic.{◌⊎◌, ⊎_elim}
 use Prim.Native.Nat.{ℕ, zero, suc, ◌+◌, ◌-◌, ◌*◌, ◌/◌, ◌%◌, ◌<◌, ◌≤◌, min}
@@ -9,7 +9,7 @@ use lib.Dec.{eqb, leb, ltb}
 use lib.ListN.{length, drop, set, get_or, length-set, drop_of_length-le, length-map}
 use borrow.Author.Tests.{eq-eqb, ne_eqb, le-ltb, eqb-true, eqb-false}
 use Rattle.words.specs.Words.{word_at, rows, put_row}
-use Rattle.std.specs.Prelude.{if◌then◌else◌}
+use Rattle.std.specs.Prelude.{Option, Some, None, if◌then◌else◌}
 use Rattle.checks.specs.Good.{kind_of, operand_count, constructor_of, child_count}
 use Rattle.meaning.specs.Bindings.{Bindings}
 use Rattle.meaning.specs.Table.{operands, six}
@@ -90,27 +90,27 @@ module _ (t w : List ℕ) (e k : ℕ) (same : Counted t w e k) where
       go true = drop-zip apply i (operands t e) (children w k) ∙ rw (part_end w k (child_count w k) i h) (zip-none apply (drop i (operands t e)))
       go false = drop-map (apply (word_at t e 2)) i (children w k) ∙ rw (part_end w k (child_count w k) i h)
 
--- from child i on: won is not zero where a child has succeeded, gs are the children that are done
-abbrev pub rest : List ℕ → List ℕ → ℕ → ℕ → ℕ → ℕ → List ℕ → Bindings ℕ → Do ℕ
+-- from child i on: won says whether a child has succeeded, gs are the children that are done
+abbrev pub rest : List ℕ → List ℕ → ℕ → ℕ → ℕ → Bool → List ℕ → Bindings ℕ → Do ℕ
 rest t w e k i won gs b =
-    if eqb (kind_of t e) 13 then some_of (word_at t e 2) (not (eqb won 0)) gs (drop i (children w k)) b (again k (constructor_of w k))
+    if eqb (kind_of t e) 13 then some_of (word_at t e 2) won gs (drop i (children w k)) b (again k (constructor_of w k))
     else walk (drop i (visits t e (children w k))) gs b (again k (constructor_of w k))
 
-module _ (t w : List ℕ) (e k : ℕ) (same : Counted t w e k) (i won : ℕ) (gs : List ℕ) (b : Bindings ℕ) where
+module _ (t w : List ℕ) (e k : ℕ) (same : Counted t w e k) (i : ℕ) (won : Bool) (gs : List ℕ) (b : Bindings ℕ) where
   -- the next child
   rest-next : i < count_of w k → rest t w e k i won gs b
-      ≡ ask keep (apply (operand_for t e (kind_of t e) i) (word_at w k (2 + i)) b) (λ h c. rest t w e k (i + 1) 1 (gs ++ (h ∷ [])) c)
+      ≡ ask keep (apply (operand_for t e (kind_of t e) i) (word_at w k (2 + i)) b) (λ h c. rest t w e k (i + 1) true (gs ++ (h ∷ [])) c)
       (if eqb (kind_of t e) 13 then rest t w e k (i + 1) won (gs ++ (word_at w k (2 + i) ∷ [])) b else fail)
   unfolding some_of walk
   rest-next h = go (eqb (kind_of t e) 13) refl
     where
       go : (z : Bool) → eqb (kind_of t e) 13 ≡ z
-          → (if z then some_of (word_at t e 2) (not (eqb won 0)) gs (drop i (children w k)) b (again k (constructor_of w k)) else walk
+          → (if z then some_of (word_at t e 2) won gs (drop i (children w k)) b (again k (constructor_of w k)) else walk
           (drop i (visits t e (children w k))) gs b (again k (constructor_of w k)))
           ≡ ask keep (apply (operand_for t e (kind_of t e) i) (word_at w k (2 + i)) b)
           (λ h c. if z then some_of (word_at t e 2) true (gs ++ (h ∷ [])) (drop (i + 1) (children w k)) c (again k (constructor_of w k)) else
           walk (drop (i + 1) (visits t e (children w k))) (gs ++ (h ∷ [])) c (again k (constructor_of w k)))
-          (if z then (if z then some_of (word_at t e 2) (not (eqb won 0)) (gs ++ (word_at w k (2 + i) ∷ [])) (drop (i + 1) (children w k)) b
+          (if z then (if z then some_of (word_at t e 2) won (gs ++ (word_at w k (2 + i) ∷ [])) (drop (i + 1) (children w k)) b
           (again k (constructor_of w k)) else walk (drop (i + 1) (visits t e (children w k))) (gs ++ (word_at w k (2 + i) ∷ [])) b
           (again k (constructor_of w k))) else fail)
       go true q =
@@ -119,26 +119,26 @@ module _ (t w : List ℕ) (e k : ℕ) (same : Counted t w e k) (i won : ℕ) (gs
       go false q = rw (visits-next t w e k same i h)
 
   -- no child is left
-  rest_end : count_of w k ≤ i → rest t w e k i won gs b ≡ (if eqb (kind_of t e) 13 then when (not (eqb won 0)) (again k (constructor_of w k) gs b) else again k (constructor_of w k) gs b)
+  rest_end : count_of w k ≤ i → rest t w e k i won gs b ≡ (if eqb (kind_of t e) 13 then when won (again k (constructor_of w k) gs b) else again k (constructor_of w k) gs b)
   unfolding some_of walk
   rest_end h = go (eqb (kind_of t e) 13)
     where
       go : (z : Bool)
-          → (if z then some_of (word_at t e 2) (not (eqb won 0)) gs (drop i (children w k)) b (again k (constructor_of w k)) else walk
+          → (if z then some_of (word_at t e 2) won gs (drop i (children w k)) b (again k (constructor_of w k)) else walk
           (drop i (visits t e (children w k))) gs b (again k (constructor_of w k)))
-          ≡ (if z then when (not (eqb won 0)) (again k (constructor_of w k) gs b) else again k (constructor_of w k) gs b)
+          ≡ (if z then when won (again k (constructor_of w k) gs b) else again k (constructor_of w k) gs b)
       go true = rw (part_end w k (child_count w k) i h)
       go false = rw (visits-end t w e k same i h)
 
 -- the walk begins with the whole
-rest_all : (t w : List ℕ) (e k : ℕ) (b : Bindings ℕ) → rest t w e k 0 0 [] b ≡ walked t w e k b
+rest_all : (t w : List ℕ) (e k : ℕ) (b : Bindings ℕ) → rest t w e k 0 false [] b ≡ walked t w e k b
 unfolding walked
 rest_all t w e k b = refl
 
 -- ALL of a term without children gives it back
 pub childless : (t w : List ℕ) (e k n : ℕ) (b : Bindings ℕ) (m : Standing) (u : ℕ) → kind_of t e ≡ 11 → count_of w k ≡ 0 → plan t n (walked t w e k b) w m u ≡ ended k b (on w m) u
 childless t w e k n b m u h z =
-    ap (λ p. plan t n p w m u) (sym (rest_all t w e k b) ∙ rest_end t w e k (λ f. omega (arith, h, f), λ f. absurd (omega arith)) 0 0 [] b (omega (arith, z)))
+    ap (λ p. plan t n p w m u) (sym (rest_all t w e k b) ∙ rest_end t w e k (λ f. omega (arith, h, f), λ f. absurd (omega arith)) 0 false [] b (omega (arith, z)))
     ∙ rw (ne_eqb (kind_of t e) 13 (λ f. omega arith)) (itself t n k (constructor_of w k) b w m u)
 
 -- the words of the node that is made: its children are the first, the second, and the four after them
@@ -162,11 +162,6 @@ four (a ∷ b ∷ c ∷ []) h = absurd (omega arith)
 four (a ∷ b ∷ c ∷ d ∷ []) h = refl
 four (a ∷ b ∷ c ∷ d ∷ e ∷ l) h = absurd (omega arith)
 
--- what SOME saved is put back
-pub saving : (κ mark mask : ℕ) (st st' : List ℕ) → mark ≡ (if eqb κ 13 then mark_of st else 0) → mask ≡ (if eqb κ 13 then mask_of st else 0) → κ ≡ 13
-    → masking (marking st' mark) mask ≡ back st st'
-saving κ mark mask st st' p q k = rw (p, q, k)
-
 pub four-still : {more' : List ℕ} (more : List ℕ) (i y : ℕ) → length more ≡ 4 → more' ≡ (if ltb i 2 then more else set more (i - 2) y) → length more' ≡ 4
 four-still more i y h q = rw q (go (ltb i 2))
   where
@@ -175,7 +170,7 @@ four-still more i y h q = rw q (go (ltb i 2))
     go false = length-set more (i - 2) y ∙ h
 
 -- what a turn of the walk has: k is the node that is walked, w₀ and st₀ the store and the record where it began
-pub record Going (t w₀ st₀ : List ℕ) (e s deep : ℕ) (w st : List ℕ) (u won : ℕ) (made : List ℕ) (i : ℕ) : Type 0 where
+pub record Going (t w₀ st₀ : List ℕ) (e s deep : ℕ) (w st : List ℕ) (u : ℕ) (won : Bool) (made : List ℕ) (i : ℕ) : Type 0 where
   pub done : List ℕ
   pub made-is : made ≡ filled (constructor_of w₀ (node_in s)) (count_of w₀ (node_in s)) done
   pub so_far : length done ≡ i
@@ -187,11 +182,11 @@ pub record Going (t w₀ st₀ : List ℕ) (e s deep : ℕ) (w st : List ℕ) (u
   pub wide : length st ≡ length st₀
   pub few : u < 4294967296
   pub begun : i ≡ 0 → u ≡ units_in s
-  pub won-later : (won ≡ 0 → ⊥) → 0 < i
+  pub won-later : won ≡ true → 0 < i
   pub left : plan t deep (rest t w₀ e (node_in s) i won done (held st)) w (standing st) u ≡ plan t deep (walked t w₀ e (node_in s) (held st₀)) w₀ (standing st₀) (units_in s)
 
 pub going-first : {t w st : List ℕ} {e s : ℕ} (deep : ℕ) → Ready t w st e s → {c n u : ℕ} → c ≡ word_at w (node_in s) 0 → n ≡ count_of w (node_in s) → u ≡ units_in s
-    → Going t w st e s deep w st u 0 (c ∷ n ∷ 0 ∷ 0 ∷ 0 ∷ 0 ∷ 0 ∷ 0 ∷ []) 0
+    → Going t w st e s deep w st u false (c ∷ n ∷ 0 ∷ 0 ∷ 0 ∷ 0 ∷ 0 ∷ 0 ∷ []) 0
 going-first {t} {w} {st} {e} {s} deep r p q v = record {
   done = [];
   made-is = rw (p, q);
@@ -204,11 +199,11 @@ going-first {t} {w} {st} {e} {s} deep r p q v = record {
   wide = refl;
   few = rw v (omega arith);
   begun = λ z. v;
-  won-later = λ f. absurd (f refl);
+  won-later = λ f. absurd (true≢false (sym f));
   left = rw v (ap (λ p. plan t deep p w (standing st) (units_in s)) (rest_all t w e (node_in s) (held st)));
 }
 
-module _ {t w₀ st₀ : List ℕ} {e s deep : ℕ} {w st : List ℕ} {u won : ℕ} {made : List ℕ} {i : ℕ} (ready : Ready t w₀ st₀ e s) (same : Counted t w₀ e (node_in s))
+module _ {t w₀ st₀ : List ℕ} {e s deep : ℕ} {w st : List ℕ} {u : ℕ} {won : Bool} {made : List ℕ} {i : ℕ} (ready : Ready t w₀ st₀ e s) (same : Counted t w₀ e (node_in s))
     (g : Going t w₀ st₀ e s deep w st u won made i) (h : i < count_of w₀ (node_in s)) where
   -- child i, as the store has it now
   child-is : word_at w (node_in s) (2 + i) ≡ word_at w₀ (node_in s) (2 + i)
@@ -245,7 +240,7 @@ module _ {t w₀ st₀ : List ℕ} {e s deep : ℕ} {w st : List ℕ} {u won : �
     is = gives.is ∙ rw (pe, node-packed c u g.few, units-packed c u g.few, cw, xe)
 
     next : plan t deep (rest t w₀ e (node_in s) i won g.done (held st)) w (standing st) u
-        ≡ plan t deep (ask keep (apply (operand_for t e (kind_of t e) i) (word_at w₀ (node_in s) (2 + i)) (held st)) (λ h c. rest t w₀ e (node_in s) (i + 1) 1 (g.done ++ (h ∷ [])) c)
+        ≡ plan t deep (ask keep (apply (operand_for t e (kind_of t e) i) (word_at w₀ (node_in s) (2 + i)) (held st)) (λ h c. rest t w₀ e (node_in s) (i + 1) true (g.done ++ (h ∷ [])) c)
         (if eqb (kind_of t e) 13 then rest t w₀ e (node_in s) (i + 1) won (g.done ++ (word_at w₀ (node_in s) (2 + i) ∷ [])) (held st) else fail)) w (standing st) u
     next = ap (λ p. plan t deep p w (standing st) u) (rest-next t w₀ e (node_in s) same i won g.done (held st) h)
 
@@ -265,29 +260,29 @@ module _ {t w₀ st₀ : List ℕ} {e s deep : ℕ} {w st : List ℕ} {u won : �
       frame = framed';
     }
 
-    module _ {b : Bool} {y v : ℕ} (q : a ≡ Ended b y v) where
-      failed-as : b ≡ false → answer_of got ≡ Failed v
-      failed-as z = attempt-failed (answer_of got) y v (sym attempted ∙ q ∙ ap (λ b. Ended b y v) z)
+    module _ {o : Option ℕ} {v : ℕ} (q : a ≡ Ended o v) where
+      failed-as : o ≡ None → answer_of got ≡ Failed v
+      failed-as z = attempt-failed (answer_of got) v (sym attempted ∙ q ∙ ap (λ o. Ended o v) z)
 
-      done-as : b ≡ true → answer_of got ≡ Done y v
-      done-as z = attempt-done (answer_of got) y v (sym attempted ∙ q ∙ ap (λ b. Ended b y v) z)
+      done-as : {y : ℕ} → o ≡ Some y → answer_of got ≡ Done y v
+      done-as {y} z = attempt-done (answer_of got) y v (sym attempted ∙ q ∙ ap (λ o. Ended o v) z)
 
       leaves : LeavesFitting w (standing st) (visit t deep (apply x (node_in p) (held st)) w (standing st) (units_in p))
       leaves = apply-leaves g.steady t ready.entries deep x (node_in p) (units_in p) (rw (pe, node-packed c u g.few, cw) child-below)
 
-      pub going-stops : {k : ℕ} → k ≡ kind_of t e → (k ≡ 13 → ⊥) → b ≡ false → Whole
+      pub going-stops : {k : ℕ} → k ≡ kind_of t e → (k ≡ 13 → ⊥) → o ≡ None → Whole
       going-stops {k} ke n z = record {
-        is = not-caught t deep w (standing st) u _ got st' w' is (λ h c. rest t w₀ e (node_in s) (i + 1) 1 (g.done ++ (h ∷ [])) c) v (failed-as z)
+        is = not-caught t deep w (standing st) u _ got st' w' is (λ h c. rest t w₀ e (node_in s) (i + 1) true (g.done ++ (h ∷ [])) c) v (failed-as z)
             ∙ sym (next ∙ ap (λ z. plan t deep (ask keep (apply (operand_for t e (kind_of t e) i) (word_at w₀ (node_in s) (2 + i)) (held st))
-            (λ h c. rest t w₀ e (node_in s) (i + 1) 1 (g.done ++ (h ∷ [])) c)
+            (λ h c. rest t w₀ e (node_in s) (i + 1) true (g.done ++ (h ∷ [])) c)
             (if z then rest t w₀ e (node_in s) (i + 1) won (g.done ++ (word_at w₀ (node_in s) (2 + i) ∷ [])) (held st) else fail)) w
             (standing st) u) (ne_eqb (kind_of t e) 13 (λ f. n (ke ∙ f)))) ∙ g.left;
         frame = framed';
       }
 
       -- child i succeeded
-      pub going-yes : {r : ℕ} {st'' made'' : List ℕ} → b ≡ true → st'' ≡ st' → r ≡ 1 → made'' ≡ set made (2 + i) y → Going t w₀ st₀ e s deep w' st'' v r made'' (i + 1)
-      going-yes {r} {st''} {made''} z se re me =
+      pub going-yes : {y : ℕ} {r : Bool} {st'' made'' : List ℕ} → o ≡ Some y → st'' ≡ st' → r ≡ true → made'' ≡ set made (2 + i) y → Going t w₀ st₀ e s deep w' st'' v r made'' (i + 1)
+      going-yes {y} {r} {st''} {made''} z se re me =
           let f = done-as z in
           let lv = leaves-done w (standing st) _ leaves got st' w' gives.is (answer_of got) refl y v f in
           rw (se, re, me) (record {
@@ -303,14 +298,14 @@ module _ {t w₀ st₀ : List ℕ} {e s deep : ℕ} {w st : List ℕ} {u won : �
             few = done-units got y v (answer_of got) refl f;
             begun = λ j. absurd (omega arith);
             won-later = λ j. omega arith;
-            left = sym (next ∙ goes_on t deep w (standing st) u _ got st' w' is (answer_of got) refl (λ h c. rest t w₀ e (node_in s) (i + 1) 1 (g.done ++ (h ∷ [])) c) _ y v f) ∙ g.left;
+            left = sym (next ∙ goes_on t deep w (standing st) u _ got st' w' is (answer_of got) refl (λ h c. rest t w₀ e (node_in s) (i + 1) true (g.done ++ (h ∷ [])) c) _ y v f) ∙ g.left;
           })
 
       -- SOME keeps child i, which failed
-      pub going-no : {k r mark mask : ℕ} {st'' made'' : List ℕ} → b ≡ false → k ≡ kind_of t e → k ≡ 13 → mark ≡ (if eqb k 13 then mark_of st else 0) → mask ≡ (if eqb k 13 then mask_of st else 0)
+      pub going-no : {k mark mask : ℕ} {r : Bool} {st'' made'' : List ℕ} → o ≡ None → k ≡ kind_of t e → k ≡ 13 → mark ≡ mark_of st → mask ≡ mask_of st
           → st'' ≡ masking (marking st' mark) mask → r ≡ won → made'' ≡ set made (2 + i) c → Going t w₀ st₀ e s deep w' st'' v r made'' (i + 1)
-      going-no {k} {r} {mark} {mask} {st''} {made''} z ke k13 p q saved re me =
-          let se : st'' ≡ back st st' = saved ∙ saving k mark mask st st' p q k13 in
+      going-no {k} {mark} {mask} {r} {st''} {made''} z ke k13 p q saved re me =
+          let se : st'' ≡ back st st' = saved ∙ rw (p, q) in
           let f = failed-as z in
           let (kp, fits) = leaves-failed w (standing st) _ leaves got st' w' gives.is (answer_of got) refl v f in
           let hd = held_back further st st' long' gives.frame in
@@ -338,7 +333,7 @@ unfolding attempt_of answer_of
 units-off = refl
 
 -- a visit of child i of which the first n only lead on
-module _ {t w₀ st₀ : List ℕ} {e s deep : ℕ} {w st : List ℕ} {u won : ℕ} {made : List ℕ} {i : ℕ} (ready : Ready t w₀ st₀ e s) (same : Counted t w₀ e (node_in s))
+module _ {t w₀ st₀ : List ℕ} {e s deep : ℕ} {w st : List ℕ} {u : ℕ} {won : Bool} {made : List ℕ} {i : ℕ} (ready : Ready t w₀ st₀ e s) (same : Counted t w₀ e (node_in s))
     (g : Going t w₀ st₀ e s deep w st u won made i) (h : i < count_of w₀ (node_in s)) (n κ : ℕ) (ahead : VisitsAhead t e deep n) (κe : κ ≡ kind_of t e) {first x : ℕ} (fe : first ≡ entry_ahead t e n)
     (xe : x ≡ (if eqb κ 10 then word_at t e (2 + i) else first)) where
   leads : Leads t (operand_for t e κ i) x n
@@ -380,11 +375,11 @@ module _ {t w₀ st₀ : List ℕ} {e s deep : ℕ} {w st : List ℕ} {u won : �
       (ap (λ r. attempt_of (answer_of r)) re ∙ units-off)
 
 -- the node that is walked stands in the store
-pub going-stored : {t w₀ st₀ : List ℕ} {e s deep : ℕ} {w st : List ℕ} {u won : ℕ} {made : List ℕ} {i : ℕ} → Ready t w₀ st₀ e s → Going t w₀ st₀ e s deep w st u won made i → Stored w (node_in s)
+pub going-stored : {t w₀ st₀ : List ℕ} {e s deep : ℕ} {w st : List ℕ} {u : ℕ} {won : Bool} {made : List ℕ} {i : ℕ} → Ready t w₀ st₀ e s → Going t w₀ st₀ e s deep w st u won made i → Stored w (node_in s)
 going-stored ready g = kept-stored g.kept ready.subject (ready-stored ready)
 
 -- the walk's end
-module _ {t w₀ st₀ : List ℕ} {e s deep : ℕ} {w st : List ℕ} {u won : ℕ} {made : List ℕ} {i : ℕ} (ready : Ready t w₀ st₀ e s) (same : Counted t w₀ e (node_in s))
+module _ {t w₀ st₀ : List ℕ} {e s deep : ℕ} {w st : List ℕ} {u : ℕ} {won : Bool} {made : List ℕ} {i : ℕ} (ready : Ready t w₀ st₀ e s) (same : Counted t w₀ e (node_in s))
     (g : Going t w₀ st₀ e s deep w st u won made i) (h : count_of w₀ (node_in s) ≤ i) where
   pub going-fits : Fits w (mark_of st) (notes_of st)
   going-fits = g.steady.fits
@@ -416,14 +411,14 @@ module _ {t w₀ st₀ : List ℕ} {e s deep : ℕ} {w st : List ℕ} {u won : �
 
   finishes : (k n : ℕ) → k ≡ kind_of t e → n ≡ count_of w₀ (node_in s) → finished k won n s made st w u ≡ plan t deep (rest t w₀ e (node_in s) i won g.done (held st)) w (standing st) u
   unfolding finished when
-  finishes k n ke ne = sym (ap (λ p. plan t deep p w (standing st) u) (rest_end t w₀ e (node_in s) same i won g.done (held st) h) ∙ rw (← ke) (go (eqb k 13) (eqb won 0) (eqb n 0) refl refl))
+  finishes k n ke ne = sym (ap (λ p. plan t deep p w (standing st) u) (rest_end t w₀ e (node_in s) same i won g.done (held st) h) ∙ rw (← ke) (go (eqb k 13) won (eqb n 0) refl refl))
     where
-      go : (z o m : Bool) → eqb won 0 ≡ o → eqb n 0 ≡ m
-          → plan t deep (if z then when (not o) (again (node_in s) (constructor_of w₀ (node_in s)) g.done (held st)) else again (node_in s)
+      go : (z o m : Bool) → won ≡ o → eqb n 0 ≡ m
+          → plan t deep (if z then when o (again (node_in s) (constructor_of w₀ (node_in s)) g.done (held st)) else again (node_in s)
           (constructor_of w₀ (node_in s)) g.done (held st)) w (standing st) u
-          ≡ (if z then (if o then lost (left_of w (standing st)) u else noded made st w u) else if m then ended (node_in s) (held st) (on w (standing st)) (units_in s) else noded made st w u)
-      go true true m a b = fails t deep w (standing st) u
-      go true false m a b = new-node (held st) (λ f. let l = g.won-later (eqb-false won 0 a) in omega (arith, g.so_far)) refl
+          ≡ (if z then (if o then noded made st w u else lost (left_of w (standing st)) u) else if m then ended (node_in s) (held st) (on w (standing st)) (units_in s) else noded made st w u)
+      go true false m a b = fails t deep w (standing st) u
+      go true true m a b = new-node (held st) (λ f. let l = g.won-later a in omega (arith, g.so_far)) refl
       go false o true a b = no-child (all ∙ sym ne ∙ eqb-true n 0 b)
       go false o false a b = new-node (held st) (λ f. eqb-false n 0 b (ne ∙ sym all ∙ f)) refl
 
@@ -432,7 +427,7 @@ module _ {t w₀ st₀ : List ℕ} {e s deep : ℕ} {w st : List ℕ} {u won : �
   going-ends {k} {n} {st' = st'} ke ne f = record { is = f.is ∙ finishes k n ke ne ∙ g.left; frame = framed-trans further st₀ st st' g.frame f.frame }
 
 -- the words that `finish` is handed are the children that are made
-pub whole-made : (κ won n s name a b u r : ℕ) (more st w st' w' : List ℕ) → length more ≡ 4
+pub whole-made : (κ : ℕ) (won : Bool) (n s name a b u r : ℕ) (more st w st' w' : List ℕ) → length more ≡ 4
     → Gives (finished κ won n s (name ∷ n ∷ a ∷ b ∷ get_or more 0 0 ∷ get_or more 1 0 ∷ get_or more 2 0 ∷ get_or more 3 0 ∷ []) st w u) st r st' w'
     → Gives (finished κ won n s (name ∷ n ∷ a ∷ b ∷ more) st w u) st r st' w'
 whole-made κ won n s name a b u r more st w st' w' h g = subst (λ m. Gives (finished κ won n s (name ∷ n ∷ a ∷ b ∷ m) st w u) st r st' w') (four more h) g

@@ -1,5 +1,5 @@
 -- What the contracts of the cycle say: what a visit requires and gives, hints, and what the child walker does.
-use Rattle.std.specs.Prelude.{◌≡◌, false, ◌⊎◌, List, [], map, ℕ, ◌+◌, ◌-◌, ◌≤◌, ◌<◌, eqb, length, if◌then◌else◌}
+use Rattle.std.specs.Prelude.{◌≡◌, Bool, false, ◌⊎◌, List, [], map, ℕ, ◌+◌, ◌-◌, ◌≤◌, ◌<◌, eqb, length, if◌then◌else◌}
 use Rattle.words.specs.Words.{word_at}
 use Rattle.checks.specs.Good.{kind_of, operand_count, constructor_of}
 use Rattle.meaning.specs.Bindings.{Bindings}
@@ -57,10 +57,10 @@ Applied t w st e g d r st' w' = Gives (visit t d (apply e (node_in g) (held st))
 abbrev pub Follows : (t w st : List ℕ) (e g d r : ℕ) → (st' w' : List ℕ) → Type 0
 Follows t w st e g d r st' w' = Gives (ruled t d e (node_in g) (held st) w (standing st) (units_in g)) st r st' w'
 
--- a number of visits after which entry q fails on node k, at the pattern p, or 0 where none is known
+-- a number of visits after which entry q fails on node k, at the pattern p
 pub record VisitsToFailure (t w : List ℕ) (q k p most n : ℕ) : Type 0 where
   pub few : n ≤ most
-  pub fails : (n ≡ 0 → ⊥) → Fails t w q k p n
+  pub fails : Fails t w q k p n
 
 -- n visits, no more than the nesting d, that lead from the one operand of entry e to its word 4; 0 where none are known, and
 -- in CONG
@@ -95,7 +95,7 @@ abbrev pub Walks : (t w st : List ℕ) (e g d r : ℕ) → (st' w' : List ℕ) �
 Walks t w st e g d r st' w' = Gives (plan t d (walked t w e (node_in g) (held st)) w (standing st) (units_in g)) st r st' w'
 
 -- the walk's end: SOME needs a success, and a term without children is returned itself
-unfoldable pub finished : (k won n g : ℕ) → List ℕ → List ℕ → List ℕ → ℕ → Ran
+unfoldable pub finished : (k : ℕ) (won : Bool) (n g : ℕ) → List ℕ → List ℕ → List ℕ → ℕ → Ran
 finished k won n g made st w u =
-    if eqb k 13 then (if eqb won 0 then lost (left_of w (standing st)) u else noded made st w u)
+    if eqb k 13 then (if won then noded made st w u else lost (left_of w (standing st)) u)
     else if eqb n 0 then ended (node_in g) (held st) (on w (standing st)) (units_in g) else noded made st w u

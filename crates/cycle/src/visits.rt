@@ -1,6 +1,6 @@
 // The cycle of visits. Applying an entry selects the rule by its kind; operands in a last position go round a loop; one
 // child walker serves ALL, SOME and CONG. The nesting left falls at each call.
-ghost use Rattle.std.specs.Prelude.{◌≡◌, ◌⊎◌, ◌+◌, ◌-◌, ◌<◌, eqb, ltb, length, set, if◌then◌else◌};
+ghost use Rattle.std.specs.Prelude.{◌≡◌, ◌⊎◌, ◌+◌, ◌-◌, ◌<◌, ◌≢◌, MatchOption, eqb, ltb, length, set, if◌then◌else◌};
 ghost use Rattle.words.specs.Words.{word_at};
 ghost use Rattle.checks.specs.Good.{kind_of};
 ghost use Rattle.state.specs.Answers.{node_in};
@@ -22,7 +22,7 @@ use state::answers::{
 use state::reading::{
     HINT_ENTRY, HINT_VISITS, SCOPE_OPERAND, agree, count, entry, kind, node_word, row, scope_mask,
 };
-use state::record::{MARK, MISS, RECORD, bound_in, keep_words, mask_of, put_back, restore, unbind};
+use state::record::{MISS, RECORD, Saved, bound_in, keep_words, put_back, restore, save, unbind};
 
 // One visit: an entry applied as a strategy. Units first, then nesting; then it is counted. ALL, of which traversals are made,
 // is looked at here: a term without children is given back at once.
@@ -80,8 +80,7 @@ fn apply_loop(
         }
         d -= 1;
         s -= 1;
-        let kind = kind(table, e);
-        match kind {
+        match kind(table, e) {
             REC..=CALL => {
                 e = entry(table, e, 2);
             }
@@ -96,20 +95,18 @@ fn apply_loop(
             CHOICE..=LEFT => {
                 // Where the first operand fails at its head, its visits are counted and not made.
                 let first = entry(table, e, 2);
-                let fails = visits_to_failure(table, store, e, s, d);
-                if fails != 0 {
+                if let Some(fails) = visits_to_failure(table, store, e, s, d) {
                     st[MISS] = entry(table, e, HINT_ENTRY);
                     s -= fails as u64;
                     e = entry(table, e, 3);
                     continue;
                 }
-                let mark = st[MARK];
-                let mask = mask_of(st);
+                let saved = save(st);
                 let got = apply_first(table, store, st, first, s, d);
                 let Answer::Failed(rest) = answer_of(got) else {
                     return got;
                 };
-                restore(st, mark, mask);
+                restore(st, saved);
                 s = done((s / HALF) as u32, rest);
                 e = entry(table, e, 3);
             }
@@ -180,10 +177,8 @@ fn apply_first(
     ensures { Applied table.now store.old st.old start given deep result st.new store.new }
 {
     let kind = kind(table, start);
-    if kind != CONG {
-        if kind != SCOPE {
-            return apply_loop(table, store, st, start, given, deep);
-        }
+    if kind != CONG && kind != SCOPE {
+        return apply_loop(table, store, st, start, given, deep);
     }
     let left = (given % HALF) as u32;
     if left == 0 {
@@ -211,13 +206,11 @@ fn rule(
     requires { Ready table.now store.old st.old e s × Last (kind_of table.now e) }
     ensures { Follows table.now store.old st.old e s d result st.new store.new }
 {
-    let kind = kind(table, e);
-    match kind {
+    match kind(table, e) {
         ID => s,
         TEST..=NOT => guard(table, store, st, e, s, d),
         PATH => path(table, store, st, e, s, d),
-        ALL => walk(table, store, st, e, s, d),
-        SOME => walk(table, store, st, e, s, d),
+        ALL | SOME => walk(table, store, st, e, s, d),
         MATCH => match_node(table, store, st, entry(table, e, 2), s, d),
         BUILD => build(table, store, st, entry(table, e, 2), (s % HALF) as u32, d),
         SCOPE => scope(table, store, st, e, s, d),
@@ -239,23 +232,17 @@ fn guard(
     requires { Ready table.now store.old st.old e s × ((kind_of table.now e ≡ 2) ⊎ (kind_of table.now e ≡ 3)) }
     ensures { Follows table.now store.old st.old e s deep result st.new store.new }
 {
-    let mark = st[MARK];
-    let mask = mask_of(st);
+    let saved = save(st);
     let got = apply(table, store, st, entry(table, e, 2), s, deep);
-    let Attempt::Ended(yes, _, left) = attempt_of(got) else {
+    let Attempt::Ended(term, left) = attempt_of(got) else {
         return got;
     };
-    restore(st, mark, mask);
-    if kind(table, e) == TEST {
-        if yes {
-            return done((s / HALF) as u32, left);
-        }
-        return failure(left);
+    restore(st, saved);
+    if term.is_some() == (kind(table, e) == TEST) {
+        done((s / HALF) as u32, left)
+    } else {
+        failure(left)
     }
-    if yes {
-        return failure(left);
-    }
-    done((s / HALF) as u32, left)
 }
 
 // WHERE: the term as it was, the new bindings kept.
@@ -294,10 +281,7 @@ fn path(
     let i = entry(table, e, 1);
     let t = (s / HALF) as u32;
     let left = (s % HALF) as u32;
-    if i == 0 {
-        return failure(left);
-    }
-    if count(store, t) < i {
+    if i == 0 || count(store, t) < i {
         return failure(left);
     }
     let got = apply(
@@ -356,18 +340,16 @@ fn walk(
     let name = node_word(store, t, 0);
     let ahead = visits_ahead(table, e, deep);
     let first = entry_ahead(table, e, ahead);
-    let mut won: u32 = 0;
+    let mut won = false;
     let mut a: u32 = 0;
     let mut b: u32 = 0;
     let mut others = [0u32; 4];
-    let mut i: u32 = 0;
-    while i < n {
+    for i in 0..n {
         if left < ahead {
             return no_units();
         }
         let c = node_word(store, t, 2 + i);
-        let mark = saved_mark(st, kind);
-        let mask = saved_mask(st, kind);
+        let saved = save_for(st, kind);
         let got = apply(
             table,
             store,
@@ -376,24 +358,26 @@ fn walk(
             done(c, left - ahead),
             deep - ahead,
         );
-        let Attempt::Ended(yes, x, rest) = attempt_of(got) else {
+        let Attempt::Ended(term, rest) = attempt_of(got) else {
             return got;
         };
-        let mut y = c;
-        if yes {
-            won = 1;
-            y = x;
-        } else {
-            if kind != SOME {
-                return got;
+        let y = match term {
+            Some(x) => {
+                won = true;
+                x
             }
-            restore(st, mark, mask);
-        }
+            None => {
+                let Some(kept) = saved else {
+                    return got;
+                };
+                restore(st, kept);
+                c
+            }
+        };
         a = child_at(i, 0, y, a);
         b = child_at(i, 1, y, b);
         others = others_at(others, i, y);
         left = rest;
-        i += 1;
     }
     finish(
         store,
@@ -416,11 +400,8 @@ fn visits_ahead(table: &[u32; 32768], e: u32, deep: u32) -> u32
     if deep < 2 {
         return 0;
     }
-    let kind = kind(table, e);
-    match kind {
-        ALL => entry(table, e, HINT_VISITS),
-        SOME => entry(table, e, HINT_VISITS),
-        ONE => entry(table, e, HINT_VISITS),
+    match kind(table, e) {
+        ALL..=SOME => entry(table, e, HINT_VISITS),
         _ => 0,
     }
 }
@@ -448,22 +429,10 @@ fn operand(table: &[u32; 32768], e: u32, kind: u32, first: u32, i: u32) -> u32
 }
 
 // The mark and the mask, for SOME, which may put them back.
-fn saved_mark(st: &[u32; RECORD], kind: u32) -> u32
-    ensures { result ≡ (if eqb kind 13 then mark_of st.now else 0) }
+fn save_for(st: &[u32; RECORD], kind: u32) -> Option<Saved>
+    ensures { MatchOption result (kind ≢ 13) (λ saved. (kind ≡ 13) × (saved.mark ≡ mark_of st.now) × (saved.mask ≡ mask_of st.now)) }
 {
-    if kind == SOME {
-        return st[MARK];
-    }
-    0
-}
-
-fn saved_mask(st: &[u32; RECORD], kind: u32) -> u64
-    ensures { result ≡ (if eqb kind 13 then mask_of st.now else 0) }
-{
-    if kind == SOME {
-        return mask_of(st);
-    }
-    0
+    if kind == SOME { Some(save(st)) } else { None }
 }
 
 // The children that are made: the first and the second by themselves, so that a walk over two writes no array, the others
@@ -494,7 +463,7 @@ fn finish(
     store: &mut [u32],
     st: &mut [u32; RECORD],
     kind: u32,
-    won: u32,
+    won: bool,
     n: u32,
     s: u64,
     made: [u32; 8],
@@ -504,7 +473,7 @@ fn finish(
     ensures { Gives (finished kind won n s made st.old store.old left) st.old result st.new store.new }
 {
     if kind == SOME {
-        if won == 0 {
+        if !won {
             return failure(left);
         }
         return node(store, st, made, left);
@@ -532,12 +501,10 @@ fn one(
     let t = (s / HALF) as u32;
     let mut left = (s % HALF) as u32;
     let n = count(store, t);
-    let mark = st[MARK];
-    let mask = mask_of(st);
+    let saved = save(st);
     let ahead = visits_ahead(table, e, deep);
     let op = entry_ahead(table, e, ahead);
-    let mut i: u32 = 0;
-    while i < n {
+    for i in 0..n {
         if left < ahead {
             return no_units();
         }
@@ -549,17 +516,16 @@ fn one(
             done(node_word(store, t, 2 + i), left - ahead),
             deep - ahead,
         );
-        let Attempt::Ended(yes, x, rest) = attempt_of(got) else {
+        let Attempt::Ended(term, rest) = attempt_of(got) else {
             return got;
         };
-        if yes {
+        if let Some(x) = term {
             let mut made = row(store, t);
             made[2 + (i as usize)] = x;
             return node(store, st, made, rest);
         }
-        restore(st, mark, mask);
+        restore(st, saved);
         left = rest;
-        i += 1;
     }
     failure(left)
 }

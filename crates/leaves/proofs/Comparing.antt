@@ -56,20 +56,24 @@ weaker h = omega arith
 pub below : {d n t : ℕ} → d < n → n ≡ t → d < t
 below h e = omega arith
 
-pub not_last : {i n k : ℕ} → i + 1 < n → n ≡ k → i < k
+pub not_last : {i n k : ℕ} → i < n - 1 → n ≡ k → i < k
 not_last h e = omega arith
 
-pub last : {i n k : ℕ} → i < n → n ≤ i + 1 → n ≡ k → i + 1 ≡ k
+pub one-more : {i n : ℕ} → i < n - 1 → i + 1 < n
+one-more h = omega arith
+
+pub last : {i n k : ℕ} → i < n → n - 1 ≤ i → n ≡ k → i + 1 ≡ k
 last h l e = omega arith
 
 pub up_to : {i k : ℕ} → i + 1 ≡ k → i < k
 up_to e = omega arith
 
-pub nearer : {i n : ℕ} → i < n → n - (i + 1) < n - i
-nearer h = omega arith
-
 pub few : (k : ℕ) {i n : ℕ} → i < n → n ≡ min k 6 → Fits w32 (i + 1) × Fits w32 (2 + i)
 few k h e = (record { fits = omega arith }, record { fits = omega arith })
+
+-- the last child's word
+pub last-word : (w : List ℕ) (x i n : ℕ) {r k : ℕ} → r ≡ word_at w x (1 + n) → n ≡ k → i + 1 ≡ k → r ≡ word_at w x (2 + i)
+last-word w x i n e p q = let f : 1 + n ≡ 2 + i = omega arith in e ∙ ap (λ (j : ℕ). word_at w x j) f
 
 pub child-word : (n : ℕ) {i : ℕ} → i < min n 6 → 2 + i < 8
 child-word n h = omega arith

@@ -23,8 +23,7 @@ fn node_asked(store: &mut [u32], st: &mut [u32; RECORD], made: [u32; 8], left: u
     let n = st[NODES];
     let k = st[MARK];
     let top = st[TOP];
-    let a = ask(store, n, k, top, made);
-    match a {
+    match ask(store, n, k, top, made) {
         Node::Stands(x) => done(x, left),
         Node::Full => no_room(left),
         Node::Made(x) => {
@@ -95,8 +94,7 @@ pub fn build(
     let mut left = units - 1;
     let n = operands(table, p);
     let mut made = [entry(table, p, 1), n, 0, 0, 0, 0, 0, 0];
-    let mut i: u32 = 0;
-    while i < n {
+    for i in 0..n {
         let q = entry(table, p, 2 + i);
         let got = if kind(table, q) == PVAR {
             build_variable(table, st, q, left, deep - 1)
@@ -108,7 +106,6 @@ pub fn build(
         };
         made[2 + (i as usize)] = x;
         left = rest;
-        i += 1;
     }
     // The row is in memory already, so the index gets the row itself.
     if st[ROOM] <= st[MARK] {

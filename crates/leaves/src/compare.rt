@@ -26,17 +26,13 @@ pub(crate) fn same(store: &[u32], a: u32, b: u32, units: u32, deep: u32) -> u64
         left -= 1;
         d -= 1;
         let n = count(store, x);
-        if node_word(store, x, 0) != node_word(store, y, 0) {
-            return failure(left);
-        }
-        if n != count(store, y) {
+        if node_word(store, x, 0) != node_word(store, y, 0) || n != count(store, y) {
             return failure(left);
         }
         if n == 0 {
             return done(0, left);
         }
-        let mut i: u32 = 0;
-        while i + 1 < n {
+        for i in 0..n - 1 {
             // The call gets a copy of the slice, so that the slice itself stays in registers.
             let words = store;
             let got = same(
@@ -50,9 +46,8 @@ pub(crate) fn same(store: &[u32], a: u32, b: u32, units: u32, deep: u32) -> u64
                 return got;
             };
             left = rest;
-            i += 1;
         }
-        x = node_word(store, x, 2 + i);
-        y = node_word(store, y, 2 + i);
+        x = node_word(store, x, 1 + n);
+        y = node_word(store, y, 1 + n);
     }
 }

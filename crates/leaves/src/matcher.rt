@@ -26,9 +26,7 @@ fn match_nested(
 {
     let t = (s / HALF) as u32;
     let mut left = (s % HALF) as u32;
-    let n = operands(table, p);
-    let mut i: u32 = 0;
-    while i < n {
+    for i in 0..operands(table, p) {
         let q = entry(table, p, 2 + i);
         let c = node_word(store, t, 2 + i);
         if left == 0 {
@@ -66,15 +64,8 @@ fn match_nested(
                 left = rest;
             }
         }
-        i += 1;
     }
     done(0, left)
-}
-
-#[derive(Clone, Copy)]
-pub struct MatchedChildren {
-    pub got: u64,
-    pub binds: Bindings,
 }
 
 // The same by value: the record is taken and returned, and filled on the way.
@@ -85,16 +76,13 @@ fn match_children(
     s: u64,
     b: Bindings,
     deep: u32,
-) -> MatchedChildren
+) -> (u64, Bindings)
     requires { Agreed table.now store.now p s deep × Bound store.now (held b.words) }
-    ensures { MatchesChildren table.now store.now deep p s b.words result.got result.binds.words }
+    ensures { MatchesChildren table.now store.now deep p s b.words result.0 result.1.words }
 {
     let mut words = b.words;
     let got = match_nested(table, store, &mut words, p, s, deep);
-    MatchedChildren {
-        got,
-        binds: Bindings { words },
-    }
+    (got, Bindings { words })
 }
 
 // The children of a PCON, matched in the run's record, for a MATCH's own pattern. The last child goes round the loop: its children
@@ -115,6 +103,7 @@ fn match_in_place(
     let mut left = (s % HALF) as u32;
     let mut d = deep;
     let mut n = operands(table, x);
+    // No count over a range: at a pattern in the last place it begins anew.
     let mut i: u32 = 0;
     while i < n {
         let q = entry(table, x, 2 + i);
@@ -155,7 +144,7 @@ fn match_in_place(
                     i = 0;
                 } else {
                     let words = store;
-                    let f = match_children(
+                    let (got, Bindings { words: filled }) = match_children(
                         table,
                         words,
                         q,
@@ -163,15 +152,12 @@ fn match_in_place(
                         Bindings { words: *st },
                         d - 1,
                     );
-                    let got = f.got;
-                    let b = f.binds;
-                    let w = b.words;
                     let Answer::Done(_, rest) = answer_of(got) else {
-                        st[MISS] = w[MISS];
+                        st[MISS] = filled[MISS];
                         return got;
                     };
                     left = rest;
-                    *st = w;
+                    *st = filled;
                 }
             }
         }
@@ -210,9 +196,8 @@ pub fn match_node(
             };
             return done(t, rest);
         }
-        let set = bind(Bindings { words: *st }, v, t);
-        let w = set.words;
-        *st = w;
+        let Bindings { words } = bind(Bindings { words: *st }, v, t);
+        *st = words;
         return s - 1;
     }
     if !agree(table, store, p, t) {

@@ -26,31 +26,27 @@ elsewhere : {t : List ℕ} {p x y n : ℕ} → x ≡ y → HasHead t p x n → H
 elsewhere {t} {p} {n = n} e b = subst (λ (x : ℕ). HasHead t p x n) e b
 
 module _ {t : List ℕ} {q : ℕ} where
-  -- nothing is known
-  pub found_none : {most x n : ℕ} → n ≡ 0 → HeadFound t q most x n
-  found_none e = record { few = omega arith; head = λ z. absurd (z e) }
-
   pub found-match : {p : ℕ} → kind_of t q ≡ 14 → p ≡ word_at t q 2 → kind_of t p ≡ 19 → HeadFound t q 2 p 2
-  found-match h e g = record { few = omega arith; head = λ z. MATCH q h e g }
+  found-match h e g = record { few = omega arith; head = MATCH q h e g }
 
   -- the operand x so begins
-  module _ {x most p n : ℕ} (e : x ≡ word_at t q 2) (b : HeadFound t x most p n) (some : n ≡ 0 → ⊥) where
+  module _ {x most p n : ℕ} (e : x ≡ word_at t q 2) (b : HeadFound t x most p n) where
     pub found-seq : kind_of t q ≡ 4 → HeadFound t q (most + 1) p (n + 1)
-    found-seq h = record { few = omega (arith, b.few); head = λ z. SEQ q n h (elsewhere e (b.head some)) }
+    found-seq h = record { few = omega (arith, b.few); head = SEQ q n h (elsewhere e b.head) }
 
-  module _ {x most p n : ℕ} (e : x ≡ word_at t q (1 + ours)) (b : HeadFound t x most p n) (some : n ≡ 0 → ⊥) where
+  module _ {x most p n : ℕ} (e : x ≡ word_at t q (1 + ours)) (b : HeadFound t x most p n) where
     pub found_scope : kind_of t q ≡ 16 → HeadFound t q (most + 1) p (n + 1)
-    found_scope h = record { few = omega (arith, b.few); head = λ z. SCOPE q n h (elsewhere e (b.head some)) }
+    found_scope h = record { few = omega (arith, b.few); head = SCOPE q n h (elsewhere e b.head) }
 
 pub calls : {t : List ℕ} {x q r : ℕ} → kind_of t q ≡ 8 → r ≡ word_at t q 2 → kind_of t r ≡ 7 → x ≡ word_at t r 2 → Calls t x q 2
 calls {t} h e g b = record { call = h; called = rw (← e) g; body = b ∙ ap (λ (r : ℕ). word_at t r 2) e; visits = refl }
 
 module _ {t : List ℕ} {e q x n : ℕ} (o : q ≡ word_at t e 2) where
-  pub hints-choice : (kind_of t e ≡ 5) ⊎ (kind_of t e ≡ 6) → HeadFound t q 4 x n → (n ≡ 0 → ⊥) → Hints t e x n
-  hints-choice k b z = choice k b.few (elsewhere o (b.head z))
+  pub hints-choice : (kind_of t e ≡ 5) ⊎ (kind_of t e ≡ 6) → HeadFound t q 4 x n → Hints t e x n
+  hints-choice k b = choice k b.few (elsewhere o b.head)
 
-  pub hints-all : (kind_of t e ≡ 11) ⊎ (kind_of t e ≡ 12) ⊎ (kind_of t e ≡ 13) → ((n ≡ 0 → ⊥) → Calls t x q n) → (n ≡ 0 → ⊥) → Hints t e x n
-  hints-all k b z = all k (subst (λ (q : ℕ). Calls t x q n) o (b z))
+  pub hints-all : (kind_of t e ≡ 11) ⊎ (kind_of t e ≡ 12) ⊎ (kind_of t e ≡ 13) → Calls t x q n → Hints t e x n
+  hints-all k b = all k (subst (λ (q : ℕ). Calls t x q n) o b)
 
 -- ---- in a run
 
@@ -62,12 +58,6 @@ apart (inl a) (inr (inr b)) = omega arith
 apart (inr a) (inl b) = omega arith
 apart (inr a) (inr (inl b)) = omega arith
 apart (inr a) (inr (inr b)) = omega arith
-
--- no such beginning is at once
-head-some : {t : List ℕ} {p q n : ℕ} → HasHead t p q n → n ≡ 0 → ⊥
-head-some (MATCH q h e g) z = omega arith
-head-some (SEQ q n h b) z = omega arith
-head-some (SCOPE q n h b) z = omega arith
 
 module _ {t c : List ℕ} (ch : table_checked t ≡ checked 0 0) (l : Loaded t c) where
   first-same : (e : ℕ) → word_at t e 2 ≡ word_at c e 2
@@ -81,9 +71,9 @@ module _ {t c : List ℕ} (ch : table_checked t ≡ checked 0 0) (l : Loaded t c
   head-fails {p} (MATCH q h e g) i w k a =
       match-fails (entries-loaded ch l) i (kind-same l q ∙ h) (e ∙ first-same q) (kind-same l p ∙ g) a
   head-fails (SEQ q n h b) i w k a =
-      seq-fails (head-fails b (facts-second t ch q 4 h (λ z. omega arith)) w k a) (head-some b) (first-same q) (kind-same l q ∙ h)
+      seq-fails (head-fails b (facts-second t ch q 4 h (λ z. omega arith)) w k a) (first-same q) (kind-same l q ∙ h)
   head-fails (SCOPE q n h b) i w k a =
-      scope-fails (head-fails b (facts-scope t ch q) w k a) (head-some b) (scope-same q) (kind-same l q ∙ h)
+      scope-fails (head-fails b (facts-scope t ch q) w k a) (scope-same q) (kind-same l q ∙ h)
 
   -- a CALL and its REC take two visits
   calls-leads : {x q n : ℕ} → Calls t x q n → Leads c q x n
@@ -124,7 +114,7 @@ module _ {t c : List ℕ} (ch : table_checked t ≡ checked 0 0) (l : Loaded t c
       head e i (inr k) s (given p q) = absurd (s (q ∙ five-unused t ch e 6 k (λ z. omega arith) (omega arith) (omega arith)))
       head e i k s (choice h n b) = record {
         few = n;
-        fails = λ w m a. rw (word_same l e 2 (omega arith)) ((head-fails b (inside-choice e h) w m a).fails s);
+        fails = λ w m a. rw (word_same l e 2 (omega arith)) (head-fails b (inside-choice e h) w m a).fails;
       }
       head e i k s (all h b) = absurd (apart k h)
 

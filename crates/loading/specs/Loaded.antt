@@ -28,10 +28,10 @@ pub data Hints (t : List ℕ) (e x n : ℕ) : Type 0 where
   choice : (kind_of t e ≡ 5) ⊎ (kind_of t e ≡ 6) → n ≤ 4 → HasHead t x (word_at t e 2) n → Hints t e x n
   all : (kind_of t e ≡ 11) ⊎ (kind_of t e ≡ 12) ⊎ (kind_of t e ≡ 13) → Calls t x (word_at t e 2) n → Hints t e x n
 
--- what a look for a head answers: n is 0 where none is known
+-- what a look for a head finds
 pub record HeadFound (t : List ℕ) (q most x n : ℕ) : Type 0 where
   pub few : n ≤ most
-  pub head : (n ≡ 0 → ⊥) → HasHead t x q n
+  pub head : HasHead t x q n
 
 -- c has the table's words, and zeros after them; words 4 and 5 of an entry may have a hint about its first operand
 pub record Loaded (t c : List ℕ) : Type 0 where

@@ -9,8 +9,7 @@ ghost use Rattle.state.specs.Record.{held};
 ghost use Rattle.loading.specs.Loaded.{Loaded, Opened};
 
 use crate::hints::hint_for;
-use checks::kinds::VARIABLES;
-use state::record::{Bindings, MARK, NODES, RECORD, ROOM, TOP, bind, bit, word_of};
+use state::record::{MARK, NODES, RECORD, ROOM, TOP, bit, put_variable, word_of};
 
 mod hints;
 
@@ -20,20 +19,13 @@ pub fn load(code: &mut [u32; 32768], table: &[u32])
     requires { (length table.now ≤ 32768) × (code.old ≡ replicate 32768 0) }
     ensures { Loaded table.now code.new }
 {
-    let mut i: usize = 0;
-    while i < table.len() {
-        code[i] = table[i];
-        i += 1;
-    }
-    let mut e: u32 = 0;
-    while 8 * (e as usize) < table.len() {
-        let h = hint_for(table, e);
-        if h.1 != 0 {
+    code[..table.len()].copy_from_slice(table);
+    for e in 0..(table.len() / 8) as u32 {
+        if let Some(hint) = hint_for(table, e) {
             let k = 8 * (e as usize);
-            code[k + 4] = h.0;
-            code[k + 5] = h.1;
+            code[k + 4] = hint.entry;
+            code[k + 5] = hint.visits;
         }
-        e += 1;
     }
 }
 
@@ -47,14 +39,10 @@ pub fn opened(bindings: &[u32], mark: u32, room: u32, top: u32, nodes: u32) -> [
     words[ROOM] = room;
     words[TOP] = top;
     words[NODES] = nodes;
-    let mut v: u32 = 0;
-    while (v as usize) < VARIABLES {
-        let w = bindings[v as usize];
-        if w != 0 {
-            let set = bind(Bindings { words }, v, w - 1);
-            words = set.words;
+    for (v, w) in bindings.iter().enumerate() {
+        if *w != 0 {
+            put_variable(&mut words, v as u32, *w - 1);
         }
-        v += 1;
     }
     words
 }
@@ -64,14 +52,12 @@ pub fn closed(bindings: &mut [u32], st: [u32; RECORD])
     requires { (length bindings.old ≡ variables) × ((v k : ℕ) → held st v ≡ some k → k < 131072) }
     ensures { bindings.new ≡ binding_words variables (held st) }
 {
-    let mut v: u32 = 0;
-    while (v as usize) < VARIABLES {
-        let k = v as usize;
-        if bit(&st, v) == 1 {
-            bindings[k] = word_of(&st, v) + 1;
+    for (v, w) in bindings.iter_mut().enumerate() {
+        let v = v as u32;
+        *w = if bit(&st, v) == 1 {
+            word_of(&st, v) + 1
         } else {
-            bindings[k] = 0;
-        }
-        v += 1;
+            0
+        };
     }
 }

@@ -6,7 +6,7 @@ use Prim.Native.Nat.{ℕ, ◌+◌, ◌%◌, ◌<◌, ◌≤◌}
 use native.Mathlib.Omega.{arith}
 use lib.Dec.{eqb, ltb}
 use borrow.Author.Tests.{ne_eqb, eqb-true, eqb-false, lt-ltb, le-ltb, ltb-true}
-use Rattle.std.specs.Prelude.{if◌then◌else◌}
+use Rattle.std.specs.Prelude.{Some, None, if◌then◌else◌}
 use Rattle.meaning.specs.Bindings.{Bindings}
 use Rattle.meaning.specs.Limits.{units, room, nesting, unbound, ended, lost, cut}
 use Rattle.state.specs.Noted.{Standing, on, left_of}
@@ -154,25 +154,26 @@ failed-units r u e = go (ltb (node_in r) failed_half) (ltb (node_in r) cut_half)
     go false false h = absurd (let z : ◌≡◌ {A = ℕ} 0 1 = cc in omega arith)
 
 -- what was attempted, as what was read
-pub attempt-done : (a : Answer) (x u : ℕ) → attempt_of a ≡ Ended true x u → a ≡ Done x u
+pub attempt-done : (a : Answer) (x u : ℕ) → attempt_of a ≡ Ended (Some x) u → a ≡ Done x u
 unfolding attempt_of
 attempt-done (Done y v) x u e = ap (λ h. Done (node_of h) (units_of h)) e
   where
     node_of : Attempt → ℕ
-    node_of (Ended t y v) = y
+    node_of (Ended (Some y) v) = y
+    node_of (Ended None v) = 0
     node_of (Off c) = 0
 
     units_of : Attempt → ℕ
-    units_of (Ended t y v) = v
+    units_of (Ended o v) = v
     units_of (Off c) = 0
 attempt-done (Failed v) x u e = absurd (let z : ◌≡◌ {A = ℕ} 0 1 = cc in omega arith)
 attempt-done (Cut c) x u e = absurd (let z : ◌≡◌ {A = ℕ} 0 1 = cc in omega arith)
 
-pub attempt-failed : (a : Answer) (x u : ℕ) → attempt_of a ≡ Ended false x u → a ≡ Failed u
+pub attempt-failed : (a : Answer) (u : ℕ) → attempt_of a ≡ Ended None u → a ≡ Failed u
 unfolding attempt_of
-attempt-failed (Done y v) x u e = absurd (let z : ◌≡◌ {A = ℕ} 0 1 = cc in omega arith)
-attempt-failed (Failed v) x u e = let z : v ≡ u = cc in ap Failed z
-attempt-failed (Cut c) x u e = absurd (let z : ◌≡◌ {A = ℕ} 0 1 = cc in omega arith)
+attempt-failed (Done y v) u e = absurd (let z : ◌≡◌ {A = ℕ} 0 1 = cc in omega arith)
+attempt-failed (Failed v) u e = let z : v ≡ u = cc in ap Failed z
+attempt-failed (Cut c) u e = absurd (let z : ◌≡◌ {A = ℕ} 0 1 = cc in omega arith)
 
 pub attempt-cut : (a : Answer) (c : ℕ) → attempt_of a ≡ Off c → a ≡ Cut c
 unfolding attempt_of

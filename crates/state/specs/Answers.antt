@@ -1,6 +1,6 @@
 -- The answer of a visit in one word, and what it says. The word's upper half is a node below 2³¹; from there on it says failed,
 -- and from 3 × 2³⁰ on what cut the visit off. No store has so many nodes.
-use Rattle.std.specs.Prelude.{true, false, ℕ, ◌+◌, ◌*◌, ◌/◌, ◌%◌, eqb, ltb, if◌then◌else◌}
+use Rattle.std.specs.Prelude.{Some, None, ℕ, ◌+◌, ◌*◌, ◌/◌, ◌%◌, eqb, ltb, if◌then◌else◌}
 use Rattle.state.specs.declared.answers.Answer.{Answer}
 use Rattle.state.specs.declared.answers.Answer.TheVariants.{Done, Failed, Cut}
 use Rattle.state.specs.declared.answers.Attempt.{Attempt}
@@ -62,6 +62,6 @@ answer_of r =
 
 -- success and failure in one
 unfoldable pub attempt_of : Answer → Attempt
-attempt_of (Done x u) = Ended true x u
-attempt_of (Failed u) = Ended false 0 u
+attempt_of (Done x u) = Ended (Some x) u
+attempt_of (Failed u) = Ended None u
 attempt_of (Cut c) = Off c

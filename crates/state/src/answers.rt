@@ -30,10 +30,10 @@ pub enum Answer {
     Cut(u64),
 }
 
-// An answer for an operator that goes on after a failure: whether its operand succeeded, the node, the units left.
+// An answer for an operator that goes on after a failure: the node where its operand succeeded, and the units left.
 #[derive(Clone, Copy)]
 pub enum Attempt {
-    Ended(bool, u32, u32),
+    Ended(Option<u32>, u32),
     Cut(u64),
 }
 
@@ -54,10 +54,9 @@ pub fn answer_of(r: u64) -> Answer
 pub fn attempt_of(r: u64) -> Attempt
     ensures { result ≡ attempt_of (answer_of r) }
 {
-    let a = answer_of(r);
-    match a {
-        Answer::Done(x, left) => Attempt::Ended(true, x, left),
-        Answer::Failed(left) => Attempt::Ended(false, 0, left),
+    match answer_of(r) {
+        Answer::Done(x, left) => Attempt::Ended(Some(x), left),
+        Answer::Failed(left) => Attempt::Ended(None, left),
         Answer::Cut(c) => Attempt::Cut(c),
     }
 }

@@ -67,16 +67,10 @@ pub fn row(store: &[u32], k: u32) -> [u32; 8]
     requires { Stored store.now k }
     ensures { result ≡ row_at store.now k }
 {
-    [
-        node_word(store, k, 0),
-        node_word(store, k, 1),
-        node_word(store, k, 2),
-        node_word(store, k, 3),
-        node_word(store, k, 4),
-        node_word(store, k, 5),
-        node_word(store, k, 6),
-        node_word(store, k, 7),
-    ]
+    let at = 8 * (k as usize);
+    let mut row = [0u32; 8];
+    row.copy_from_slice(&store[at..at + 8]);
+    row
 }
 
 // Whether the constructor and the count of entry p are those of node k.
@@ -84,8 +78,5 @@ pub fn agree(table: &[u32; 32768], store: &[u32], p: u32, k: u32) -> bool
     requires { (p < 4096) × Stored store.now k }
     ensures { result ≡ agreeing table.now store.now p k }
 {
-    if entry(table, p, 1) != node_word(store, k, 0) {
-        return false;
-    }
-    operands(table, p) == count(store, k)
+    entry(table, p, 1) == node_word(store, k, 0) && operands(table, p) == count(store, k)
 }

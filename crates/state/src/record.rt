@@ -6,7 +6,7 @@ ghost use Rattle.std.specs.Prelude.{◌≡◌, ◌+◌, ◌≤◌, ◌<◌, leng
 ghost use Rattle.std.specs.Int.Bits.{bit_and};
 ghost use Rattle.checks.specs.Kinds.{variables};
 ghost use Rattle.state.specs.Answers.{answer_of};
-ghost use Rattle.state.specs.Record.{record_long, mask_of, word_of, bit_of, bound, given_up, hidden, copied, kept_words, put_back, marking, masking};
+ghost use Rattle.state.specs.Record.{record_long, mark_of, mask_of, word_of, bit_of, bound, given_up, hidden, copied, kept_words, put_back, marking, masking};
 
 use crate::answers::{Answer, HALF, answer_of};
 use checks::kinds::VARIABLES;
@@ -82,12 +82,7 @@ pub(crate) fn set_variable(b: &mut Bindings, v: u32, t: u32)
     requires { v < variables }
     ensures { b.new.words ≡ bound b.old.words v t }
 {
-    b.words[FIRST + v as usize] = t;
-    let low = b.words[MASK] as u64;
-    let high = b.words[MASK_HIGH] as u64;
-    let mask = (low + high * HALF) | (1 << v);
-    b.words[MASK] = (mask % HALF) as u32;
-    b.words[MASK_HIGH] = (mask / HALF) as u32;
+    put_variable(&mut b.words, v, t);
 }
 
 // Sets one variable of a record by value: what a MATCH of a variable alone calls.
@@ -119,12 +114,29 @@ pub fn give_up(st: &mut [u32; RECORD], p: u32, got: u64)
     st[MISS] = p;
 }
 
-// Puts mark and mask back: a failure leaves no node and no binding. Where a match gave up stays.
-pub fn restore(st: &mut [u32; RECORD], mark: u32, mask: u64)
-    ensures { st.new ≡ masking (marking st.old mark) mask }
+// What a failure puts back: the mark, and the mask of the variables that are bound.
+#[derive(Clone, Copy)]
+pub struct Saved {
+    pub mark: u32,
+    pub mask: u64,
+}
+
+pub fn save(st: &[u32; RECORD]) -> Saved
+    ensures mark { result.mark ≡ mark_of st.now }
+    ensures mask { result.mask ≡ mask_of st.now }
 {
-    st[MARK] = mark;
-    put_mask(st, mask);
+    Saved {
+        mark: st[MARK],
+        mask: mask_of(st),
+    }
+}
+
+// Puts mark and mask back: a failure leaves no node and no binding. Where a match gave up stays.
+pub fn restore(st: &mut [u32; RECORD], saved: Saved)
+    ensures { st.new ≡ masking (marking st.old saved.mark) saved.mask }
+{
+    st[MARK] = saved.mark;
+    put_mask(st, saved.mask);
 }
 
 // Those variables of the mask that are bound.

@@ -3,18 +3,12 @@ use mathlib.Core.Path.{ap, sym, ◌∙◌}
 use native.Mathlib.Omega.{arith}
 use Rattle.state.specs.Record.{held}
 use Rattle.state.proofs.Holding.{further, held-some}
-use Rattle.loading.proofs.Copying.{written_none, written-more, written_all, word_some, word_none}
+use Rattle.loading.proofs.Copying.{written-more, written_all, word_some, word_none}
 use Rattle.loading.proofs.closed.Goals as goal
 use Rattle.loading.proofs.closed.Goals.{else-bit-eq1, then-bit-eq1}
 
-pub loop-v-init : goal.loop-v-init
-loop-v-init c = (omega arith, written_none (held c.args.st) c.args.bindings.now c.requires.0)
-
-pub word_of-requires : goal.word_of-requires
-word_of-requires c = omega arith
-
-pub overflow_add-bindings : goal.overflow_add-bindings
-overflow_add-bindings c =
+pub overflow_add-w : goal.overflow_add-w
+overflow_add-w c =
     omega (
       arith,
       c.word_of.ensures,
@@ -23,29 +17,13 @@ overflow_add-bindings c =
     )
 
 pub loop-v-preserved : goal.loop-v-preserved
-loop-v-preserved c = (
-  omega arith,
-  elim c.if-bit-eq1.branch [
-    | then-bit-eq1 w ↦ rw w.bindings-is
-        (written-more _ _ _ _
-        c.loop-v.invariant.1
-        (omega arith)
-        (ap (λ (x : ℕ). x + 1) w.word_of.ensures
-        ∙ word_some
-        c.args.st
-        c.loop-v.v
-        (omega arith)
-        (sym c.bit.ensures ∙ w.if-bit-eq1.true)))
-    | else-bit-eq1 w ↦ rw w.bindings-is
-        (written-more _ _ _ _
-        c.loop-v.invariant.1
-        (omega arith)
-        (word_none
-        c.args.st
-        c.loop-v.v
-        (λ e. w.if-bit-eq1.false (c.bit.ensures ∙ e))))
-  ],
-)
+loop-v-preserved c = written-more _ _ _ _ c.loop-v.invariant (omega arith) (
+    elim c.if-bit-eq1.branch [
+      | then-bit-eq1 w ↦ w.w-is
+          ∙ ap (λ (x : ℕ). x + 1) w.word_of.ensures
+          ∙ word_some c.args.st c.loop-v.v (omega arith) (sym c.bit.ensures ∙ w.if-bit-eq1.true)
+      | else-bit-eq1 w ↦ w.w-is ∙ word_none c.args.st c.loop-v.v (λ e. w.if-bit-eq1.false (c.bit.ensures ∙ e))
+    ])
 
 pub returns : goal.returns
-returns c = written_all _ _ _ c.loop-v.invariant.1 (omega arith)
+returns c = written_all _ _ _ c.loop-v.invariant (omega arith)

@@ -1,14 +1,8 @@
-use Rattle.checks.specs.Kinds.{variables}
 use Rattle.loading.proofs.Copying.{Filled}
 use Rattle.meaning.specs.Limits.{at}
 use Rattle.index.specs.Run.{lending}
-use Prim.Native.Nat.{◌-◌, ◌≤◌}
 use Rattle.loading.proofs.opened.Given as goal
 
 abbrev pub invariant-loop-v : goal.invariant-loop-v
 invariant-loop-v l =
-    (l.v ≤ variables) × Filled l.bindings (at l.mark (lending 0 l.room l.top l.nodes)) l.words l.v
-
-abbrev pub decreases-loop-v : goal.decreases-loop-v
-decreases-loop-v l =
-    variables - l.v
+    Filled l.bindings (at l.mark (lending 0 l.room l.top l.nodes)) l.words l.v

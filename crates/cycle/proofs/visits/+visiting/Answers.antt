@@ -165,22 +165,22 @@ pub apply_loop-returns-then-d-eq0 : goal.apply_loop-returns-then-d-eq0
 apply_loop-returns-then-d-eq0 t c =
     ends-nesting c.loop-start.invariant _ c.no_nesting.ensures c.if-left-eq0.false c.if-d-eq0.true
 
-pub apply_loop-kind-kind-requires : goal.apply_loop-kind-kind-requires
-apply_loop-kind-kind-requires t c =
+pub apply_loop-kind-requires : goal.apply_loop-kind-requires
+apply_loop-kind-requires t c =
     c.loop-start.invariant.ready.inside
 
 pub apply_loop-begin_seq-got-requires : goal.apply_loop-begin_seq-got-requires
 apply_loop-begin_seq-got-requires t c = (
   omega (arith, c.loop-start.invariant.deeper, pos _ c.if-d-eq0.false, c.decreases),
   ready-next c.loop-start.invariant
-      c.if-left-eq0.false c.if-d-eq0.false (λ z. omega (arith, c.kind-kind.ensures, c.in-4.is, z)) 0 _ (omega arith)
+      c.if-left-eq0.false c.if-d-eq0.false (λ z. omega (arith, c.kind.ensures, c.in-4.is, z)) 0 _ (omega arith)
       c.entry.ensures,
 )
 
 pub apply_loop-returns-in_default-answer_of : goal.apply_loop-returns-in_default-answer_of
 apply_loop-returns-in_default-answer_of t c =
     seq-returns c.loop-start.invariant c.if-left-eq0.false c.if-d-eq0.false c.entry.ensures c.begin_seq-got.ensures
-    c.answer_of.ensures refl (sym c.kind-kind.ensures ∙ c.in-4.is) (Tagged-not_done _ c.in_default-answer_of.not-Done)
+    c.answer_of.ensures refl (sym c.kind.ensures ∙ c.in-4.is) (Tagged-not_done _ c.in_default-answer_of.not-Done)
 
 pub apply_loop-loop-start-smaller-in-4 : goal.apply_loop-loop-start-smaller-in-4
 apply_loop-loop-start-smaller-in-4 t c =
@@ -189,13 +189,13 @@ apply_loop-loop-start-smaller-in-4 t c =
 pub apply_loop-loop-start-preserved-in-4 : goal.apply_loop-loop-start-preserved-in-4
 apply_loop-loop-start-preserved-in-4 t c =
     seq-turn c.loop-start.invariant c.if-left-eq0.false c.if-d-eq0.false c.entry.ensures c.begin_seq-got.ensures
-    c.answer_of.ensures c.entry-e.ensures (sym c.kind-kind.ensures ∙ c.in-4.is)
+    c.answer_of.ensures c.entry-e.ensures (sym c.kind.ensures ∙ c.in-4.is)
     c.in-Done.is c.begin_seq-got.auto.store
 
 pub apply_loop-cong-requires : goal.apply_loop-cong-requires
 apply_loop-cong-requires t c = (
   omega (arith, c.loop-start.invariant.deeper, pos _ c.if-d-eq0.false, c.decreases),
-  (ready-same c.loop-start.invariant c.if-left-eq0.false c.if-d-eq0.false, sym c.kind-kind.ensures ∙ c.in-10.is),
+  (ready-same c.loop-start.invariant c.if-left-eq0.false c.if-d-eq0.false, sym c.kind.ensures ∙ c.in-10.is),
 )
 
 pub apply_loop-returns-in-10 : goal.apply_loop-returns-in-10
@@ -212,7 +212,7 @@ apply_loop-returns-then-count-eq0 t c =
     let r = ready-same l c.if-left-eq0.false c.if-d-eq0.false in
     whole l c.if-left-eq0.false
     c.if-d-eq0.false
-    (gives-one-none _ r (one-begins _ r (sym c.kind-kind.ensures
+    (gives-one-none _ r (one-begins _ r (sym c.kind.ensures
     ∙ c.in-12.is) c.count.ensures) (omega (arith, c.if-count-eq0.true))
     c.failure.ensures)
 
@@ -229,7 +229,7 @@ apply_loop-one-requires t c =
         ready-same l c.if-left-eq0.false
             c.if-d-eq0.false,
         sym
-            c.kind-kind.ensures ∙ c.in-12.is,
+            c.kind.ensures ∙ c.in-12.is,
       ),
     )
 
@@ -244,8 +244,8 @@ apply_loop-visits_to_failure-fails-requires t c = (
   c.loop-start.invariant.ready.hints,
   c.loop-start.invariant.ready.inside,
   operand_below _ c.loop-start.invariant.ready.entries _ 2
-      c.loop-start.invariant.ready.inside (no-scope (of_two _ _ 5 c.kind-kind.ensures (omega arith) (omega arith)) (omega arith) (omega arith)) (omega arith),
-  (of_two _ _ 5 c.kind-kind.ensures (omega arith) (omega arith)),
+      c.loop-start.invariant.ready.inside (no-scope (of_two _ _ 5 c.kind.ensures (omega arith) (omega arith)) (omega arith) (omega arith)) (omega arith),
+  (of_two _ _ 5 c.kind.ensures (omega arith) (omega arith)),
   rw (same-node _ c.if-left-eq0.false) (ready-stored c.loop-start.invariant.ready),
 )
 
@@ -256,14 +256,14 @@ apply_loop-loop-start-smaller-then-fails-ne0 t c =
 pub apply_loop-loop-start-preserved-then-fails-ne0 : goal.apply_loop-loop-start-preserved-then-fails-ne0
 apply_loop-loop-start-preserved-then-fails-ne0 t c =
     skip-turn c.loop-start.invariant c.if-left-eq0.false c.if-d-eq0.false refl c.visits_to_failure-fails.ensures
-    c.if-fails-ne0.true (of_two _ _ 5 c.kind-kind.ensures (omega arith) (omega arith)) c.entry-then-fails-ne0.ensures c.entry-e-then-fails-ne0.ensures
+    c.if-fails-ne0.true (of_two _ _ 5 c.kind.ensures (omega arith) (omega arith)) c.entry-then-fails-ne0.ensures c.entry-e-then-fails-ne0.ensures
 
 pub apply_loop-apply_first-got-requires : goal.apply_loop-apply_first-got-requires
 apply_loop-apply_first-got-requires t c = (
   omega (arith, c.loop-start.invariant.deeper, pos _ c.if-d-eq0.false, c.decreases),
   ready-next c.loop-start.invariant
       c.if-left-eq0.false c.if-d-eq0.false (no-scope
-      (of_two _ _ 5 c.kind-kind.ensures (omega arith) (omega arith))
+      (of_two _ _ 5 c.kind.ensures (omega arith) (omega arith))
       (omega arith) (omega arith)) 0 _ (omega arith) c.entry-first.ensures,
 )
 
@@ -271,7 +271,7 @@ pub apply_loop-returns-in_default-answer_of-2 : goal.apply_loop-returns-in_defau
 apply_loop-returns-in_default-answer_of-2 t c =
     left-returns c.loop-start.invariant c.if-left-eq0.false c.if-d-eq0.false c.entry-first.ensures
     c.apply_first-got.ensures c.answer_of-in-5-to-6.ensures
-    (of_two _ _ 5 c.kind-kind.ensures (omega arith) (omega arith)) refl
+    (of_two _ _ 5 c.kind.ensures (omega arith) (omega arith)) refl
     (Tagged-not_failed _ c.in_default-answer_of-2.not-Failed)
 
 pub apply_loop-loop-start-smaller-then-kind-lt7 : goal.apply_loop-loop-start-smaller-then-kind-lt7
@@ -283,7 +283,7 @@ apply_loop-loop-start-preserved-then-kind-lt7 t c =
     rw (c.restore.ensures, c.mask_of-mask.ensures)
     (left-turn c.loop-start.invariant c.if-left-eq0.false c.if-d-eq0.false c.entry-first.ensures
     c.apply_first-got.ensures c.answer_of-in-5-to-6.ensures
-    (of_two _ _ 5 c.kind-kind.ensures (omega arith) (omega arith))
+    (of_two _ _ 5 c.kind.ensures (omega arith) (omega arith))
     c.entry-e-in-5-to-6.ensures c.in-Failed.is c.done-s.ensures c.apply_first-got.auto.store)
 
 pub apply_loop-loop-start-smaller : goal.apply_loop-loop-start-smaller
@@ -292,14 +292,14 @@ apply_loop-loop-start-smaller t c =
 
 pub apply_loop-loop-start-preserved : goal.apply_loop-loop-start-preserved
 apply_loop-loop-start-preserved t c =
-    rec-turn c.loop-start.invariant c.if-left-eq0.false c.if-d-eq0.false _ c.entry-e-in-7-to-8.ensures (of_two _ _ 7 c.kind-kind.ensures (omega arith) (omega arith))
+    rec-turn c.loop-start.invariant c.if-left-eq0.false c.if-d-eq0.false _ c.entry-e-in-7-to-8.ensures (of_two _ _ 7 c.kind.ensures (omega arith) (omega arith))
 
 pub apply_loop-rule-requires : goal.apply_loop-rule-requires
 apply_loop-rule-requires t c = (
   omega (arith, c.loop-start.invariant.deeper, pos _ c.if-d-eq0.false, c.decreases),
   (
     ready-same c.loop-start.invariant c.if-left-eq0.false c.if-d-eq0.false,
-    last-kind _ _ c.kind-kind.ensures
+    last-kind _ _ c.kind.ensures
         (λ z. omega arith) (λ z. omega arith) (λ z. omega arith)
         (elim c.in_default.branch [ apply_loop-in_default-via-then-kind-lt4 w ↦ inl (omega arith) | apply_loop-in_default-via-else-kind-lt4+else-kind-lt7+else-kind-lt9 w ↦ inr (omega arith) ]),
   ),
@@ -547,7 +547,7 @@ path-returns t c =
 
 pub rule-path-requires : goal.rule-path-requires
 rule-path-requires t c =
-    (omega arith, (c.requires.0, sym c.kind-kind.ensures ∙ c.in-9.is))
+    (omega arith, (c.requires.0, sym c.kind.ensures ∙ c.in-9.is))
 
 pub rule-walk-requires : goal.rule-walk-requires
 rule-walk-requires t c = (
@@ -555,9 +555,9 @@ rule-walk-requires t c = (
   (
     c.requires.0,
     (
-      λ z. omega (arith, c.kind-kind.ensures, c.in-11.is, z),
+      λ z. omega (arith, c.kind.ensures, c.in-11.is, z),
       λ z. absurd
-          (two-kinds c.kind-kind.ensures c.in-11.is z (omega arith)),
+          (two-kinds c.kind.ensures c.in-11.is z (omega arith)),
     ),
   ),
 )
@@ -568,60 +568,60 @@ rule-walk-requires-in-13 t c = (
   (
     c.requires.0,
     (
-      λ z. omega (arith, c.kind-kind.ensures, c.in-13.is, z),
+      λ z. omega (arith, c.kind.ensures, c.in-13.is, z),
       λ z. absurd
-          (two-kinds c.kind-kind.ensures c.in-13.is z (omega arith)),
+          (two-kinds c.kind.ensures c.in-13.is z (omega arith)),
     ),
   ),
 )
 
 pub rule-scope-requires : goal.rule-scope-requires
 rule-scope-requires t c =
-    (omega arith, (c.requires.0, sym c.kind-kind.ensures ∙ c.in-16.is))
+    (omega arith, (c.requires.0, sym c.kind.ensures ∙ c.in-16.is))
 
 pub rule-keep_subject-requires : goal.rule-keep_subject-requires
 rule-keep_subject-requires t c =
-    (omega arith, (c.requires.0, sym c.kind-kind.ensures ∙ c.in-17.is))
+    (omega arith, (c.requires.0, sym c.kind.ensures ∙ c.in-17.is))
 
 pub rule-guard-requires : goal.rule-guard-requires
 rule-guard-requires t c = (
   omega arith,
   (
     c.requires.0,
-    of_two _ _ 2 c.kind-kind.ensures (omega arith) (omega arith),
+    of_two _ _ 2 c.kind.ensures (omega arith) (omega arith),
   ),
 )
 
 pub rule-returns-in-0 : goal.rule-returns-in-0
 rule-returns-in-0 t c =
-    gives-id _ c.requires.0 c.kind-kind.ensures c.in-0.is
+    gives-id _ c.requires.0 c.kind.ensures c.in-0.is
 
 pub rule-returns-in-11 : goal.rule-returns-in-11
 rule-returns-in-11 t c =
     renamed c.walk.ensures (sym (ruled-all _ _ _ _ _ _ _ _
-    (sym c.kind-kind.ensures ∙ c.in-11.is)))
+    (sym c.kind.ensures ∙ c.in-11.is)))
 
 pub rule-returns-in-13 : goal.rule-returns-in-13
 rule-returns-in-13 t c =
     renamed c.walk-in-13.ensures (sym (ruled-some _ _ _ _ _ _ _ _
-    (sym c.kind-kind.ensures ∙ c.in-13.is)))
+    (sym c.kind.ensures ∙ c.in-13.is)))
 
 pub rule-returns-in-14 : goal.rule-returns-in-14
 rule-returns-in-14 t c =
     renamed c.match_node.ensures (sym (ruled-match _ _ _ _ _ _ _ _ _ c.entry.ensures
-    (sym c.kind-kind.ensures ∙ c.in-14.is)))
+    (sym c.kind.ensures ∙ c.in-14.is)))
 
 pub rule-returns-in-15 : goal.rule-returns-in-15
 rule-returns-in-15 t c =
     renamed (c.build.ensures _) (sym
     (ruled-build _ _ _ _ _ _ _ _ _ c.entry-in-15.ensures
-    (sym c.kind-kind.ensures
+    (sym c.kind.ensures
     ∙ c.in-15.is)))
 
 pub rule-returns-in_default : goal.rule-returns-in_default
 rule-returns-in_default t c =
-    gives-failure _ c.requires.0 (ruled-none _ c.requires.0 c.kind-kind.ensures
-    (no-rule _ _ c.kind-kind.ensures c.requires.1 (elim c.in_default.branch [ rule-in_default-via-then-kind-lt2 w ↦ inl (omega arith) | rule-in_default-via-else-kind-lt2+else-kind-lt4 w ↦ inr (omega arith) ])
+    gives-failure _ c.requires.0 (ruled-none _ c.requires.0 c.kind.ensures
+    (no-rule _ _ c.kind.ensures c.requires.1 (elim c.in_default.branch [ rule-in_default-via-then-kind-lt2 w ↦ inl (omega arith) | rule-in_default-via-else-kind-lt2+else-kind-lt4 w ↦ inr (omega arith) ])
     (λ z. omega arith) (λ z. omega arith) (λ z. omega arith) (λ z. omega arith) (λ z. omega arith) (λ z. omega arith) (λ z. omega arith) (λ z. omega arith))) c.failure.ensures
 
 -- ---- scope

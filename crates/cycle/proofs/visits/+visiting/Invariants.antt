@@ -56,12 +56,6 @@ decreases-apply_loop-loop-start l = l.d
 abbrev pub invariant-one-loop-i : goal.invariant-one-loop-i
 invariant-one-loop-i l = Trying l.table l.initial.store l.initial.st l.deep l.e l.s l.n l.store l.st l.left l.i
 
-abbrev pub decreases-one-loop-i : goal.decreases-one-loop-i
-decreases-one-loop-i l = l.n - l.i
-
 abbrev pub invariant-walk-loop-i : goal.invariant-walk-loop-i
 invariant-walk-loop-i l =
     Going l.table l.initial.store l.initial.st l.e l.s l.deep l.store l.st l.left l.won (l.name ∷ l.n ∷ l.a ∷ l.b ∷ l.others) l.i × (length l.others ≡ 4)
-
-abbrev pub decreases-walk-loop-i : goal.decreases-walk-loop-i
-decreases-walk-loop-i l = l.n - l.i

@@ -17,7 +17,3 @@ abbrev pub invariant-loop-i : goal.invariant-loop-i
 invariant-loop-i l =
     (l.i ≤ l.n) × (l.n ≡ operand_count l.table l.p) × (kind_of l.table l.p ≡ 19) × (l.left < 4294967296) × (length l.store ≡ length l.initial.store) × (length l.made ≡ 8)
     × Built l.table (l.deep - 1) l.p l.initial.st (λ k. visit l.table l.deep (built l.p k (held l.initial.st)) l.initial.store (standing l.initial.st) l.units) l.store l.st l.made l.left l.i
-
-abbrev pub decreases-loop-i : goal.decreases-loop-i
-decreases-loop-i l =
-    l.n - l.i

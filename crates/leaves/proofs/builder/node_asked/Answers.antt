@@ -10,8 +10,8 @@ returns-then-st-ne0 c = node-full c.args.made c.args.st.now
     c.requires.0 (omega arith) c.if-st-ne0.true
     c.requires.2 c.no_room.ensures
 
-pub ask-a-requires : goal.ask-a-requires
-ask-a-requires c = lent-held c.args.made
+pub ask-requires : goal.ask-requires
+ask-requires c = lent-held c.args.made
     c.args.st.now
     c.args.store.now
     c.args.left 0
@@ -28,7 +28,7 @@ overflow_add-st c = omega (
       c.args.left 0
       c.requires.0
       (omega arith) c.if-st-ne0.false refl
-      refl refl _ _ c.ask-a.ensures _ c.in-Made.is,
+      refl refl _ _ c.ask.ensures _ c.in-Made.is,
 )
 
 pub overflow_add-st-in-Made : goal.overflow_add-st-in-Made
@@ -41,7 +41,7 @@ overflow_add-st-in-Made c = omega (
       c.args.left 0
       c.requires.0
       (omega arith) c.if-st-ne0.false refl
-      refl refl _ _ c.ask-a.ensures _ c.in-Made.is,
+      refl refl _ _ c.ask.ensures _ c.in-Made.is,
 )
 
 pub returns-in-Stands : goal.returns-in-Stands
@@ -52,7 +52,7 @@ returns-in-Stands c = gives-stands
     c.args.left
     _ c.requires.0
     (omega arith) c.if-st-ne0.false
-    refl refl refl _ _ c.ask-a.ensures _
+    refl refl refl _ _ c.ask.ensures _
     c.in-Stands.is c.done.ensures
 
 pub returns-in-Full : goal.returns-in-Full
@@ -63,7 +63,7 @@ returns-in-Full c = gives-full
     c.args.left _
     c.requires.0
     (omega arith) c.if-st-ne0.false refl
-    refl refl _ _ c.ask-a.ensures c.in-Full.is
+    refl refl _ _ c.ask.ensures c.in-Full.is
     c.no_room-in-Full.ensures
 
 pub returns-in-Made : goal.returns-in-Made
@@ -74,7 +74,7 @@ returns-in-Made c = gives_made
     c.args.left
     _ c.requires.0
     (omega arith) c.if-st-ne0.false
-    refl refl refl _ _ c.ask-a.ensures _
+    refl refl refl _ _ c.ask.ensures _
     c.in-Made.is
     c.requires.1
     c.done-in-Made.ensures refl

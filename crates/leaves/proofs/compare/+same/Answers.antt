@@ -10,10 +10,11 @@ use Rattle.state.proofs.AnswerWords.{done-units}
 use Rattle.state.proofs.Storing.{child-stored}
 use Rattle.leaves.proofs.Limited.{units-kept, nesting-kept}
 use Rattle.leaves.proofs.Comparing.{Pair, FromPair, not-zero, one_less, falls-once, lower, weaker, below}
-use Rattle.leaves.proofs.Comparing.{not_last, last, up_to, nearer, few, child-word}
+use Rattle.leaves.proofs.Comparing.{not_last, one-more, last, last-word, up_to, few, child-word}
 use Rattle.leaves.proofs.Comparing.{other-constructor, other-count, agreed, compared, pair-done, pair-stops, last-pair}
 use Prim.Native.Nat.{◌+◌, ◌<◌}
 use Rattle.leaves.proofs.compare.+same.Goals as goal
+use Rattle.leaves.proofs.compare.+same.Goals.{then-node_word-via-then-node_word, then-node_word-via-else-node_word+then-n-count}
 
 pub loop-left-init : goal.loop-left-init
 unfolding Pair
@@ -33,24 +34,15 @@ returns-then-d-eq0 t c = λ t β m.
 
 pub returns-then-node_word : goal.returns-then-node_word
 unfolding Pair
-returns-then-node_word t c = λ t β m.
+returns-then-node_word t c = λ u β m.
     let l = c.loop-left.invariant in
-    l.2 t β m _ (other-constructor _ _ _ t _ m _ β c.if-left-eq0.false
-    c.if-d-eq0.false _ c.failure.ensures l.0
-    (λ h. c.if-node_word.true (c.node_word.ensures ∙ h ∙ sym c.node_word-in-loop-left.ensures)))
-
-pub returns-then-n-count : goal.returns-then-n-count
-unfolding Pair
-returns-then-n-count t c =
-    let same-heads : let w = c.args.store.now in word_at w c.loop-left.x 0 ≡ word_at w c.loop-left.y 0 =
-    sym c.node_word.ensures ∙ c.if-node_word.false ∙ c.node_word-in-loop-left.ensures in
-    λ u β m.
-    let l = c.loop-left.invariant in
-    l.2 u β m _ (other-count _ _ _ u _ m _ β c.if-left-eq0.false
-    c.if-d-eq0.false _ c.failure-then-n-count.ensures l.0
-    same-heads
-    (λ h. c.if-n-count.true (c.count-n.ensures ∙ h ∙ sym
-    c.count.ensures)))
+    l.2 u β m _ (elim c.then-node_word.branch [
+      | then-node_word-via-then-node_word w ↦ other-constructor _ _ _ u _ m _ β c.if-left-eq0.false c.if-d-eq0.false _ c.failure.ensures l.0
+          (λ h. w.if-node_word.true (c.node_word.ensures ∙ h ∙ sym c.node_word-in-loop-left.ensures))
+      | then-node_word-via-else-node_word+then-n-count w ↦ other-count _ _ _ u _ m _ β c.if-left-eq0.false c.if-d-eq0.false _ c.failure.ensures l.0
+          (sym c.node_word.ensures ∙ w.if-node_word.false ∙ c.node_word-in-loop-left.ensures)
+          (λ h. w.if-n-count.true (c.count-n.ensures ∙ h ∙ sym w.count.ensures))
+    ])
 
 pub returns-then-n-eq0 : goal.returns-then-n-eq0
 unfolding Pair
@@ -123,7 +115,7 @@ loop-i-preserved t c =
     let l = c.loop-i.invariant in
     (not_last c.loop-i-test.true l.1, not_last c.loop-i-test.true l.2) in
     let l = c.loop-i.invariant in (
-      c.loop-i-test.true,
+      one-more c.loop-i-test.true,
       l.1,
       l.2,
       done-units _ _ _ _ c.answer_of.ensures c.in-Done.is,
@@ -155,9 +147,9 @@ loop-left-preserved t c =
       weaker l.4,
       λ u β m r e.
           let g = l.5 u β m in
-          g.2 r (last-pair _ _ _ u _ _ β m _ g.1 i.0 i.1 _ _ c.node_word-x.ensures c.node_word-y.ensures r e),
-      child-stored l.6 _ (up_to i.0) c.node_word-x.ensures,
-      child-stored l.7 _ (up_to i.1) c.node_word-y.ensures,
+          g.2 r (last-pair _ _ _ u _ _ β m _ g.1 i.0 i.1 _ _ (last-word _ _ _ _ c.node_word-x.ensures l.1 i.0) (last-word _ _ _ _ c.node_word-y.ensures l.2 i.1) r e),
+      child-stored l.6 _ (up_to i.0) (last-word _ _ _ _ c.node_word-x.ensures l.1 i.0),
+      child-stored l.7 _ (up_to i.1) (last-word _ _ _ _ c.node_word-y.ensures l.2 i.1),
     )
 
 pub overflow_sub-left : goal.overflow_sub-left
@@ -182,7 +174,7 @@ pub overflow_add-i : goal.overflow_add-i
 overflow_add-i t c =
     let few-pairs : Fits w32 (c.loop-i.i + 1) × Fits w32 (2 + c.loop-i.i) =
     few _ c.loop-i.invariant.0 c.loop-i.invariant.1 in
-    few-pairs.0
+    few-pairs.1
 
 pub overflow_add-i-in-loop-i : goal.overflow_add-i-in-loop-i
 overflow_add-i-in-loop-i t c =
@@ -197,12 +189,6 @@ node_word-requires-in-loop-i t c =
     (not_last c.loop-i-test.true l.1, not_last c.loop-i-test.true l.2) in
     (c.loop-i.invariant.6, child-word _ next-pair.0)
 
-pub overflow_add-i-in-loop-i-2 : goal.overflow_add-i-in-loop-i-2
-overflow_add-i-in-loop-i-2 t c =
-    let few-pairs : Fits w32 (c.loop-i.i + 1) × Fits w32 (2 + c.loop-i.i) =
-    few _ c.loop-i.invariant.0 c.loop-i.invariant.1 in
-    few-pairs.1
-
 pub node_word-requires-in-loop-i-2 : goal.node_word-requires-in-loop-i-2
 node_word-requires-in-loop-i-2 t c =
     let next-pair : let w = c.args.store.now in (c.loop-i.i < count_of w c.loop-left.x) × (c.loop-i.i < count_of w c.loop-left.y) =
@@ -210,40 +196,19 @@ node_word-requires-in-loop-i-2 t c =
     (not_last c.loop-i-test.true l.1, not_last c.loop-i-test.true l.2) in
     (c.loop-i.invariant.7, child-word _ next-pair.1)
 
-pub overflow_add-i-in-loop-i-3 : goal.overflow_add-i-in-loop-i-3
-overflow_add-i-in-loop-i-3 t c =
-    let few-pairs : Fits w32 (c.loop-i.i + 1) × Fits w32 (2 + c.loop-i.i) =
-    few _ c.loop-i.invariant.0 c.loop-i.invariant.1 in
-    few-pairs.0
-
-pub loop-i-smaller : goal.loop-i-smaller
-loop-i-smaller t c = nearer c.loop-i.invariant.0
-
-pub overflow_add-i-in-loop-left : goal.overflow_add-i-in-loop-left
-overflow_add-i-in-loop-left t c =
-    let few-pairs : Fits w32 (c.loop-i.i + 1) × Fits w32 (2 + c.loop-i.i) =
-    few _ c.loop-i.invariant.0 c.loop-i.invariant.1 in
-    few-pairs.1
-
 pub node_word-x-requires : goal.node_word-x-requires
 node_word-x-requires t c =
     let last_one : let w = c.args.store.now in (c.loop-i.i + 1 ≡ count_of w c.loop-left.x) × (c.loop-i.i + 1 ≡ count_of w c.loop-left.y) =
     let l = c.loop-i.invariant in
     (last l.0 c.loop-i-test.false l.1, last l.0 c.loop-i-test.false l.2) in
-    (c.loop-i.invariant.6, child-word _ (up_to last_one.0))
-
-pub overflow_add-i-in-loop-left-2 : goal.overflow_add-i-in-loop-left-2
-overflow_add-i-in-loop-left-2 t c =
-    let few-pairs : Fits w32 (c.loop-i.i + 1) × Fits w32 (2 + c.loop-i.i) =
-    few _ c.loop-i.invariant.0 c.loop-i.invariant.1 in
-    few-pairs.1
+    (c.loop-i.invariant.6, omega (arith, last_one.0, c.loop-i.invariant.1))
 
 pub node_word-y-requires : goal.node_word-y-requires
 node_word-y-requires t c =
     let last_one : let w = c.args.store.now in (c.loop-i.i + 1 ≡ count_of w c.loop-left.x) × (c.loop-i.i + 1 ≡ count_of w c.loop-left.y) =
     let l = c.loop-i.invariant in
     (last l.0 c.loop-i-test.false l.1, last l.0 c.loop-i-test.false l.2) in
-    (c.loop-i.invariant.7, child-word _ (up_to last_one.1))
+    (c.loop-i.invariant.7, omega (arith, last_one.1, c.loop-i.invariant.2))
 
 pub loop-left-smaller : goal.loop-left-smaller
 loop-left-smaller t c = falls-once c.if-d-eq0.false

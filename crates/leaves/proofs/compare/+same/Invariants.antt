@@ -16,10 +16,6 @@ invariant-loop-i l =
     × FromPair l.store l.a l.b l.units l.deep l.x l.y l.d l.i l.left
     × Stored l.store l.x × Stored l.store l.y
 
-abbrev pub decreases-loop-i : goal.decreases-loop-i
-decreases-loop-i l =
-    l.n - l.i
-
 abbrev pub invariant-loop-left : goal.invariant-loop-left
 invariant-loop-left l =
     (l.left < 4294967296) × (l.d ≤ l.deep)

@@ -18,7 +18,7 @@ use Rattle.leaves.proofs.matcher.+match_nested.Goals.{else-kind-eq-PVAR+else-not
 use Rattle.leaves.proofs.matcher.+match_nested.Goals.{else-kind-eq-PVAR+else-not-agree+else-operands-ne0}
 
 pub loop-i-init : goal.loop-i-init
-loop-i-init t c = (search rules, c.operands-n.ensures, omega arith, search rules, matched-none _ _ _ _ _ _)
+loop-i-init t c = (search rules, c.operands-i-end.ensures, omega arith, search rules, matched-none _ _ _ _ _ _)
 
 pub overflow_add-i : goal.overflow_add-i
 overflow_add-i t c = omega (

@@ -13,8 +13,4 @@ decreases-match_nested l = l.deep
 
 abbrev pub invariant-loop-i : goal.invariant-loop-i
 invariant-loop-i l =
-    (l.i ≤ l.n) × (l.n ≡ operand_count l.table l.p) × (l.left < 4294967296) × (length l.st ≡ record_long) × Matched l.table l.store l.deep l.p l.s l.initial.st l.st l.left l.i
-
-abbrev pub decreases-loop-i : goal.decreases-loop-i
-decreases-loop-i l =
-    l.n - l.i
+    (l.i ≤ l.i-end) × (l.i-end ≡ operand_count l.table l.p) × (l.left < 4294967296) × (length l.st ≡ record_long) × Matched l.table l.store l.deep l.p l.s l.initial.st l.st l.left l.i

@@ -260,8 +260,8 @@ loop-i-preserved-then-i-n c =
           agrees (omega (arith, c.if-i-n.true, l.1)),
     )
 
-pub match_children-f-requires : goal.match_children-f-requires
-match_children-f-requires c =
+pub match_children-got-requires : goal.match_children-got-requires
+match_children-got-requires c =
     let turn : let a = c.args in let l = c.loop-i in Turn a.table.now a.store.now l.d l.x l.invariant.5.given l.invariant.5.held_then l.st l.left l.i c.entry-q.result c.node_word-c.result =
     let l = c.loop-i.invariant in
     going-turn l.5 c.requires.1.0 (omega arith) c.entry-q.ensures
@@ -298,7 +298,7 @@ returns-in_default-answer_of c =
     sym c.agree.ensures ∙ not-false _ c.if-not-agree.false-raw in
     c.loop-i.invariant.5.whole _ _ (inner-refused turn c.if-left-eq0.false
     (λ e. omega (arith, c.loop-i.invariant.3)) is-constructor agrees c.done.ensures _
-    _ c.match_children-f.ensures _ c.answer_of-else-i-n.ensures c.loop-i.invariant.4
+    _ c.match_children-got.ensures _ c.answer_of-else-i-n.ensures c.loop-i.invariant.4
     (Tagged-not_done _ c.in_default-answer_of.not-Done))
 
 pub loop-i-smaller-else-i-n : goal.loop-i-smaller-else-i-n
@@ -317,7 +317,7 @@ loop-i-preserved-else-i-n c =
     let l = c.loop-i.invariant in
     let f = inner-matched turn c.if-left-eq0.false (λ e. omega (arith, c.loop-i.invariant.3))
     is-constructor agrees c.done.ensures _ _
-    c.match_children-f.ensures _ c.answer_of-else-i-n.ensures _ _ c.in-Done-answer_of.is in (
+    c.match_children-got.ensures _ c.answer_of-else-i-n.ensures _ _ c.in-Done-answer_of.is in (
       omega arith,
       l.1,
       omega (arith, done-node _ _ _ (sym c.answer_of-else-i-n.ensures ∙ c.in-Done-answer_of.is)),

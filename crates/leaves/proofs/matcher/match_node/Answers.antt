@@ -73,8 +73,8 @@ returns-then-bit-eq1 c =
     (c.same-got.ensures _ (held c.args.st.now) (standing c.args.st.now)) _
     c.answer_of.ensures _ _ _ c.in-Done.is c.done.ensures
 
-pub bind-set-requires : goal.bind-set-requires
-bind-set-requires c =
+pub bind-requires : goal.bind-requires
+bind-requires c =
     let is-variable : kind_of c.args.table.now c.args.p ≡ 18 =
     sym c.kind.ensures ∙ c.if-kind-eq-PVAR.true in
     let small : c.entry-v.result < variables =
@@ -88,7 +88,7 @@ returns-then-kind-eq-PVAR c =
     let is-variable : kind_of c.args.table.now c.args.p ≡ 18 =
     sym c.kind.ensures ∙ c.if-kind-eq-PVAR.true in
     root-free c.requires.0 _ c.if-left-eq0.false c.if-deep-eq0.false is-variable c.entry-v.ensures
-    (λ e. c.if-bit-eq1.false (c.bit.ensures ∙ e)) c.bind-set.ensures
+    (λ e. c.if-bit-eq1.false (c.bit.ensures ∙ e)) c.bind.ensures
 
 pub agree-requires : goal.agree-requires
 agree-requires c = (c.requires.0.inside, root-stored c.requires.0 c.args.deep)

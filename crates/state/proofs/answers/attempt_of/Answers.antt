@@ -4,12 +4,12 @@ use Rattle.state.proofs.answers.attempt_of.Goals as goal
 
 pub returns-in-Done : goal.returns-in-Done
 unfolding attempt_of
-returns-in-Done c = rw (← c.answer_of-a.ensures, c.in-Done.is)
+returns-in-Done c = rw (← c.in-Done.ensures)
 
 pub returns-in-Failed : goal.returns-in-Failed
 unfolding attempt_of
-returns-in-Failed c = rw (← c.answer_of-a.ensures, c.in-Failed.is)
+returns-in-Failed c = rw (← c.in-Failed.ensures)
 
 pub returns-in-Cut : goal.returns-in-Cut
 unfolding attempt_of
-returns-in-Cut c = rw (← c.answer_of-a.ensures, c.in-Cut.is)
+returns-in-Cut c = rw (← c.in-Cut.ensures)
