@@ -1,5 +1,5 @@
 -- The lines of an answer, one after the other, and how long they are. Assumes nothing.
-use mathlib.Core.Path.{◌≡◌, refl, ap, sym, ◌∙◌}
+use mathlib.Core.Path.{◌≡◌, refl, ap, sym, ◌∙◌, subst}
 use mathlib.Core.Bool.{Bool, true, false}
 use mathlib.Core.List.{List, [], ◌∷◌, ◌++◌, append_assoc, append-nil}
 use Prim.Native.Nat.{ℕ, zero, suc, ◌+◌, ◌-◌, ◌*◌, min, ◌≤◌}
@@ -106,6 +106,21 @@ bindings-none b w at = put-none b at
 pub length-answer_line : (a p s m u : ℕ) → length (answer_line (a ∷ p ∷ s ∷ m ∷ u ∷ [])) ≤ 62
 unfolding answer_line
 length-answer_line a p s m u = omega (arith, length-append (numbers_text (a ∷ p ∷ s ∷ m ∷ u ∷ [])) (10 ∷ []), length-numbers_text (a ∷ p ∷ s ∷ m ∷ u ∷ []))
+
+-- An array of five is its five numbers.
+pub five-listed : (f : List ℕ) → length f ≡ 5 → get_or f 0 0 ∷ get_or f 1 0 ∷ get_or f 2 0 ∷ get_or f 3 0 ∷ get_or f 4 0 ∷ [] ≡ f
+five-listed [] e = absurd (omega arith)
+five-listed (a ∷ []) e = absurd (omega arith)
+five-listed (a ∷ b ∷ []) e = absurd (omega arith)
+five-listed (a ∷ b ∷ c ∷ []) e = absurd (omega arith)
+five-listed (a ∷ b ∷ c ∷ d ∷ []) e = absurd (omega arith)
+five-listed (a ∷ b ∷ c ∷ d ∷ u ∷ []) e = refl
+five-listed (a ∷ b ∷ c ∷ d ∷ u ∷ v ∷ f) e = absurd (omega arith)
+
+pub length-line_five : (f : List ℕ) → length f ≡ 5 → length (answer_line f) ≤ 62
+length-line_five f e =
+    subst (λ (g : List ℕ). length (answer_line g) ≤ 62) (five-listed f e)
+    (length-answer_line (get_or f 0 0) (get_or f 1 0) (get_or f 2 0) (get_or f 3 0) (get_or f 4 0))
 
 -- The whole text, without and with what is left.
 module _ (a p s m u : ℕ) (w b : List ℕ) where

@@ -6,14 +6,14 @@ use mathlib.Core.Option.{Option, none, some}
 use Prim.Native.Nat.{ℕ, suc, ◌+◌, ◌-◌, ◌/◌, ◌%◌, ◌≤◌, ◌<◌}
 use native.Mathlib.Omega.{arith}
 use lib.Dec.{leb, eqb}
-use lib.ListN.{length, get_or, take, drop, replicate}
+use lib.ListN.{length, get_or, drop, replicate}
 use borrow.Author.Tests.{le-leb, lt-leb}
 use Rattle.text.specs.Text.{one_word, two_words, parts, number_of, in_front, numbers_of, eight}
 use Rattle.text.specs.Held.{numbers_held}
+use Rattle.std.specs.Prelude.{Some, None}
 use Rattle.text.specs.declared.Numbers.{Numbers}
 use Rattle.text.proofs.Parts.{parts-end}
-use Rattle.job.specs.declared.Taken.{Taken}
-use Rattle.job.specs.Lines.{entry_fits, fits, line_from, entry_numbers, no_line, line_held}
+use Rattle.job.specs.Lines.{Taken, entry_fits, fits, line_from, entry_numbers, no_line, line_held}
 use Rattle.job.proofs.Shapes.{get_or-eight}
 
 -- Which numbers fit, and which do not.
@@ -66,9 +66,11 @@ module _ (k a next : ℕ) (got : Numbers) where
   held o = line_held (line_from 1 (in_front (some k) (in_front (some a) o))) next
 
   -- Fields that are no numbers, or too many.
-  pub entry-many : (o : Option (List ℕ)) → got ≡ numbers_held o → 6 < got.count → no_line next ≡ held o
+  pub entry-many : (o : Option (List ℕ)) → Some got ≡ numbers_held o → 6 < got.count → no_line next ≡ held o
   entry-many none e l = refl
-  entry-many (some vs) e l = sym (rw (many k a vs (omega (arith, ap (λ (n : Numbers). n.count) e))))
+  entry-many (some vs) e l =
+      let i : got ≡ record { count = length vs; at = eight vs } = cc in
+      sym (rw (many k a vs (omega (arith, ap (λ (n : Numbers). n.count) i))))
 
   -- A kind above 255.
   pub entry-no-kind : (o : Option (List ℕ)) → 255 < k → no_line next ≡ held o
@@ -81,15 +83,16 @@ module _ (k a next : ℕ) (got : Numbers) where
   entry-no-argument (some vs) n = sym (rw (no-argument k a vs n))
 
   -- The line.
-  pub entry-made : (o : Option (List ℕ)) → got ≡ numbers_held o → got.count ≤ 6 → k ≤ 255 → eqb k 16 || leb a one_word ≡ true
+  pub entry-made : (o : Option (List ℕ)) → Some got ≡ numbers_held o → got.count ≤ 6 → k ≤ 255 → eqb k 16 || leb a one_word ≡ true
       → made (got.count + 2) (k ∷ (a % 4294967296) ∷ get_or got.at 0 0 ∷ get_or got.at 1 0 ∷ get_or got.at 2 0 ∷ get_or got.at 3 0
       ∷ get_or got.at 4 0 ∷ get_or got.at 5 0 ∷ []) (a / 4294967296) next ≡ held o
   unfolding eight
-  entry-made none e l m p = let c : got.count ≡ 9 = ap (λ (n : Numbers). n.count) e in absurd (omega arith)
+  entry-made none e l m p = cc
   entry-made (some vs) e l m p =
-      let c : got.count ≡ length vs = ap (λ (n : Numbers). n.count) e in
+      let i : got ≡ record { count = length vs; at = eight vs } = cc in
+      let c : got.count ≡ length vs = ap (λ (n : Numbers). n.count) i in
       let n : got.count + 2 ≡ suc (suc (length vs)) = omega (arith, c) in
-      let w : (j : ℕ) → get_or got.at j 0 ≡ get_or vs j 0 = λ j. ap (λ (n : Numbers). get_or n.at j 0) e ∙ get_or-eight vs j in
+      let w : (j : ℕ) → get_or got.at j 0 ≡ get_or vs j 0 = λ j. ap (λ (n : Numbers). get_or n.at j 0) i ∙ get_or-eight vs j in
       let s = six vs (omega (arith, c)) in
       let r : k ∷ (a % 4294967296) ∷ get_or got.at 0 0 ∷ get_or got.at 1 0 ∷ get_or got.at 2 0 ∷ get_or got.at 3 0 ∷ get_or got.at 4 0 ∷ get_or got.at 5 0 ∷ []
       ≡ k ∷ (a % 4294967296) ∷ (vs ++ replicate (8 - suc (suc (length vs))) 0) =
@@ -131,6 +134,18 @@ module _ (next : ℕ) where
       go : (o : Option ℕ) → in_front o none ≡ none
       go none = refl
       go (some v) = refl
+
+-- The operands are no numbers, or too many.
+pub operands-none : (next : ℕ) (f g : List ℕ) (fs gs : List (List ℕ)) → fs ≡ f ∷ g ∷ gs → None ≡ numbers_held (numbers_of 8 gs)
+    → no_line next ≡ read next fs
+unfolding entry_numbers
+operands-none next f g fs gs e n = none_read next fs (ap entry_numbers e ∙ go (numbers_of 8 gs) n (number_of one_word f) (number_of two_words g))
+  where
+    go : (o : Option (List ℕ)) → None ≡ numbers_held o → (p q : Option ℕ) → in_front p (in_front q o) ≡ none
+    go (some vs) z p q = cc
+    go none z none q = refl
+    go none z (some v) none = refl
+    go none z (some v) (some w) = refl
 
 -- Both are numbers.
 pub entry_read : (f g : List ℕ) (fs gs : List (List ℕ)) (k a : ℕ) → fs ≡ f ∷ g ∷ gs → some k ≡ number_of one_word f → some a ≡ number_of two_words g

@@ -8,10 +8,8 @@ use native.Mathlib.Omega.{arith}
 use lib.ListN.{length, get_or, drop}
 use Rattle.checks.specs.Kinds.{variables}
 use Rattle.text.specs.Text.{parts}
-use Rattle.job.specs.Lines.{taken_at}
-use Rattle.job.specs.Job.{Reading, admitted, headed, table_with, store_with, bindings_with, bad, good, read_lines}
-use Rattle.job.specs.declared.Heading.{Heading}
-use Rattle.job.specs.declared.Taken.{Taken}
+use Rattle.job.specs.Lines.{Taken, taken_at}
+use Rattle.job.specs.Job.{Heading, Reading, admitted, headed, table_with, store_with, bindings_with, bad, good, read_lines}
 use Rattle.job.proofs.Readings.{Sound, sound, reads-bad, reads-refused, reads_on, reads_none, reads_all, with-made, entry-fit, node-fit, binding-fit, entry-room, node-room, rows-kept}
 
 -- Line n begins at a place of s; g is what was read before it, beginning with g₀.
@@ -49,8 +47,8 @@ module _ {s : List ℕ} {g₀ g : Reading} {at n : ℕ} (goes : Goes s g₀ g at
       pub binding-asks : (length g.bindings ≡ variables) × (t.name ≡ 3 → (get_or t.at 0 0 < variables) × (get_or t.at 1 0 < 131072))
       binding-asks = (goes.bindings, binding-fit t.name t.count t.at line-sound.fit)
 
-      pub heading-asks : (g.heading.entries ≤ 512) × (g.heading.nodes ≤ 1024) × (t.name ≡ 3 → get_or t.at 0 0 < variables) × (t.name ≤ 3)
-      heading-asks = (goes.entries, goes.nodes, λ e. (binding-asks.1 e).0, k)
+      pub heading-asks : (g.heading.entries ≤ 512) × (g.heading.nodes ≤ 1024) × (t.name ≡ 3 → get_or t.at 0 0 < variables)
+      heading-asks = (goes.entries, goes.nodes, λ e. (binding-asks.1 e).0)
 
       -- One that may come next finds room in the arrays.
       module _ (a : admitted g.heading t.name (get_or t.at 0 0) ≡ true) where

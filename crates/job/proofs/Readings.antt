@@ -4,7 +4,7 @@ use mathlib.Core.Bool.{Bool, true, false, ◌&&◌, ◌||◌, true≢false}
 use mathlib.Core.List.{List, [], ◌∷◌}
 use mathlib.Core.Logic.{⊎_elim}
 use mathlib.Core.Option.{Option, none, some}
-use Prim.Native.Nat.{ℕ, ◌+◌, ◌-◌, ◌%◌, ◌≤◌, ◌<◌}
+use Prim.Native.Nat.{ℕ, ◌+◌, ◌%◌, ◌≤◌, ◌<◌}
 use native.Mathlib.Nat.{sub-zero}
 use native.Mathlib.Omega.{arith}
 use lib.Dec.{ltb, leb, eqb}
@@ -14,16 +14,13 @@ use Rattle.checks.specs.Kinds.{variables}
 use Rattle.std.specs.Prelude.{if◌then◌else◌}
 use Rattle.words.proofs.Tests.{and-true, below-or-from}
 use Rattle.words.specs.Words.{cleared_from}
-use Rattle.text.specs.Text.{parts, up_to, numbers_of, eight}
+use Rattle.text.specs.Text.{parts, up_to, eight}
 use Rattle.text.specs.Lines.{line_end}
-use Rattle.job.specs.Lines.{Line, name_of, job_fits, entry_fits, node_fits, binding_fits, fits, line_from, field_numbers, line_of_fields}
+use Rattle.job.specs.Lines.{Line, Taken, name_of, job_fits, entry_fits, node_fits, binding_fits, fits, line_from, field_numbers, line_of_fields}
 use Rattle.job.specs.Lines.{line_of, words, upper, entry_row, node_row, no_line, line_held, taken_at}
-use Rattle.job.specs.Job.{Reading, admitted, headed, table_with, store_with, bindings_with, with, taken, accepted, Meant, bad, good}
+use Rattle.job.specs.Job.{Heading, Parsed, Reading, admitted, headed, table_with, store_with, bindings_with, with, taken, accepted, Meant, bad, good}
 use Rattle.job.specs.Job.{or_bad, ended, read_lines, Holds, blank, zeros, meant, parsed_of, table_of, store_of, bindings_of}
-use Rattle.job.specs.declared.Parsed.TheVariants as told
-use Rattle.job.specs.declared.Parsed.{Parsed}
-use Rattle.job.specs.declared.Heading.{Heading}
-use Rattle.job.specs.declared.Taken.{Taken}
+use Rattle.job.specs.Job as told
 use Rattle.text.proofs.Parts.{parts_first}
 use Rattle.text.proofs.Lines.{line-next, line-last}
 use Rattle.job.proofs.Shapes.{get_or-eight, fits-eight}

@@ -1,6 +1,6 @@
 -- A line by its name and its numbers, as the code holds them. Assumes nothing.
 use mathlib.Core.Path.{◌≡◌, refl, ap, sym, ◌∙◌}
-use mathlib.Core.Bool.{Bool, true, false, true≢false}
+use mathlib.Core.Bool.{true, false}
 use mathlib.Core.List.{List, [], ◌∷◌, ◌++◌, tail}
 use mathlib.Core.Option.{Option, none, some}
 use Prim.Native.Nat.{ℕ, zero, suc, ◌+◌, ◌-◌, ◌≤◌, ◌<◌}
@@ -8,10 +8,10 @@ use native.Mathlib.Omega.{arith}
 use lib.Dec.{eqb}
 use lib.ListN.{length, get_or, take, drop, replicate}
 use borrow.Author.Tests.{lt-ltb, le-ltb}
-use Rattle.std.specs.Prelude.{if◌then◌else◌}
 use Rattle.text.specs.Text.{parts, up_to, numbers_of, eight}
 use Rattle.text.specs.Held.{numbers_held}
 use Rattle.text.specs.Lines.{line_end}
+use Rattle.std.specs.Prelude.{Some, None}
 use Rattle.text.specs.declared.Numbers.{Numbers}
 use Rattle.job.specs.Lines.{Line, name_of, job_fits, entry_fits, node_fits, binding_fits, fits, line_from, entry_numbers, field_numbers, line_of, words, upper, no_line, line_held, taken_at}
 use Rattle.text.proofs.Parts.{parts_first, up_to-take, length-up_to, up_to-stops}
@@ -37,17 +37,10 @@ pub fits-eight : (k n : ℕ) (vs : List ℕ) → fits k n (eight vs) ≡ fits k 
 unfolding fits job_fits entry_fits node_fits binding_fits
 fits-eight k n vs = rw (get_or-eight vs 3, get_or-eight vs 0, get_or-eight vs 1)
 
--- Nine numbers fit no name.
-fits-nine : (k : ℕ) (vs : List ℕ) → fits k 9 vs ≡ false
-unfolding fits job_fits entry_fits node_fits binding_fits
-fits-nine k vs = go (eqb k 0) (eqb k 1) (eqb k 2) (eqb k 3)
-  where
-    go : (a b c d : Bool) → (if a then false else (if b then false else (if c then false else (if d then false else false)))) ≡ false
-    go true b c d = refl
-    go false true c d = refl
-    go false false true d = refl
-    go false false false true = refl
-    go false false false false = refl
+-- Nothing fits 4, which is no name.
+fits-four : (n : ℕ) (vs : List ℕ) → fits 4 n vs ≡ false
+unfolding fits
+fits-four n vs = refl
 
 -- Of a line that is no `e` line the words are the numbers.
 words-other : (k : ℕ) (vs : List ℕ) → eqb k 1 ≡ false → words k vs ≡ vs
@@ -58,22 +51,23 @@ upper-other k vs e = rw e
 
 module _ (k next : ℕ) (got : Numbers) (plain : eqb k 1 ≡ false) where
   -- Numbers that do not fit make no line.
-  pub line-none : (o : Option (List ℕ)) → got ≡ numbers_held o → fits k got.count got.at ≡ false → no_line next ≡ line_held (line_from k o) next
+  pub line-none : (o : Option (List ℕ)) → Some got ≡ numbers_held o → fits k got.count got.at ≡ false → no_line next ≡ line_held (line_from k o) next
   line-none none e f = refl
   line-none (some vs) e f =
-      let g : fits k (length vs) vs ≡ false = sym (fits-eight k (length vs) vs) ∙ sym (ap (λ (n : Numbers). fits k n.count n.at) e) ∙ f in
+      let i : got ≡ record { count = length vs; at = eight vs } = cc in
+      let g : fits k (length vs) vs ≡ false = sym (fits-eight k (length vs) vs) ∙ sym (ap (λ (n : Numbers). fits k n.count n.at) i) ∙ f in
       rw g
 
   -- Those that fit make the line.
   pub line-some : (o : Option (List ℕ))
-      → got ≡ numbers_held o
+      → Some got ≡ numbers_held o
       → fits k got.count got.at ≡ true
       → record { name = k; count = got.count; at = got.at; high = 0; next = next } ≡ line_held (line_from k o) next
-  line-some none e f =
-      absurd (true≢false (sym f ∙ ap (λ (n : Numbers). fits k n.count n.at) e ∙ fits-nine k (replicate 8 0)))
+  line-some none e f = cc
   line-some (some vs) e f =
-      let g : fits k (length vs) vs ≡ true = sym (fits-eight k (length vs) vs) ∙ sym (ap (λ (n : Numbers). fits k n.count n.at) e) ∙ f in
-      rw (g, e, plain)
+      let i : got ≡ record { count = length vs; at = eight vs } = cc in
+      let g : fits k (length vs) vs ≡ true = sym (fits-eight k (length vs) vs) ∙ sym (ap (λ (n : Numbers). fits k n.count n.at) i) ∙ f in
+      rw (g, i, plain)
 
 module _ (l : List ℕ) (e : ℕ) (z : e ≡ 0 + length (up_to 9 l)) where
   -- The name ends at a tab or at the end.
@@ -96,7 +90,28 @@ module _ (l : List ℕ) (e : ℕ) (z : e ≡ 0 + length (up_to 9 l)) where
       let n : name_of (take e l) ≡ 1 = sym named ∙ one in
       sym (ap (λ (o : Option Line). line_held o next) (line-fields ∙ ap (λ (i : ℕ). line_from i (field_numbers i (tail (parts 9 (drop e l))))) n))
 
-  module _ (k next : ℕ) (got : Numbers) (named : k ≡ name_of (take e l)) (plain : eqb k 1 ≡ false) (held : got ≡ numbers_held (numbers_of 8 (tail (parts 9 (drop e l))))) where
+  -- The line is bad where there is no name, or its fields are no numbers.
+  pub nameless : (next : ℕ) → 4 ≡ name_of (take e l) → no_line next ≡ line_held (line_of l) next
+  nameless next z =
+      sym (ap (λ (o : Option Line). line_held o next)
+      (line-fields ∙ ap (λ (i : ℕ). line_from i (field_numbers i (tail (parts 9 (drop e l))))) (sym z) ∙ go (numbers_of 8 (tail (parts 9 (drop e l))))))
+    where
+      go : (o : Option (List ℕ)) → line_from 4 o ≡ none
+      go none = refl
+      go (some vs) = rw (fits-four (length vs) vs)
+
+  pub numberless : (k next : ℕ) → k ≡ name_of (take e l) → eqb k 1 ≡ false → None ≡ numbers_held (numbers_of 8 (tail (parts 9 (drop e l))))
+      → no_line next ≡ line_held (line_of l) next
+  numberless k next named plain z =
+      let f : field_numbers k (tail (parts 9 (drop e l))) ≡ numbers_of 8 (tail (parts 9 (drop e l))) = rw plain in
+      sym (ap (λ (o : Option Line). line_held o next)
+      (line-fields ∙ ap (λ (i : ℕ). line_from i (field_numbers i (tail (parts 9 (drop e l))))) (sym named) ∙ ap (line_from k) (f ∙ go (numbers_of 8 (tail (parts 9 (drop e l)))) z)))
+    where
+      go : (o : Option (List ℕ)) → None ≡ numbers_held o → o ≡ none
+      go none z = refl
+      go (some vs) z = cc
+
+  module _ (k next : ℕ) (got : Numbers) (named : k ≡ name_of (take e l)) (plain : eqb k 1 ≡ false) (held : Some got ≡ numbers_held (numbers_of 8 (tail (parts 9 (drop e l))))) where
     whole : line_held (line_from k (numbers_of 8 (tail (parts 9 (drop e l))))) next ≡ line_held (line_of l) next
     whole =
         let f : field_numbers k (tail (parts 9 (drop e l))) ≡ numbers_of 8 (tail (parts 9 (drop e l))) = rw plain in

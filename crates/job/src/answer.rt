@@ -11,6 +11,7 @@ use text::write::{put_byte, put_rest};
 use words::{row, word};
 
 // The constructor and the six children's places of a node.
+#[tactic(auto, unfolding(crate::specs::Answer::node_shown))]
 fn node_shown(store: &[u32], k: u32) -> [u32; 8]
     ensures { result ≡ node_shown store.now k }
 {
@@ -85,6 +86,7 @@ fn put_line(buf: &mut [u8], five: [u32; 5]) -> usize
 }
 
 // The answer shows what is left.
+#[tactic(auto, unfolding(crate::specs::Answer::shown))]
 fn shows(a: u32) -> bool
     ensures { result ≡ shown a }
 {

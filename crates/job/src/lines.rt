@@ -14,6 +14,7 @@ use text::field::{next_at, number, number_within, numbers};
 use text::reader::line_from;
 
 // The name of one letter.
+#[tactic(auto, unfolding(crate::specs::Lines::letter_of))]
 fn letter(b: u8) -> Option<Name>
     ensures { named result ≡ letter_of b }
 {
@@ -37,6 +38,7 @@ fn name(field: &[u8]) -> Option<Name>
 }
 
 // Units, start, subject and room.
+#[tactic(auto, unfolding(crate::specs::Lines::job_fits))]
 fn job_fits(n: Numbers) -> bool
     ensures { result ≡ job_fits n.count n.at }
 {
@@ -44,6 +46,7 @@ fn job_fits(n: Numbers) -> bool
 }
 
 // Constructor and up to six children.
+#[tactic(auto, unfolding(crate::specs::Lines::node_fits))]
 fn node_fits(n: Numbers) -> bool
     ensures { result ≡ node_fits n.count n.at }
 {
@@ -51,6 +54,7 @@ fn node_fits(n: Numbers) -> bool
 }
 
 // Variable and node.
+#[tactic(auto, unfolding(crate::specs::Lines::binding_fits))]
 fn binding_fits(n: Numbers) -> bool
     ensures { result ≡ binding_fits n.count n.at }
 {
@@ -58,6 +62,7 @@ fn binding_fits(n: Numbers) -> bool
 }
 
 // The numbers fit the name, which is not that of an `e` line.
+#[tactic(auto, unfolding(crate::specs::Lines::fits))]
 fn fits(name: Name, n: Numbers) -> bool
     requires { name_number name ≡ 1 → ⊥ }
     ensures { result ≡ fitting (name_number name) n.count n.at }

@@ -30,6 +30,7 @@ impl Heading {
     }
 
     // The line may come next.
+    #[tactic(auto, unfolding(crate::specs::Job::admitted))]
     fn admits(&self, line: &Line) -> bool
         ensures { result ≡ admitted (heading_of self.now) (name_number line.now.name) (get_or line.now.numbers.at 0 0) }
     {
@@ -44,6 +45,7 @@ impl Heading {
     }
 
     // The heading after the line.
+    #[tactic(auto, unfolding(crate::specs::Job::headed))]
     fn advanced(self, line: &Line) -> Heading
         requires { (self.entries ≤ 512) × (self.nodes ≤ 1024) × (name_number line.now.name ≡ 3 → get_or line.now.numbers.at 0 0 < variables) }
         ensures { heading_of result ≡ headed (heading_of self) (name_number line.now.name) line.now.numbers.at }
@@ -82,6 +84,7 @@ impl Heading {
 
 impl Line {
     // The row of an `e` line.
+    #[tactic(auto, unfolding(crate::specs::Lines::entry_row))]
     pub fn entry_row(&self) -> [u32; 8]
         requires { (2 ≤ self.now.numbers.count) × (self.now.numbers.count ≤ 8) × (get_or self.now.numbers.at 0 0 ≤ 255) }
         ensures { result ≡ entry_row self.now.numbers.count self.now.numbers.at self.now.high }
@@ -96,6 +99,7 @@ impl Line {
     }
 
     // The row of an `n` line.
+    #[tactic(auto, unfolding(crate::specs::Lines::node_row))]
     fn node_row(&self) -> [u32; 8]
         requires { 1 ≤ self.now.numbers.count }
         ensures { result ≡ node_row self.now.numbers.count self.now.numbers.at }
@@ -116,6 +120,7 @@ impl Line {
 
 // Puts the line into the words: an `e` line is the next row of the table, an `n` line the next row of the store, and a `b` line
 // binds its variable.
+#[tactic(auto, unfolding(crate::specs::Job::table_with, crate::specs::Job::store_with, crate::specs::Job::bindings_with))]
 fn put_line(h: &Heading, line: &Line, table: &mut [u32], store: &mut [u32], bindings: &mut [u32])
     requires table { (length table.old ≡ 4096) × (name_number line.now.name ≡ 1
         → (h.now.entries < 512) × (2 ≤ line.now.numbers.count) × (line.now.numbers.count ≤ 8) × (get_or line.now.numbers.at 0 0 ≤ 255)) }

@@ -1,69 +1,42 @@
 -- `job::answer::answer` meets its contract: the line alone, or the line, the nodes and the bindings. Assumes nothing.
-use mathlib.Core.Path.{sym, ◌∙◌}
-use borrow.Author.Rules.{rules}
-use native.Mathlib.Omega.{arith}
-use borrow.Author.Tests.{not-true, not-false}
-use mathlib.Core.List.{[], ◌∷◌}
-use lib.ListN.{length-append}
+use Rattle.std.proofs.Common.{arith, rules, ◌≡◌, length, get_or, length-append, sym}
 use Rattle.job.specs.Written.{written}
-use Rattle.job.specs.Answer.{node_lines, answer_line}
+use Rattle.job.specs.Answer.{answer_line, node_lines}
 use Rattle.text.proofs.Put.{put-more}
-use Rattle.job.proofs.Answers.{answered-alone, answered-shown, length-answer_line, length-nodes}
+use Rattle.job.proofs.Answers.{five-listed, length-line_five, answered-alone, answered-shown, length-nodes}
 use Rattle.job.proofs.answer.answer.Goals as goal
 
 pub returns-then-not-shows : goal.returns-then-not-shows
 returns-then-not-shows c =
-    rw (answered-alone c.args.a c.args.p c.args.s c.args.m c.args.u c.args.store.now
-    c.args.bindings.now (sym c.shows.ensures ∙ not-true _ c.if-not-shows.true-raw)) c.put_line-end.ensures
+    let e : length c.args.five ≡ 5 = search rules in
+    rw (answered-alone _ _ _ _ _ c.args.store.now c.args.bindings.now (sym c.if-not-shows.ensures), five-listed c.args.five e) c.put_line-end.ensures
 
 pub put_nodes-nodes-requires : goal.put_nodes-nodes-requires
 put_nodes-nodes-requires c =
-    omega (
-      arith,
-      c.requires.0,
-      c.requires.1,
-      c.put_line-end.ensures.place,
-      c.put_line-end.auto.buf,
-      length-answer_line
-          c.args.a c.args.p c.args.s c.args.m c.args.u,
-    )
+    let e : length c.args.five ≡ 5 = search rules in
+    omega (arith, c.put_line-end.ensures.place, length-line_five c.args.five e)
 
 pub put_bindings-requires : goal.put_bindings-requires
-put_bindings-requires c = (
-  omega (
-    arith,
-    c.requires.0,
-    c.requires.1,
-    c.put_line-end.ensures.place,
-    c.put_line-end.auto.buf,
-    length-answer_line
-        c.args.a c.args.p c.args.s c.args.m c.args.u,
-    c.put_nodes-nodes.ensures.place,
-    c.put_nodes-nodes.auto.buf,
-    length-nodes c.args.store.now c.args.m,
-  ),
-  c.requires.2,
-)
+put_bindings-requires c =
+    let e : length c.args.five ≡ 5 = search rules in (
+      omega (
+        arith,
+        c.put_line-end.ensures.place,
+        length-line_five c.args.five e,
+        c.put_nodes-nodes.ensures.place,
+        length-nodes c.args.store.now (get_or c.args.five 3 0),
+      ),
+      c.requires.2,
+    )
 
 pub returns : goal.returns
 returns c =
-    rw (answered-shown c.args.a c.args.p c.args.s c.args.m c.args.u c.args.store.now
-    c.args.bindings.now (sym c.shows.ensures ∙ not-false _ c.if-not-shows.false-raw))
+    let e : length c.args.five ≡ 5 = search rules in
+    rw (answered-shown _ _ _ _ _ c.args.store.now c.args.bindings.now (sym c.if-not-shows.ensures), five-listed c.args.five e)
     (put-more (omega (
       arith,
-      c.requires.0,
-      c.requires.1,
-      length-answer_line c.args.a c.args.p c.args.s
-          c.args.m c.args.u,
-      length-nodes c.args.store.now c.args.m,
-      length-append
-          (answer_line (c.args.a ∷ c.args.p ∷ c.args.s ∷ c.args.m ∷ c.args.u ∷ []))
-          (written (node_lines c.args.store.now c.args.m)),
+      length-line_five c.args.five e,
+      length-nodes c.args.store.now (get_or c.args.five 3 0),
+      length-append (answer_line c.args.five) (written (node_lines c.args.store.now (get_or c.args.five 3 0))),
     ))
-    (put-more (omega (
-      arith,
-      c.requires.0,
-      length-answer_line c.args.a c.args.p c.args.s c.args.m
-          c.args.u,
-    )) c.put_line-end.ensures c.put_nodes-nodes.ensures)
-    c.put_bindings.ensures)
+    (put-more (omega (arith, length-line_five c.args.five e)) c.put_line-end.ensures c.put_nodes-nodes.ensures) c.put_bindings.ensures)

@@ -1,39 +1,68 @@
 -- `job::lines::line_of` meets its contract: the name ends at the first tab, and the numbers fit it or do not. Assumes nothing.
-use mathlib.Core.Path.{sym, ◌∙◌}
-use borrow.Author.Rules.{rules}
+use Rattle.std.proofs.Common.{Option, true, false, ◌≡◌, ap, sym, ◌∙◌}
+use denote.Enum.Bare.{sameb}
+use lib.Dec.{eqb}
+use borrow.Author.Tests.{eqb-false}
 use lib.Seq.{length-take-le}
-use borrow.Author.Tests.{not-true, not-false, ne_eqb}
-use Rattle.job.proofs.Shapes.{name-end, entry_whole, bad-line, good-line}
+use Rattle.job.specs.Held.{line_taken, name_number}
+use Rattle.job.specs.contracts.Name.{the_type}
+use Rattle.job.specs.declared.Line.{Line}
+use Rattle.job.specs.declared.Name.{Name}
+use Rattle.job.specs.declared.Name.TheVariants.{Job, Entry, Node, Binding}
+use Rattle.job.proofs.Shapes.{name-end, nameless, numberless, entry_whole, bad-line, good-line}
 use Rattle.job.proofs.lines.line_of.Goals as goal
+
+-- A name is that of an `e` line, or another.
+entry-name : (k : Name) → true ≡ sameb the_type k Entry → name_number k ≡ 1
+entry-name Job e = cc
+entry-name Entry e = cc
+entry-name Node e = cc
+entry-name Binding e = cc
+
+other-name : (k : Name) → false ≡ sameb the_type k Entry → eqb (name_number k) 1 ≡ false
+other-name Job e = cc
+other-name Entry e = cc
+other-name Node e = cc
+other-name Binding e = cc
 
 pub slice_bounds-name-end : goal.slice_bounds-name-end
 slice_bounds-name-end c =
     sym (length-take-le c.next_at-end.result c.args.line.now (name-end c.args.line.now c.next_at-end.result c.next_at-end.ensures).0)
 
+pub returns-in_err-name : goal.returns-in_err-name
+returns-in_err-name c next =
+    ap (λ (r : Option Line). line_taken r next) c.from_residual.ensures
+    ∙ nameless c.args.line.now c.next_at-end.result c.next_at-end.ensures next c.in_err-name.ensures
+
 pub entry_of-requires : goal.entry_of-requires
-entry_of-requires c =
-    name-end c.args.line.now c.next_at-end.result c.next_at-end.ensures
+entry_of-requires c = name-end c.args.line.now c.next_at-end.result c.next_at-end.ensures
 
-pub returns-then-k-eq1 : goal.returns-then-k-eq1
-returns-then-k-eq1 c =
-    c.entry_of.ensures
-    ∙ entry_whole c.args.line.now c.next_at-end.result c.next_at-end.ensures c.name-k.result c.args.next c.name-k.ensures c.if-k-eq1.true
+pub returns-then-eq : goal.returns-then-eq
+returns-then-eq c next =
+    c.entry_of.ensures next
+    ∙ entry_whole c.args.line.now c.next_at-end.result c.next_at-end.ensures (name_number c.in_ok-name.name) next c.in_ok-name.ensures
+    (entry-name c.in_ok-name.name c.if-eq.ensures)
 
-pub numbers-got-requires : goal.numbers-got-requires
-numbers-got-requires c =
-    name-end c.args.line.now c.next_at-end.result c.next_at-end.ensures
+pub numbers-requires : goal.numbers-requires
+numbers-requires c = name-end c.args.line.now c.next_at-end.result c.next_at-end.ensures
+
+pub returns-in_err-numbers : goal.returns-in_err-numbers
+returns-in_err-numbers c next =
+    ap (λ (r : Option Line). line_taken r next) c.from_residual-in_err-numbers.ensures
+    ∙ numberless c.args.line.now c.next_at-end.result c.next_at-end.ensures (name_number c.in_ok-name.name) next c.in_ok-name.ensures
+    (other-name c.in_ok-name.name c.if-eq.ensures) c.in_err-numbers.ensures
 
 pub fits-requires : goal.fits-requires
-fits-requires c = c.if-k-eq1.false
+fits-requires c = eqb-false (name_number c.in_ok-name.name) 1 (other-name c.in_ok-name.name c.if-eq.ensures)
 
 pub returns-then-not-fits : goal.returns-then-not-fits
-returns-then-not-fits c =
-    bad-line c.args.line.now c.next_at-end.result c.next_at-end.ensures c.name-k.result c.args.next
-    c.numbers-got.result c.name-k.ensures (ne_eqb _ _ c.if-k-eq1.false) c.numbers-got.ensures
-    (sym c.fits.ensures ∙ not-true _ c.if-not-fits.true-raw)
+returns-then-not-fits c next =
+    bad-line c.args.line.now c.next_at-end.result c.next_at-end.ensures (name_number c.in_ok-name.name) next
+    c.in_ok-numbers.numbers c.in_ok-name.ensures (other-name c.in_ok-name.name c.if-eq.ensures) c.in_ok-numbers.ensures
+    (sym c.if-not-fits.ensures)
 
 pub returns : goal.returns
-returns c =
-    good-line c.args.line.now c.next_at-end.result c.next_at-end.ensures c.name-k.result c.args.next
-    c.numbers-got.result c.name-k.ensures (ne_eqb _ _ c.if-k-eq1.false) c.numbers-got.ensures
-    (sym c.fits.ensures ∙ not-false _ c.if-not-fits.false-raw)
+returns c next =
+    good-line c.args.line.now c.next_at-end.result c.next_at-end.ensures (name_number c.in_ok-name.name) next
+    c.in_ok-numbers.numbers c.in_ok-name.ensures (other-name c.in_ok-name.name c.if-eq.ensures) c.in_ok-numbers.ensures
+    (sym c.if-not-fits.ensures)

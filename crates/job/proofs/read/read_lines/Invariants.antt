@@ -1,19 +1,14 @@
 -- `job::read::read_lines` meets its contract. The loop's invariant: what the rest of the text means after what is read so far is what the whole means. Assumes nothing.
-use mathlib.Core.Path.{refl, sym, ◌∙◌}
-use Prim.Native.Nat.{◌-◌}
-use borrow.Author.Rules.{rules}
-use borrow.Author.Tests.{not-true, not-false}
-use native.Mathlib.Omega.{arith}
-use lib.ListN.{length}
+use Rattle.std.proofs.Common.{◌-◌, length}
 use Rattle.job.specs.Job.{blank}
-use Rattle.job.proofs.Readings.{stopped, finished}
-use Rattle.job.proofs.Going.{Goes, goes_none, goes-all, goes-bad, goes-refused, line-sound, entry-asks, node-asks, binding-asks, heading-asks, goes_on}
+use Rattle.job.specs.Held.{heading_of}
+use Rattle.job.proofs.Going.{Goes}
 use Rattle.job.proofs.read.read_lines.Given as goal
 
 abbrev pub invariant-loop-at : goal.invariant-loop-at
 invariant-loop-at l =
-    Goes l.text (record { heading = blank; table = l.initial.table; store = l.initial.store; bindings = l.initial.bindings }) (record { heading = l.h; table = l.table; store = l.store; bindings = l.bindings }) l.at l.n
+    Goes l.text (record { heading = blank; table = l.initial.table; store = l.initial.store; bindings = l.initial.bindings })
+    (record { heading = heading_of l.h; table = l.table; store = l.store; bindings = l.bindings }) l.at l.n
 
 abbrev pub decreases-loop-at : goal.decreases-loop-at
-decreases-loop-at l =
-    length l.text - l.at
+decreases-loop-at l = length l.text - l.at
