@@ -10,10 +10,14 @@ use lib.ListN.{length, get_or, take}
 use borrow.Author.Tests.{eq-eqb, ne_eqb, lt-ltb, le-ltb}
 use Rattle.checks.specs.Kinds.{ours, variables}
 use Rattle.words.specs.Words.{word_at, rows, cleared_from}
-use Rattle.std.specs.Prelude.{if◌then◌else◌}
-use Rattle.checks.specs.Checked.{Checked}
+use Rattle.std.specs.Prelude.{if◌then◌else◌, Err}
+use Rattle.checks.specs.Checked.{Checked, checked, table_checked}
+use Rattle.checks.specs.declared.refusal.Fault.{Fault}
+use Rattle.checks.specs.declared.refusal.Fault.TheVariants as fault
+use Rattle.checks.specs.declared.refusal.Refusal.{Refusal}
+use Rattle.checks.specs.declared.refusal.Refusal.TheVariants.{Sizes, Node, Start, EntryDisobeys, NodeDisobeys, Entry, Twin, Count, NoRun}
+use Rattle.checks.specs.Numbers.{fault_number, answer_of as refusal_number, checked_of}
 use Rattle.checks.specs.Good.{good_node}
-use Rattle.checks.specs.Checked.{checked, table_checked}
 use Rattle.checks.specs.Promises.{AllGood, StoreFits}
 use Rattle.checks.proofs.Promises.{table_passes, store_passes}
 use Rattle.meaning.specs.Bindings.{Bindings}
@@ -24,7 +28,7 @@ use Rattle.meaning.specs.Derivation.{places, nowhere}
 use Rattle.meaning.specs.Store.{State, Ran, Input, Accepted, named, bindings, ran, ran_by, rest, on as onWords, stored as plain}
 use Rattle.meaning.specs.Shared.{shared, shared_ran_by}
 use Rattle.meaning.proofs.Shared.{shared-leaves}
-use Rattle.meaning.proofs.Checked.{Node, good-of-node, store-filled}
+use Rattle.meaning.proofs.Checked.{Node as Filled, good-of-node, store-filled}
 use Rattle.meaning.proofs.Words.{same-node}
 use Rattle.index.specs.Run.{lending, FitsRoom, Fitting, SameRoom, own_words, own_ran}
 use Rattle.index.proofs.Running.{own-word, lent-is-plain, lent-is-shared}
@@ -39,13 +43,19 @@ use Rattle.state.specs.Answers.{packed, node_in, units_in, units_half, room_half
 use Rattle.state.specs.Noted.{Standing, missed_at, on, left_of, stored, Ran as LentRan}
 use Rattle.state.specs.Record.{mark_of, miss_of, room_of, top_of, nodes_of, standing, missing, held}
 use Rattle.state.specs.Visits.{visit, limit_of, meaning, Entries, Steady, Gives}
-use Rattle.cycle.specs.Cycle.{Hinted, Ready}
+use Rattle.cycle.specs.Cycle.{Ready}
 use Rattle.state.proofs.Holding.{further, mark-missing, notes-missing, held-missing, framed-missing}
 use Rattle.leaves.proofs.Keeping.{makeable, apply-leaves, apply-rooms, steady-missing}
 use Rattle.state.proofs.AnswerWords.{node-packed, units-packed, out-answer}
-use Rattle.loading.specs.Loaded.{Opened}
+use Rattle.loading.specs.Loaded.{Loaded, Opened}
+use Rattle.loading.proofs.Fetching.{table-loaded, entries-loaded}
+use Rattle.loading.proofs.Hinting.{hints-loaded}
 use Rattle.calls.specs.Refused.{refused_with}
-use Rattle.calls.specs.Run.{at_return, refusing, run_with, run_with_by, numbers, words_of}
+use Rattle.calls.specs.Run.{input, at_return, run_with, run_with_by, numbers, words_of}
+use Rattle.calls.specs.declared.End.{End}
+use Rattle.calls.specs.declared.End.TheVariants as end
+use Rattle.calls.specs.Outcome.{end_number, outcome_of}
+use Rattle.calls.proofs.Accepting.{accepted-with}
 use Rattle.running.specs.Ends.{cut_number, cut_place, Ends, own_run, RanAccepted}
 use Rattle.calls.specs.Outcome.{Outcome}
 
@@ -84,39 +94,46 @@ pub own-store : (room n : ℕ) (w : List ℕ) → 0 < room → own_words room n 
 own-store zero n w l = absurd (omega arith)
 own-store (suc r) n w l = refl
 
--- the table is held in c, the bindings and the mark in st, the subject and the units in g; the store's words are those of w, which is lent
-module _ (i : Input) (a : Accepted i) (c w st : List ℕ) (room top n g : ℕ) (same : table c ≡ table i.table) (entries : Entries c)
-    (hints : Hinted c) (o : Opened i.bindings i.mark room top n st)
-    (fits : FitsRoom room w i.mark top n) (own : own_words room n w ≡ i.store) (few : i.units < 4294967296) (ge : g ≡ packed i.subject i.units) where
-  subject-is : node_in g ≡ i.subject
-  subject-is = ap node_in ge ∙ node-packed i.subject i.units few
+-- a run on accepted input begins: the table is loaded into c, the bindings and the mark are in st; the store's words are those of w, which is
+-- lent
+pub record Begun (i : Input) (c w st : List ℕ) (room top n : ℕ) : Type 0 where
+  pub accepted : Accepted i
+  pub loaded : Loaded i.table c
+  pub opened : Opened i.bindings i.mark room top n st
+  pub fits : FitsRoom room w i.mark top n
+  pub own : own_words room n w ≡ i.store
+  pub few : i.units < 4294967296
 
-  units-are : units_in g ≡ i.units
-  units-are = ap units_in ge ∙ units-packed i.subject i.units few
+module _ {i : Input} {c w st : List ℕ} {room top n : ℕ} (B : Begun i c w st room top n) where
+  entries : Entries c
+  entries = entries-loaded B.accepted.table B.loaded
 
-  good : (j : ℕ) → j < i.mark → Node w j
+  subject-is : node_in (packed i.subject i.units) ≡ i.subject
+  subject-is = node-packed i.subject i.units B.few
+
+  good : (j : ℕ) → j < i.mark → Filled w j
   good j h =
-      same-node i.store w j (λ x l. sym (ap (λ s. word_at s j x) (sym own) ∙ own-word room w i.mark top n fits j x h l))
-      ((store-filled i.store i.mark a.store).node j h)
+      same-node i.store w j (λ x l. sym (ap (λ s. word_at s j x) (sym B.own) ∙ own-word room w i.mark top n B.fits j x h l))
+      ((store-filled i.store i.mark B.accepted.store).node j h)
 
   bounded : (v j : ℕ) → bindings i.bindings v ≡ some j → j < i.mark
   unfolding bindings
-  bounded v j e = below (get_or i.bindings v 0) j i.mark (a.bound v) e
+  bounded v j e = below (get_or i.bindings v 0) j i.mark (B.accepted.bound v) e
 
   steady : Steady w (at i.mark (lending 0 room top n)) (bindings i.bindings)
-  steady = record { fits = fits; used = omega (arith, a.subject); good = λ j h. good-of-node w j (good j h); bound = bounded }
+  steady = record { fits = B.fits; used = omega (arith, B.accepted.subject); good = λ j h. good-of-node w j (good j h); bound = bounded }
 
   mark-is : mark_of st ≡ i.mark
-  mark-is = ap (λ m. m.mark) o.stands
+  mark-is = ap (λ m. m.mark) B.opened.stands
 
-  pub ready : Ready c w st i.start g
+  pub ready : Ready c w st i.start (packed i.subject i.units)
   ready = record {
     entries = entries;
-    hints = hints;
-    long = o.long;
-    inside = omega (arith, a.inside, table-short i.table a.table);
-    steady = subst (λ m. Steady w m (held st)) (sym o.stands) (subst (Steady w (at i.mark (lending 0 room top n))) (sym o.holds) steady);
-    subject = rw (subject-is, mark-is) a.subject;
+    hints = hints-loaded B.accepted.table B.loaded;
+    long = B.opened.long;
+    inside = omega (arith, B.accepted.inside, table-short i.table B.accepted.table);
+    steady = subst (λ m. Steady w m (held st)) (sym B.opened.stands) (subst (Steady w (at i.mark (lending 0 room top n))) (sym B.opened.holds) steady);
+    subject = rw (subject-is, mark-is) B.accepted.subject;
   }
 
   -- over the lent words it is the run over the store's own
@@ -125,57 +142,64 @@ module _ (i : Input) (a : Accepted i) (c w st : List ℕ) (room top n g : ℕ) (
   beneath zero e =
       (λ z. own_ran (e z) n (run stored (does (table c)) 4096 (apply i.start i.subject (bindings i.bindings)) (on w (at i.mark (lending nowhere (e z) top n))) i.units))
       ∙ lent-is-shared places (table c) (makeable c entries) (bindings i.bindings) i.subject i.start 4096 i.units nowhere n w
-      i.mark top (subst (λ r. FitsRoom r w i.mark top n) e fits) good bounded a.subject
-      ∙ (λ z. run (shared places) (does (same z)) 4096 (apply i.start i.subject (bindings i.bindings)) (onWords (own_is z) i.mark nowhere) i.units)
+      i.mark top (subst (λ r. FitsRoom r w i.mark top n) e B.fits) good bounded B.accepted.subject
+      ∙ (λ z. run (shared places) (does (table-loaded B.loaded z)) 4096 (apply i.start i.subject (bindings i.bindings)) (onWords (own_is z) i.mark nowhere) i.units)
     where
       own_is : take (8 * n) w ≡ i.store
-      own_is = subst (λ r. own_words r n w ≡ i.store) e own
+      own_is = subst (λ r. own_words r n w ≡ i.store) e B.own
   beneath (suc r) e =
       (λ z. own_ran (e z) n (run stored (does (table c)) 4096 (apply i.start i.subject (bindings i.bindings)) (on w (at i.mark (lending nowhere (e z) top n))) i.units))
       ∙ lent-is-plain places (table c) (makeable c entries) (bindings i.bindings) i.subject i.start 4096 i.units nowhere r n w
-      i.mark top (subst (λ r. FitsRoom r w i.mark top n) e fits) good bounded a.subject
-      ∙ (λ z. run (plain places) (does (same z)) 4096 (apply i.start i.subject (bindings i.bindings)) (onWords (own_is z) i.mark nowhere) i.units)
+      i.mark top (subst (λ r. FitsRoom r w i.mark top n) e B.fits) good bounded B.accepted.subject
+      ∙ (λ z. run (plain places) (does (table-loaded B.loaded z)) 4096 (apply i.start i.subject (bindings i.bindings)) (onWords (own_is z) i.mark nowhere) i.units)
     where
       own_is : w ≡ i.store
-      own_is = subst (λ r. own_words r n w ≡ i.store) e own
+      own_is = subst (λ r. own_words r n w ≡ i.store) e B.own
 
   -- the run that the engine makes is the run over the words
   pub is-ran : own_run c w st i.start i.subject i.units ≡ ran_for room i
   is-ran =
-      (λ z. own_ran (o.stands z).notes.room (o.stands z).notes.nodes (visit c 4096 (apply i.start i.subject (o.holds z)) w (missed_at nowhere (o.stands z)) i.units))
+      (λ z. own_ran (B.opened.stands z).notes.room (B.opened.stands z).notes.nodes (visit c 4096 (apply i.start i.subject (B.opened.holds z)) w (missed_at nowhere (B.opened.stands z)) i.units))
       ∙ beneath room refl
 
   -- so its end is that of the run over the words, and what is lent fits still
-  module _ (r : Outcome) (st' w' : List ℕ) (e : RanAccepted c w st i.start i.subject i.units r st' w') where
+  module _ {r : Outcome} {st' w' : List ℕ} (e : RanAccepted c w st i.start i.subject i.units r st' w') where
     pub ended-as : Ends (ran_for room i) i.subject i.mark i.units r st' (own_words room n w')
     ended-as =
-        subst (λ (m : Standing). Ends (ran_for room i) i.subject m.mark i.units r st' (own_words m.notes.room m.notes.nodes w')) o.stands
+        subst (λ (m : Standing). Ends (ran_for room i) i.subject m.mark i.units r st' (own_words m.notes.room m.notes.nodes w')) B.opened.stands
         (subst (λ x. Ends x i.subject (mark_of st) i.units r st' (own_words (room_of st) (nodes_of st) w')) is-ran e.ends)
 
     pub fits_after : FitsRoom room w' r.mark (top_of st') n
-    fits_after = subst (λ (m : Standing). FitsRoom m.notes.room w' r.mark (top_of st') m.notes.nodes) o.stands e.fits
+    fits_after = subst (λ (m : Standing). FitsRoom m.notes.room w' r.mark (top_of st') m.notes.nodes) B.opened.stands e.fits
 
 -- a store without an index: its room is its nodes
 pub store-small : (i : Input) → Accepted i → rows i.store < 4294967296
 store-small i a = omega (arith, ((store_passes i.store i.mark).0 (ap (λ (c : Checked). c.answer) a.store)).0.0.most)
 
-module _ (i : Input) (a : Accepted i) (c st : List ℕ) (n g : ℕ) (same : table c ≡ table i.table) (entries : Entries c) (hints : Hinted c)
-    (ne : n ≡ rows i.store) (o : Opened i.bindings i.mark n 0 0 st)
-    (few : i.units < 4294967296) (ge : g ≡ packed i.subject i.units) where
-  some-nodes : 0 < n
-  some-nodes = omega (arith, a.subject, ((store_passes i.store i.mark).0 (ap (λ (c : Checked). c.answer) a.store)).0.1)
+some-nodes : (i : Input) → Accepted i → 0 < rows i.store
+some-nodes i a = omega (arith, a.subject, ((store_passes i.store i.mark).0 (ap (λ (c : Checked). c.answer) a.store)).0.1)
 
-  fits-nodes : FitsRoom n i.store i.mark 0 0
-  fits-nodes = subst (λ n. FitsRoom n i.store i.mark 0 0) (sym ne) (fits-store i a 0 0)
+begun-plain : {i : Input} {c st : List ℕ} {n : ℕ} → Accepted i → Loaded i.table c → n ≡ rows i.store → Opened i.bindings i.mark n 0 0 st → i.units < 4294967296
+    → Begun i c i.store st n 0 0
+begun-plain {i} {c} {st} {n} a l e o few = record {
+  accepted = a;
+  loaded = l;
+  opened = o;
+  fits = subst (λ n. FitsRoom n i.store i.mark 0 0) (sym e) (fits-store i a 0 0);
+  own = own-store n 0 i.store (rw e (some-nodes i a));
+  few = few;
+}
 
-  pub ready-plain : Ready c i.store st i.start g
-  ready-plain = ready i a c i.store st n 0 0 g same entries hints o fits-nodes (own-store n 0 i.store some-nodes) few ge
+pub ready-plain : {i : Input} {c st : List ℕ} {n : ℕ} → Accepted i → Loaded i.table c → n ≡ rows i.store → Opened i.bindings i.mark n 0 0 st → i.units < 4294967296
+    → Ready c i.store st i.start (packed i.subject i.units)
+ready-plain a l e o few = ready (begun-plain a l e o few)
 
-  pub ended-plain : (r : Outcome) (st' w' : List ℕ) → RanAccepted c i.store st i.start i.subject i.units r st' w' → Ends (ran places nowhere i) i.subject i.mark i.units r st' w'
-  ended-plain r st' w' e =
-      subst (λ x. Ends x i.subject i.mark i.units r st' w') (ran-plain n i some-nodes)
-      (subst (Ends (ran_for n i) i.subject i.mark i.units r st') (own-store n 0 w' some-nodes)
-      (ended-as i a c i.store st n 0 0 g same entries hints o fits-nodes (own-store n 0 i.store some-nodes) few ge r st' w' e))
+pub ended-plain : {i : Input} {c st : List ℕ} {n : ℕ} {r : Outcome} {st' w' : List ℕ} → Accepted i → Loaded i.table c → n ≡ rows i.store → Opened i.bindings i.mark n 0 0 st
+    → i.units < 4294967296 → RanAccepted c i.store st i.start i.subject i.units r st' w' → Ends (ran places nowhere i) i.subject i.mark i.units r st' w'
+ended-plain {i} {n = n} {r} {st'} {w'} a l e o few h =
+    let some : 0 < n = rw e (some-nodes i a) in
+    subst (λ x. Ends x i.subject i.mark i.units r st' w') (ran-plain n i some)
+    (subst (Ends (ran_for n i) i.subject i.mark i.units r st') (own-store n 0 w' some) (ended-as (begun-plain a l e o few) h))
 
 -- where a match gave up is of no account for what a visit requires
 pub ready-missing : {c w : List ℕ} {e g : ℕ} (st : List ℕ) (p : ℕ) → Ready c w st e g → Ready c w (missing st p) e g
@@ -274,9 +298,9 @@ module _ (c w st : List ℕ) (e k u : ℕ) (few : u < 4294967296) (got : ℕ) (g
     unfolding own_ran
     own-cut = ap (own_ran (room_of st) (nodes_of st)) is_cut
 
-    pub cut-ends : (n p : ℕ) → n ≡ cut_number d → p ≡ cut_place d → RanAccepted c w st e k u (record { answer = n; place = p; subject = k; mark = mark_of st; units = u - units_in d }) st' w'
+    pub cut-ends : {n p : ℕ} → n ≡ cut_number d → p ≡ cut_place d → RanAccepted c w st e k u (record { answer = n; place = p; subject = k; mark = mark_of st; units = u - units_in d }) st' w'
     unfolding numbers words_of
-    cut-ends n p z y =
+    cut-ends z y =
         let f = subst (λ r. Fitting (mark_of st) r × SameRoom (room_of st) (nodes_of st) r) is_cut left-fits in
         record {
           ends = record { numbers = rw (z, y, own-cut); words = rw own-cut; bound = λ y z b s f. impossible (let h = sym own-cut ∙ f in cc) };
@@ -302,7 +326,7 @@ is-ended k m u (cut nesting l v) e = absurd (omega arith)
 is-ended k m u (cut (unbound y) l v) e = absurd (omega arith)
 
 -- the end of an accepted run: r are its numbers, st is the record and w the store's words
-module _ (room : ℕ) (i : Input) (a : Accepted i) (r : Outcome) (st w : List ℕ) (ends : Ends (ran_for room i) i.subject i.mark i.units r st w) where
+module _ (room : ℕ) {i : Input} (a : Accepted i) {r : Outcome} {st w : List ℕ} (ends : Ends (ran_for room i) i.subject i.mark i.units r st w) where
   passes : StoreFits i.store i.mark × AllGood (good_node i.store) i.mark
   passes = (store_passes i.store i.mark).0 (ap (λ (c : Checked). c.answer) a.store)
 
@@ -350,15 +374,56 @@ module _ (room : ℕ) (i : Input) (a : Accepted i) (r : Outcome) (st w : List �
       → at_return r (cleared_from w (8 * r.mark)) b' ≡ returned i (ran_for room i)
   comes_back b' y n = come (ran_for room i) refl b' y n
 
--- a refusal, and none
-module _ (g : Option (List ℕ)) (i : Input) (r : Checked) (is : r ≡ refused_with g i.table i.store i.bindings i.mark i.start i.subject) where
-  pub run-refused : (r.answer ≡ 0 → ⊥) → refusing i r ≡ run_with g i
-  unfolding run_with_by
-  run-refused n = rw is (sym (rw (ne_eqb (refused_with g i.table i.store i.bindings i.mark i.start i.subject).answer 0 (λ z. n (ap (λ (c : Checked). c.answer) is ∙ z)))))
+-- ---- a refusal, and none
 
-  pub run_ran : r.answer ≡ 0 → returned i (ran places nowhere i) ≡ run_with g i
+-- no refusal has the number 0
+pub fault-some : (f : Fault) → 0 < fault_number f
+fault-some fault.Count = omega arith
+fault-some fault.Argument = omega arith
+fault-some fault.Place = omega arith
+fault-some fault.Sort = omega arith
+fault-some fault.Unused = omega arith
+
+pub refusal-some : (e : Refusal) → 0 < refusal_number e
+refusal-some Sizes = omega arith
+refusal-some (Node k) = omega arith
+refusal-some Start = omega arith
+refusal-some (EntryDisobeys e) = omega arith
+refusal-some (NodeDisobeys k) = omega arith
+refusal-some (Entry f e) = fault-some f
+refusal-some (Twin k) = omega arith
+refusal-some (Count e) = omega arith
+refusal-some NoRun = omega arith
+
+pub no-zero : (e : Refusal) → refusal_number e ≡ 0 → ⊥
+no-zero e z = omega (arith, refusal-some e)
+
+-- the end with the number 0
+pub is-done-end : (e : End) → end_number e ≡ 0 → e ≡ end.Done
+is-done-end end.Done z = refl
+is-done-end (end.Failed p) z = absurd (omega arith)
+is-done-end end.Units z = absurd (omega arith)
+is-done-end end.Room z = absurd (omega arith)
+is-done-end end.Nesting z = absurd (omega arith)
+is-done-end (end.Unbound v) z = absurd (omega arith)
+is-done-end end.Unfinished z = absurd (omega arith)
+
+module _ (g : Option (List ℕ)) (t s b : List ℕ) (m e k u : ℕ) where
+  pub run-refused : (r : Refusal) → checked_of (Err r) ≡ refused_with g t s b m e k → at_return (outcome_of (Err r) k m) s b ≡ run_with g (input t s b m e k u)
   unfolding run_with_by
-  run_ran z = sym (rw (eq-eqb (refused_with g i.table i.store i.bindings i.mark i.start i.subject).answer 0 (sym (ap (λ (c : Checked). c.answer) is) ∙ z)))
+  run-refused r is = rw (← is, ne_eqb (refusal_number r) 0 (no-zero r))
+
+  module _ (is : checked 0 0 ≡ refused_with g t s b m e k) where
+    none-refused : eqb (refused_with g t s b m e k).answer 0 ≡ true
+    none-refused = eq-eqb (refused_with g t s b m e k).answer 0 (ap (λ (c : Checked). c.answer) (sym is))
+
+    -- what is not refused is accepted
+    pub accepted : Accepted (input t s b m e k u)
+    accepted = (accepted-with ours g (input t s b m e k u) none-refused).1
+
+    pub run_ran : returned (input t s b m e k u) (ran places nowhere (input t s b m e k u)) ≡ run_with g (input t s b m e k u)
+    unfolding run_with_by
+    run_ran = sym (rw none-refused)
 
 -- the lengths that a run's copies need
 pub table_fits : (i : Input) → Accepted i → length i.table ≤ 32768

@@ -26,17 +26,12 @@ fn cut_end(c: u64) -> End
     ensures answer { end_number result ≡ cut_number c }
     ensures place { end_place result ≡ cut_place c }
 {
-    let t = c / HALF;
-    if t < UNITS {
-        return End::Unbound((t % 64) as u32);
+    match c / HALF {
+        t if t < UNITS => End::Unbound((t % 64) as u32),
+        UNITS => End::Units,
+        ROOM => End::Room,
+        _ => End::Nesting,
     }
-    if t == UNITS {
-        return End::Units;
-    }
-    if t == ROOM {
-        return End::Room;
-    }
-    End::Nesting
 }
 
 // A run of accepted input, over a loaded table, what is lent and an opened record. Where it is done the record holds the new mark and the new
@@ -100,7 +95,7 @@ pub fn run(
     let mut st = opened(bindings, mark, nodes, 0, 0);
     let r = run_accepted(&code, store, &mut st, start, subject, units);
     clear_from(store, 8 * (r.mark as usize));
-    if r.end == End::Done {
+    if let End::Done = r.end {
         closed(bindings, st);
     }
     Ok(r)
