@@ -15,10 +15,7 @@ use refusals::{check_words, start_fits, starts_fit};
 pub fn store_words(words: usize, all: usize) -> usize
     ensures { result ≡ min words all }
 {
-    if all < words {
-        return all;
-    }
-    words
+    words.min(all)
 }
 
 // What is refused before the start is looked at. The index has `size` words.

@@ -52,7 +52,7 @@ pub fn run_indexed(
     let mut st = opened(bindings, mark, 0, mark, nodes);
     let r = run_accepted(&code, lent, &mut st, start, subject, units);
     clear_from(lent, 8 * (r.mark as usize));
-    if r.end == End::Done {
+    if let End::Done = r.end {
         closed(bindings, st);
     }
     Ok(r)

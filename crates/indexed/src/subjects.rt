@@ -48,7 +48,7 @@ pub fn run_many_indexed(
         size,
         signature,
     )?;
-    if subjects.len() == 0 {
+    if subjects.is_empty() {
         return Ok(());
     }
     let nodes = (own / 8) as u32;
@@ -58,14 +58,12 @@ pub fn run_many_indexed(
     load(&mut code, table);
     let mut left = mark;
     let mut top = mark;
-    let mut j: usize = 0;
-    while j < subjects.len() {
+    for (j, subject) in subjects.iter().enumerate() {
         let mut st = opened(bindings, left, 0, top, nodes);
-        let r = run_accepted(&code, lent, &mut st, start, subjects[j], units);
+        let r = run_accepted(&code, lent, &mut st, start, *subject, units);
         left = r.mark;
         top = st[TOP];
         put_five(results, 5 * j, r.numbers());
-        j += 1;
     }
     clear_from(lent, 8 * (left as usize));
     Ok(())

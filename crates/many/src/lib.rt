@@ -19,11 +19,7 @@ pub fn put_five(results: &mut [u32], at: usize, numbers: [u32; 5])
     requires { at + 5 ≤ length results.old }
     ensures { results.new ≡ paste results.old at numbers 5 }
 {
-    let mut i: usize = 0;
-    while i < 5 {
-        results[at + i] = numbers[i];
-        i += 1;
-    }
+    results[at..at + 5].copy_from_slice(&numbers);
 }
 
 // Refused, with nothing written, or run on each subject in turn. A subject begins with the given bindings, its own units and the mark that
@@ -48,20 +44,18 @@ pub fn run_many(
     check_many(
         table, store, bindings, mark, start, subjects, listed, signature,
     )?;
-    if subjects.len() == 0 {
+    if subjects.is_empty() {
         return Ok(());
     }
     let mut code = [0u32; 32768];
     load(&mut code, table);
     let mut left = mark;
-    let mut j: usize = 0;
-    while j < subjects.len() {
+    for (j, subject) in subjects.iter().enumerate() {
         let nodes = (store.len() / 8) as u32;
         let mut st = opened(bindings, left, nodes, 0, 0);
-        let r = run_accepted(&code, store, &mut st, start, subjects[j], units);
+        let r = run_accepted(&code, store, &mut st, start, *subject, units);
         left = r.mark;
         put_five(results, 5 * j, r.numbers());
-        j += 1;
     }
     clear_from(store, 8 * (left as usize));
     Ok(())
