@@ -1,6 +1,6 @@
 -- A store without twins has no two nodes with the same words, and then two nodes are equal terms only where they are one node.
 -- Assumes nothing.
-use Rattle.std.proofs.Common.{◌≡◌, ℕ, zero, suc, ◌+◌, ◌<◌, Bool, true, false, not, Option, Some, None, List, replicate, sym, refl, ap, ◌∙◌, subst, true≢false, arith, if◌then◌else◌}
+use Rattle.std.proofs.Common.{◌≡◌, ℕ, zero, suc, ◌+◌, ◌<◌, ◌≤◌, Bool, true, false, not, Option, Some, None, List, replicate, sym, refl, ap, ◌∙◌, subst, true≢false, arith, if◌then◌else◌}
 use mathlib.Core.Option.{none, some}
 use Rattle.std.specs.Prelude.{is_some}
 use native.Mathlib.Decide.{ℕ_discrete}
@@ -40,5 +40,5 @@ unfolding fresh
 fresh-by w r k f t a b h = ap absent (ap (λ s. node_with w s k) (sym b) ∙ sym a) ∙ h
 
 -- an array of zeros is an index with nothing in it
-pub zeros : (w : List ℕ) (n c : ℕ) → c ≡ n + n → 0 < n → Indexed w (replicate c 0) 0 n 0
+pub zeros : (w : List ℕ) (n c : ℕ) → n + n ≤ c → 0 < n → Indexed w (replicate c 0) 0 n 0
 zeros w n c e h = indexed-none (simp length-replicate (omega arith)) h (λ p l. get_or-replicate c (0 + p) 0 0 (omega arith))

@@ -1,6 +1,6 @@
 // A given node with an earlier one's words. The lent index must stay as it is where one is found, so the search has an index
 // of its own: a small one for few nodes, else one for as many as a store can have.
-ghost use Rattle.std.specs.Prelude.{◌≡◌, ℕ, ◌≤◌, min, length};
+ghost use Rattle.std.specs.Prelude.{◌≡◌, ◌/◌, ◌^◌, ◌<◌, ◌≤◌, min};
 ghost use Rattle.checks.specs.Checked.{place_of};
 ghost use Rattle.meaning.specs.Shared.{twin};
 ghost use Rattle.index.specs.Chains.{Indexed};
@@ -25,24 +25,18 @@ fn twin_by(store: &[u32], index: &mut [u32], n: u32, mark: u32) -> Option<u32>
     None
 }
 
-fn twin_of_few(store: &[u32], mark: u32) -> Option<u32>
-    requires { mark ≤ 512 }
-    ensures { place_of result ≡ twin store.now mark }
+// The same by an index of this many words, which holds half as many nodes. It calls itself where there are more: a function that does is
+// not drawn into its caller, whose frame would hold the index for the whole run.
+fn twin_within<const WORDS: usize>(store: &[u32], mark: u32) -> Option<u32>
+    requires { (2 ≤ WORDS) × (WORDS < 2 ^ 32) }
+    ensures { place_of result ≡ twin store.now (min mark (WORDS / 2)) }
 {
-    let mut index = [0u32; 1024];
-    twin_by(store, &mut index, 512, mark)
-}
-
-// At most 131,072 nodes, which is as many as a store can have. It calls itself where there are more: a function that does is not
-// drawn into its caller, whose frame would hold the index for the whole run.
-fn twin_of_many(store: &[u32], mark: u32) -> Option<u32>
-    ensures { place_of result ≡ twin store.now (min mark 131072) }
-{
-    if 131072 < mark {
-        return twin_of_many(store, 131072);
+    let n = (WORDS / 2) as u32;
+    if n < mark {
+        return twin_within::<WORDS>(store, n);
     }
-    let mut index = [0u32; 262144];
-    twin_by(store, &mut index, 131072, mark)
+    let mut index = [0u32; WORDS];
+    twin_by(store, &mut index, n, mark)
 }
 
 // The lowest node below the mark with an earlier one's words.
@@ -51,8 +45,8 @@ pub fn first_twin(store: &[u32], mark: u32) -> Option<u32>
     ensures { place_of result ≡ twin store.now mark }
 {
     if mark <= 512 {
-        twin_of_few(store, mark)
+        twin_within::<1024>(store, mark)
     } else {
-        twin_of_many(store, mark)
+        twin_within::<262144>(store, mark)
     }
 }
