@@ -24,9 +24,8 @@ fn answer_text(rt: &(impl Print + Eprint), text: &[u8]) -> io::Result<()> {
 
 fn main(rt: HostRuntime) -> io::Result<()> {
     let mut text = [0u8; 65536];
-    let n = read_text(&mut rt.reader(), &mut text);
-    if 65536 < n {
+    let Ok(n) = read_text(&mut rt.reader(), &mut text) else {
         return rt.eprintln("run_job: standard input cannot be read");
-    }
+    };
     answer_text(&rt, &text[..n])
 }

@@ -31,10 +31,9 @@ fn answer_text(rt: &(impl Print + Eprint), text: &[u8]) -> io::Result<()> {
 
 fn main(rt: HostRuntime) -> io::Result<()> {
     let mut text = [0u8; 60001];
-    let n = read_text(&mut rt.reader(), &mut text);
-    if 60001 < n {
+    let Ok(n) = read_text(&mut rt.reader(), &mut text) else {
         return rt.eprintln("run_rules: standard input cannot be read");
-    }
+    };
     if 60000 < n {
         return rt.eprintln("run_rules: the text has more than 60,000 bytes");
     }

@@ -18,11 +18,11 @@ use Rattle.meaning.specs.Answer.{Returned, returned, returned_by}
 use Rattle.meaning.proofs.Demands.{over-the-words}
 use Rattle.calls.specs.Refused.{refused}
 use Rattle.calls.specs.Run.{at_return, refusing, run_with_by, run_of}
-use Rattle.calls.specs.declared.Outcome.{Outcome as Five}
+use Rattle.calls.specs.Outcome.{Outcome as Five}
 use Rattle.calls.proofs.Accepting.{accepted-answer}
-use Rattle.job.specs.declared.Heading.{Heading}
-use Rattle.job.specs.declared.Parsed.{Parsed}
-use Rattle.job.specs.declared.Parsed.TheVariants as told
+use Rattle.job.specs.Job.{Heading}
+use Rattle.job.specs.Job.{Parsed}
+use Rattle.job.specs.Job as told
 use Rattle.job.specs.Job.{Reading, Meant, bad, good, meant}
 use Rattle.text.specs.Written.{put_text, Put}
 use Rattle.job.specs.Answer.{shown, answered}

@@ -28,7 +28,7 @@ use Rattle.meaning.proofs.Words.{kept-filled}
 use Rattle.meaning.proofs.Demands.{over-the-words}
 use Rattle.calls.specs.Refused.{refused}
 use Rattle.calls.specs.Run.{run_with_by, run_of}
-use Rattle.calls.specs.declared.Outcome.{Outcome as Five}
+use Rattle.calls.specs.Outcome.{Outcome as Five}
 use Rattle.calls.proofs.Accepting.{accepted-answer, accepted-back}
 use Rattle.calls.proofs.Words.{length-words, word-of}
 use Rattle.calls.specs.Promises.{Refusal, of-sizes, of_entry, of_node, of-start}

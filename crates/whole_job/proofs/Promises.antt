@@ -18,7 +18,7 @@ use Rattle.calls.specs.Refused.{sizes_fit_by, or_else, words_refused_by, refused
 use Rattle.meaning.specs.Store.{Input}
 use Rattle.meaning.specs.Answer.{Returned}
 use Rattle.calls.specs.Run.{run_with_by}
-use Rattle.job.specs.declared.Heading.{Heading}
+use Rattle.job.specs.Job.{Heading}
 use Rattle.job.specs.Lines.{Line, words}
 use Rattle.job.specs.Job.{Reading, headed, with, Meant, bad, good, meant}
 use Rattle.job.specs.Written.{written, Follow, end, next}

@@ -11,7 +11,7 @@ use Rattle.checks.specs.Kinds.{variables}
 use Rattle.std.specs.Prelude.{if◌then◌else◌}
 use Rattle.words.proofs.Tests.{and-true}
 use Rattle.words.proofs.Rows.{length-put_row}
-use Rattle.job.specs.declared.Heading.{Heading}
+use Rattle.job.specs.Job.{Heading}
 use Rattle.job.specs.Lines.{Line, job_fits, fits, entry_row, node_row, words, upper}
 use Rattle.job.specs.Job.{Reading, unread, zeros, admitted, headed, table_with, store_with, bindings_with, with, taken, good, meant}
 use Rattle.job.specs.Written.{Follow, end, next}
