@@ -15,46 +15,55 @@ pub fn has(store: &[u32], k: u32, r: [u32; 8]) -> bool
     (0..8).all(|j| word(store, k, j) == r[j as usize])
 }
 
-// The node below m with these words, in an index of the nodes below `top`. A node from m on is passed over.
-pub(crate) fn find(
-    store: &[u32],
-    index: &[u32],
-    at: usize,
-    n: u32,
-    m: u32,
-    top: u32,
-    r: [u32; 8],
-) -> Option<u32>
-    requires { Indexed store.now index.now at n top × (m ≤ top) }
-    ensures { place_of result ≡ node_with store.now r m }
-{
-    let p = home_of(n, r);
-    let nexts = at + (n as usize);
-    let mut x = index[at + p];
-    while x != 0 {
-        let k = x - 1;
-        if k < m && has(store, k, r) {
-            return Some(k);
+// Where an index lies in a slice: n heads from place `at` on, and then n nexts.
+#[derive(Clone, Copy)]
+pub(crate) struct Layout {
+    pub(crate) at: usize,
+    pub(crate) n: u32,
+}
+
+impl Layout {
+    // The node below m with these words, in an index of the nodes below `top`. A node from m on is passed over.
+    pub(crate) fn find(
+        self,
+        store: &[u32],
+        index: &[u32],
+        m: u32,
+        top: u32,
+        r: [u32; 8],
+    ) -> Option<u32>
+        requires { Indexed store.now index.now self.at self.n top × (m ≤ top) }
+        ensures { place_of result ≡ node_with store.now r m }
+    {
+        let nexts = self.at + (self.n as usize);
+        let mut x = index[self.at + home_of(self.n, r)];
+        while x != 0 {
+            let k = x - 1;
+            if k < m && has(store, k, r) {
+                return Some(k);
+            }
+            x = index[nexts + (k as usize)];
         }
-        x = index[nexts + (k as usize)];
+        None
     }
-    None
-}
 
-// Node k put first into the chain at p.
-pub(crate) fn link(index: &mut [u32], at: usize, n: u32, p: usize, k: u32)
-    requires { (at + n + n ≤ length index.old) × (p < n) × (k < n) }
-    ensures { index.new ≡ linked index.old at n p k }
-{
-    let old = index[at + p];
-    index[at + (n as usize) + (k as usize)] = old;
-    index[at + p] = k + 1;
-}
+    // Node k, whose words are r, put first into its chain.
+    pub(crate) fn link(self, index: &mut [u32], r: [u32; 8], k: u32)
+        requires { (self.at + self.n + self.n ≤ length index.old) × (k < self.n) }
+        ensures { index.new ≡ linked index.old self.at self.n (home self.n r) k }
+    {
+        let p = home_of(self.n, r);
+        let old = index[self.at + p];
+        index[self.at + (self.n as usize) + (k as usize)] = old;
+        index[self.at + p] = k + 1;
+    }
 
-// Node k, the first of the chain at p, taken out of it.
-pub(crate) fn unlink(index: &mut [u32], at: usize, n: u32, p: usize, k: u32)
-    requires { (at + n + n ≤ length index.old) × (p < n) × (k < n) }
-    ensures { index.new ≡ unlinked index.old at n p k }
-{
-    index[at + p] = index[at + (n as usize) + (k as usize)];
+    // Node k, whose words are r, the first of its chain, taken out of it.
+    pub(crate) fn unlink(self, index: &mut [u32], r: [u32; 8], k: u32)
+        requires { (self.at + self.n + self.n ≤ length index.old) × (k < self.n) }
+        ensures { index.new ≡ unlinked index.old self.at self.n (home self.n r) k }
+    {
+        let p = home_of(self.n, r);
+        index[self.at + p] = index[self.at + (self.n as usize) + (k as usize)];
+    }
 }

@@ -9,7 +9,8 @@ fn times(x: u32, c: u32) -> u64
     (x as u64) * (c as u64)
 }
 
-pub(crate) fn key(r: [u32; 8]) -> u64
+// The mixing of the eight words.
+fn key(r: [u32; 8]) -> u64
     ensures { result ≡ mixed r }
 {
     let a = times(r[0], 2654435769).wrapping_add(times(r[1], 2246822519));
@@ -22,7 +23,8 @@ pub(crate) fn key(r: [u32; 8]) -> u64
 // The place of these words among n.
 pub(crate) fn home_of(n: u32, r: [u32; 8]) -> usize
     requires { 0 < n }
-    ensures { result ≡ home n r }
+    ensures is { result ≡ home n r }
+    ensures below { result < n }
 {
     let x = key(r) % 4294967296;
     (x * (n as u64) / 4294967296) as usize

@@ -5,8 +5,7 @@ ghost use Rattle.words.specs.Words.{cleared_from};
 ghost use Rattle.meaning.specs.Shared.{node_with, full_for, number_for};
 ghost use Rattle.index.specs.Lent.{Held, built, forgotten, made, Asked};
 
-use crate::chains::{find, link, unlink};
-use crate::key::home_of;
+use crate::chains::Layout;
 use words::{put_row, row};
 
 // The nodes below the mark put in, from the first to the last, into an index that is zero.
@@ -14,10 +13,13 @@ pub fn build(lent: &mut [u32], n: u32, mark: u32)
     requires { Held lent.old n 0 × (mark ≤ n) }
     ensures { (lent.new ≡ built n 0 mark lent.old) × Held lent.new n mark }
 {
-    let at = 8 * (n as usize);
+    let layout = Layout {
+        at: 8 * (n as usize),
+        n,
+    };
     for k in 0..mark {
-        let p = home_of(n, row(lent, k));
-        link(lent, at, n, p, k);
+        let r = row(lent, k);
+        layout.link(lent, r, k);
     }
 }
 
@@ -26,10 +28,13 @@ fn forget(lent: &mut [u32], n: u32, mark: u32, top: u32)
     requires { Held lent.old n top × (mark ≤ top) }
     ensures { (lent.new ≡ forgotten n mark (top - mark) lent.old) × Held lent.new n mark }
 {
-    let at = 8 * (n as usize);
+    let layout = Layout {
+        at: 8 * (n as usize),
+        n,
+    };
     for k in (mark..top).rev() {
-        let p = home_of(n, row(lent, k));
-        unlink(lent, at, n, p, k);
+        let r = row(lent, k);
+        layout.unlink(lent, r, k);
     }
 }
 
@@ -46,8 +51,11 @@ pub fn ask(lent: &mut [u32], n: u32, mark: u32, top: u32, r: [u32; 8]) -> Node
     requires { Held lent.old n top × (mark ≤ top) }
     ensures { Asked n mark top r lent.old result lent.new }
 {
-    let at = 8 * (n as usize);
-    match find(lent, lent, at, n, mark, top, r) {
+    let layout = Layout {
+        at: 8 * (n as usize),
+        n,
+    };
+    match layout.find(lent, lent, mark, top, r) {
         Some(k) => Node::Stands(k),
         None => {
             if n <= mark {
@@ -55,8 +63,7 @@ pub fn ask(lent: &mut [u32], n: u32, mark: u32, top: u32, r: [u32; 8]) -> Node
             }
             forget(lent, n, mark, top);
             put_row(lent, mark, r);
-            let p = home_of(n, r);
-            link(lent, at, n, p, mark);
+            layout.link(lent, r, mark);
             Node::Made(mark)
         }
     }

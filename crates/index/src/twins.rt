@@ -5,8 +5,7 @@ ghost use Rattle.checks.specs.Checked.{place_of};
 ghost use Rattle.meaning.specs.Shared.{twin};
 ghost use Rattle.index.specs.Chains.{Indexed};
 
-use crate::chains::{find, link};
-use crate::key::home_of;
+use crate::chains::Layout;
 use words::row;
 
 // The lowest node below the mark with an earlier one's words, by an index that is empty.
@@ -14,13 +13,13 @@ fn twin_by(store: &[u32], index: &mut [u32], n: u32, mark: u32) -> Option<u32>
     requires { Indexed store.now index.old 0 n 0 × (mark ≤ n) }
     ensures { place_of result ≡ twin store.now mark }
 {
+    let layout = Layout { at: 0, n };
     for k in 0..mark {
         let r = row(store, k);
-        if find(store, index, 0, n, k, k, r).is_some() {
+        if layout.find(store, index, k, k, r).is_some() {
             return Some(k);
         }
-        let p = home_of(n, r);
-        link(index, 0, n, p, k);
+        layout.link(index, r, k);
     }
     None
 }

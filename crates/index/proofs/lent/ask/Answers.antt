@@ -1,7 +1,7 @@
 -- `lent::ask` meets its contract, way by way: the node stands, there is no room, a new one is made. Assumes nothing.
-use Rattle.std.proofs.Common.{◌≡◌, ◌+◌, ◌*◌, ◌≤◌, length, sym, ap, ◌∙◌, subst, rules}
+use Rattle.std.proofs.Common.{◌≡◌, ◌+◌, ◌*◌, ◌≤◌, length, sym, refl, ap, ◌∙◌, subst, rules}
 use Rattle.checks.specs.Checked.{place_of}
-use Rattle.index.proofs.Keying.{place-below}
+use Rattle.index.specs.Key.{home}
 use Rattle.index.proofs.Lending.{asked-stands, asked-full, asked-made, made-long}
 use Rattle.index.proofs.lent.ask.Goals as goal
 
@@ -25,7 +25,6 @@ link-requires c =
           c.forget.new.lent
           c.forget.ensures.0
           c.forget.ensures.1),
-      place-below c.args.n c.args.r c.home_of-p.ensures c.forget.ensures.1.some,
       c.if-n-mark.false,
     )
 
@@ -43,5 +42,5 @@ returns-else-n-mark c =
     asked-made c.args.n c.args.mark c.args.top c.args.r c.args.lent.now
     (sym (ap place_of c.in-None.is) ∙ c.find.ensures) c.if-n-mark.false eight
     c.forget.new.lent c.forget.ensures.0 c.forget.ensures.1
-    c.put_row.new.words c.link.new.index c.home_of-p.result
-    c.put_row.ensures c.home_of-p.ensures c.link.ensures
+    c.put_row.new.words c.link.new.index (home c.args.n c.args.r)
+    c.put_row.ensures refl c.link.ensures

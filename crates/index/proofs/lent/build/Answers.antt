@@ -1,33 +1,20 @@
 use Rattle.std.proofs.Common.{◌≡◌, ◌+◌, ◌-◌, length, sym, refl, ap, ◌∙◌, subst, add-one, arith}
 use Rattle.index.specs.Lent.{Held, joined, built}
-use Rattle.index.proofs.Keying.{place-below}
+use Rattle.index.specs.Key.{home}
 use Rattle.index.proofs.Lending.{held-joined, length-joined, joined-so, built-step}
 use Rattle.index.proofs.lent.build.Goals as goal
-
-pub overflow_mul-at : goal.overflow_mul-at
-overflow_mul-at c = omega (arith, c.requires.0.long)
 
 pub loop-k-init : goal.loop-k-init
 loop-k-init c = (refl, c.requires.0, ap (λ d. built c.args.n 0 d c.args.lent.now) (omega arith))
 
-pub home_of-p-requires : goal.home_of-p-requires
-home_of-p-requires c = c.loop-k.invariant.1.some
-
 pub link-requires : goal.link-requires
-link-requires c = (
-  c.loop-k.invariant.1.long,
-  place-below
-      c.args.n c.row.result
-      c.home_of-p.ensures c.loop-k.invariant.1.some,
-  omega
-      (arith, c.loop-k-test.true, c.requires.1),
-)
+link-requires c = (c.loop-k.invariant.1.long, omega (arith, c.loop-k-test.true, c.requires.1))
 
 pub loop-k-preserved : goal.loop-k-preserved
 loop-k-preserved c =
     let e : c.link.new.index ≡ joined c.args.n c.loop-k.k c.loop-k.lent = joined-so c.args.n
-    c.loop-k.lent c.loop-k.k c.row.result c.home_of-p.result
-    c.link.ensures c.home_of-p.ensures c.row.ensures in
+    c.loop-k.lent c.loop-k.k c.row-r.result (home c.args.n c.row-r.result)
+    c.link.ensures refl c.row-r.ensures in
     let h = held-joined c.args.n
     c.loop-k.lent
     c.loop-k.k

@@ -1,27 +1,14 @@
 use Rattle.std.proofs.Common.{◌≡◌, suc, ◌-◌, length, sym, refl, ap, ◌∙◌, subst, arith}
 use Rattle.index.specs.Lent.{Held, parted, forgotten}
-use Rattle.index.proofs.Keying.{place-below}
+use Rattle.index.specs.Key.{home}
 use Rattle.index.proofs.Lending.{held-parted, length-parted, parted-so, forgotten-step}
 use Rattle.index.proofs.lent.forget.Goals as goal
-
-pub overflow_mul-at : goal.overflow_mul-at
-overflow_mul-at c = omega (arith, c.requires.0.long)
 
 pub loop-k-init : goal.loop-k-init
 loop-k-init c = (c.requires.1, refl, c.requires.0, refl)
 
-pub home_of-p-requires : goal.home_of-p-requires
-home_of-p-requires c = c.loop-k.invariant.2.some
-
 pub unlink-requires : goal.unlink-requires
-unlink-requires c = (
-  c.loop-k.invariant.2.long,
-  place-below
-      c.args.n c.row.result
-      c.home_of-p.ensures c.loop-k.invariant.2.some,
-  omega
-      (arith, c.loop-k-test.true, c.loop-k.invariant.2.fits),
-)
+unlink-requires c = (c.loop-k.invariant.2.long, omega (arith, c.loop-k-test.true, c.loop-k.invariant.2.fits))
 
 pub loop-k-preserved : goal.loop-k-preserved
 loop-k-preserved c =
@@ -32,9 +19,9 @@ loop-k-preserved c =
     parted-so c.args.n
     c.loop-k.lent
     (c.loop-k.k - 1)
-    c.row.result c.home_of-p.result
-    c.unlink.ensures c.home_of-p.ensures
-    c.row.ensures in
+    c.row-r.result (home c.args.n c.row-r.result)
+    c.unlink.ensures refl
+    c.row-r.ensures in
     let s : c.loop-k.k
     ≡ suc (c.loop-k.k - 1) =
     omega (arith, c.loop-k-test.true) in

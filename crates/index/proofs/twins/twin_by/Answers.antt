@@ -5,7 +5,6 @@ use Rattle.words.proofs.Tests.{rejected-turn, rejected-stop, rejected-end}
 use Rattle.checks.specs.Checked.{place_of}
 use Rattle.index.specs.Key.{home, place}
 use Rattle.index.specs.Chains.{Indexed, linked}
-use Rattle.index.proofs.Keying.{place-below}
 use Rattle.index.proofs.Chaining.{indexed-linked, length-linked}
 use Rattle.index.proofs.Twinning.{absent-some, fresh-by}
 use Rattle.index.proofs.twins.twin_by.Goals as goal
@@ -23,22 +22,8 @@ returns-then-is_some c =
     c.find.result false c.find.ensures c.row-r.ensures
     (absent-some c.find.result ∙ ap not (sym c.is_some.ensures ∙ c.if-is_some.true)))
 
-pub home_of-p-requires : goal.home_of-p-requires
-home_of-p-requires c = c.loop-k.invariant.1.some
-
 pub link-requires : goal.link-requires
-link-requires c = (
-  c.loop-k.invariant.1.long,
-  place-below
-      c.args.n
-      c.row-r.result c.home_of-p.ensures
-      c.loop-k.invariant.1.some,
-  omega (
-    arith,
-    c.loop-k-test.true,
-    c.requires.1,
-  ),
-)
+link-requires c = (c.loop-k.invariant.1.long, omega (arith, c.loop-k-test.true, c.requires.1))
 
 pub loop-k-preserved : goal.loop-k-preserved
 loop-k-preserved c =
@@ -47,8 +32,7 @@ loop-k-preserved c =
     c.loop-k.index 0
     c.args.n q
     c.loop-k.k)
-    (c.home_of-p.ensures
-    ∙ ap (home c.args.n) c.row-r.ensures) in
+    (ap (home c.args.n) c.row-r.ensures) in
     let h = indexed-linked c.loop-k.invariant.1
     (omega (
       arith,

@@ -1,49 +1,18 @@
 use Rattle.std.proofs.Common.{◌+◌, get_or, sym, ◌∙◌, subst, arith}
-use Rattle.index.proofs.Keying.{home_below, above_zero}
+use Rattle.index.proofs.Keying.{above_zero}
 use Rattle.index.proofs.Chaining.{Follows, follows-head, follows-less, follows-past, follows_next, follows-found, follows-end}
-use Rattle.index.proofs.chains.find.Goals as goal
-use Rattle.index.proofs.chains.find.Goals.{else-k-m-via-else-k-m, else-k-m-via-then-k-m+else-has}
+use Rattle.index.proofs.chains.Layout.find.Goals as goal
+use Rattle.index.proofs.chains.Layout.find.Goals.{else-k-m-via-else-k-m, else-k-m-via-then-k-m+else-has}
 
 pub overflow_add-nexts : goal.overflow_add-nexts
 overflow_add-nexts c = omega (arith, c.requires.0.long)
 
-pub overflow_add-x : goal.overflow_add-x
-overflow_add-x c =
-    omega (
-      arith,
-      c.requires.0.long,
-      c.home_of-p.ensures,
-      home_below c.args.n
-          c.args.r c.requires.0.some,
-    )
-
-pub offset_bounds-index-at : goal.offset_bounds-index-at
-offset_bounds-index-at c =
-    omega (
-      arith,
-      c.requires.0.long,
-      c.home_of-p.ensures,
-      home_below c.args.n
-          c.args.r c.requires.0.some,
-    )
-
-pub bounds-index-at : goal.bounds-index-at
-bounds-index-at c =
-    omega (
-      arith,
-      c.requires.0.long,
-      c.home_of-p.ensures,
-      home_below
-          c.args.n c.args.r
-          c.requires.0.some,
-    )
-
 pub loop-x-init : goal.loop-x-init
 loop-x-init c =
     subst (λ p. Follows c.args.store.now c.args.r
-    c.args.n c.args.m
+    c.args.self.n c.args.m
     c.args.top (get_or c.args.index.now
-    (c.args.at + p) 0)) (sym c.home_of-p.ensures)
+    (c.args.self.at + p) 0)) (sym c.home_of.ensures.is)
     (follows-head c.requires.0 c.args.r c.args.m c.requires.1)
 
 pub overflow_sub-k : goal.overflow_sub-k
