@@ -17,10 +17,11 @@ use Rattle.text.proofs.Decimal.{number-decimal}
 use Rattle.rules.specs.Rule.{Pat, Pats, var, con, none as no-pats, more as more-pats, count, variables, variables_all, member}
 use Rattle.rules.specs.Text.{Fields, pat_fields, pats_fields, Plain, plain-var, plain-con, Plains, plain_more}
 use Rattle.rules.specs.Text.{Head, variable, constructor, neither, head_of}
+use Rattle.std.specs.Prelude.{if◌then◌else◌}
 use Rattle.rules.specs.Scan.{width, fields_from}
+use Rattle.rules.specs.Walk.{begun}
 use Rattle.check_rules.specs.Bound.{window, marked_by, marks_from}
 use Rattle.rules.proofs.Reading.{head-variable, head-constructor}
-use Rattle.rules.proofs.Scanning.{fields-here, field-length, fields-past}
 
 -- ---- one variable's bit
 
@@ -133,24 +134,27 @@ module _ (base j : ℕ) (k : j < window) where
   term-marks l i to p rest h t z =
       rw (t, z) (marks-has (pat_fields p) rest i 0 ∙ ap (λ (x : Bool). x || member (base + j) (variables_in (pat_fields p))) (has-nothing j) ∙ ap (member (base + j)) (in-pat p h))
 
-module _ (base : ℕ) (l : List ℕ) (at to m : ℕ) where
-  -- Nothing is left of the line, or nothing before the place.
-  pub marks-past : length l < at → m ≡ marks_from base (fields_from l at) at to m
-  unfolding marks_from
-  marks-past h = rw (fields-past l at h)
+-- The mask after fields, one after the other.
+unfoldable pub marks_all : ℕ → Fields → ℕ → ℕ
+marks_all base [] m = m
+marks_all base (f ∷ fs) m = marks_all base fs (marked_by base m (head_of f))
 
-  pub marks-end : to ≤ at → m ≡ marks_from base (fields_from l at) at to m
-  unfolding marks_from
-  marks-end h = go (fields_from l at)
-    where
-      go : (fs : Fields) → m ≡ marks_from base fs at to m
-      go [] = refl
-      go (f ∷ fs) = rw (le-ltb at to h)
+pub marks-begun : (base : ℕ) (fs : Fields) (at to m : ℕ) → marks_all base (begun fs at to) m ≡ marks_from base fs at to m
+unfolding marks_from begun marks_all
+marks-begun base [] at to m = refl
+marks-begun base (f ∷ fs) at to m = go (ltb at to) (marks-begun base fs (at + length f + 1) to (marked_by base m (head_of f)))
+  where
+    rest : Fields
+    rest = begun fs (at + length f + 1) to
 
-  -- One field more.
-  pub marks-on : (e : ℕ) (h : at ≤ length l) (found : e ≡ at + length (up_to 9 (drop at l))) → at < to
-      → marks_from base (fields_from l (e + 1)) (e + 1) to (marked_by base m (head_of (take (e - at) (drop at l)))) ≡ marks_from base (fields_from l at) at to m
-  unfolding marks_from
-  marks-on e h found k =
-      sym (rw (fields-here l at e h found, lt-ltb at to k)
-      (ap (λ (i : ℕ). marks_from base (fields_from l (e + 1)) i to (marked_by base m (head_of (take (e - at) (drop at l))))) (field-length l at e h found)))
+    go : (q : Bool) → marks_all base rest (marked_by base m (head_of f)) ≡ marks_from base fs (at + length f + 1) to (marked_by base m (head_of f)) → marks_all base (if q then f ∷ begun fs (at + length f + 1) to else []) m ≡ (if q then marks_from base fs (at + length f + 1) to (marked_by base m (head_of f)) else m)
+    go true e = e
+    go false e = refl
+
+pub marks-first : (base : ℕ) (f : List ℕ) (fs : Fields) (m : ℕ) → marks_all base (f ∷ fs) m ≡ marks_all base fs (marked_by base m (head_of f))
+unfolding marks_all
+marks-first base f fs m = refl
+
+pub marks-none : (base m : ℕ) → marks_all base [] m ≡ m
+unfolding marks_all
+marks-none base m = refl

@@ -21,8 +21,7 @@ use Rattle.rules.specs.Condition.{Found}
 use Rattle.check_rules.specs.Line.{Line}
 use Rattle.rules.specs.Shape.{Shape}
 use Rattle.rules.proofs.Scanning.{fields-past}
-use Rattle.rules.proofs.Texts.{rule-wrote}
-use Rattle.rules.proofs.Shaping.{whole-line}
+use Rattle.check_rules.proofs.Lines.{good-rule}
 use Rattle.check_rules.proofs.Early.{First, first_of, no-conditions, its-rule, conditions-text, conditions-inside}
 
 -- The rest of the conditions decides.
@@ -121,29 +120,15 @@ line_made : (f : ℕ → Bool) (q : Rule) (s : Shape) (x : ReadRule) (answer : �
 line_made f q s x answer i e z = rw (i, e, z)
 
 module _ (l : List ℕ) (s : Shape) (e : s ≡ shape_of (rule_of l)) where
-  good-rule : s.good ≡ true → (q : Rule) × (rule_of l ≡ rule q)
-  good-rule g = go (rule_of l) refl
-    where
-      go : (x : ReadRule) → rule_of l ≡ x → (q : Rule) × (rule_of l ≡ rule q)
-      go (rule q) z = (q, z)
-      go (bad_field n) z = impossible (let y : true ≡ false = sym g ∙ ap (λ (x : Shape). x.good) (e ∙ ap shape_of z) in cc)
-
   module _ (g : s.good ≡ true) where
     abbrev q : Rule
-    q = (good-rule g).0
+    q = (good-rule l s e g).0
 
     is : rule_of l ≡ rule q
-    is = (good-rule g).1
+    is = (good-rule l s e g).1
 
     shape_is : s ≡ shape_of (rule q)
     shape_is = e ∙ ap shape_of is
-
-    -- A line whose shape is good is a rule's.
-    pub rule-line : RuleLine l s.right s.conditions
-    unfolding rule_of
-    rule-line =
-        let w = rule-wrote (parts 9 l) (read (parts 9 l) 2) q refl is in
-        record { its = q; plain = w.1; text = whole-line l ∙ w.0; right-at = ap (λ (x : Shape). x.right) shape_is; conditions-at = ap (λ (x : Shape). x.conditions) shape_is }
 
     module _ (f : ℕ → Bool) (v : ℕ) (variables : answers_variables (rule_of l) v) where
       its-variables : v ≡ variables_answer q

@@ -1,4 +1,5 @@
 -- In the order in which they stand on each other.
+pub mod Lines
 pub mod Binding
 pub mod Early
 pub mod Judging

@@ -5,14 +5,16 @@ use mathlib.Core.Bool.{Bool, true, false, not, ◌&&◌, ◌||◌}
 use mathlib.Core.List.{List, [], ◌∷◌, ◌++◌}
 use Prim.Native.Nat.{ℕ, zero, suc, ◌+◌, ◌-◌, ◌≤◌, ◌<◌}
 use native.Mathlib.Omega.{arith}
-use lib.Dec.{eqb}
+use lib.Dec.{eqb, ltb}
 use lib.ListN.{length, take, drop, get_or, replicate}
 use borrow.Author.Tests.{lt-ltb, le-ltb, eqb-true, eq-eqb}
 use Rattle.meaning.proofs.Tests.{impossible, decided}
 use Rattle.text.specs.Text.{up_to}
 use Rattle.rules.specs.Rule.{Pat, Condition, Rule, variables, member}
 use Rattle.rules.specs.Text.{Fields, pat_fields, conditions_fields, rule_fields, Plain, PlainConditions, Head, variable, constructor, neither, head_of, rule, rule_of}
+use Rattle.std.specs.Prelude.{if◌then◌else◌}
 use Rattle.rules.specs.Scan.{width, fields_from}
+use Rattle.rules.specs.Walk.{begun}
 use Rattle.rules.specs.Condition.{start_at, outcome_at, after_it, ConditionAt}
 use Rattle.check_rules.specs.Bound.{late_from, late, RuleLine, Late, LateIn}
 use Rattle.check_rules.specs.Bound as bounded
@@ -20,8 +22,8 @@ use Rattle.variable_tree.specs.Tree.{KeyOf, KeepsOr, KeepsOrOf}
 use Rattle.check_rules.specs.Far.{is_variable, occurs_from, Early, EarlyIn, Settles, SettlesIn}
 use Rattle.check_rules.specs.Far as far
 use Rattle.rules.specs.Condition.{Found}
-use Rattle.check_rules.specs.declared.far.Settled.{Settled}
-use Rattle.rules.proofs.Scanning.{fields-here, field-length, fields-past}
+use Rattle.check_rules.specs.Far.{Settled}
+use Rattle.rules.proofs.Scanning.{fields-past}
 use Rattle.check_rules.proofs.Binding.{head_variables, variables_in, in-pat, member-append, or-false}
 use Rattle.check_rules.proofs.Early.{First, first_of, late-step, late-last, no-conditions, its-rule, right-text, right_end, conditions-text, conditions-inside}
 
@@ -47,27 +49,31 @@ module _ (v : ℕ) where
       → occurs_from v (fields_from l i) i to ≡ member v (variables p)
   term-occurs l i to p rest h t z = rw (t, z) (occurs-has (pat_fields p) rest i ∙ ap (member v) (in-pat p h))
 
-  module _ (l : List ℕ) (at to : ℕ) where
-    -- Nothing is left of the line, or nothing before the place.
-    pub occurs-past : length l < at → occurs_from v (fields_from l at) at to ≡ false
-    unfolding occurs_from
-    occurs-past h = rw (fields-past l at h)
+-- v is one of the fields.
+unfoldable pub occurs : ℕ → Fields → Bool
+occurs v [] = false
+occurs v (f ∷ fs) = is_variable v (head_of f) || occurs v fs
 
-    pub occurs-end : to ≤ at → occurs_from v (fields_from l at) at to ≡ false
-    unfolding occurs_from
-    occurs-end h = go (fields_from l at)
-      where
-        go : (fs : Fields) → occurs_from v fs at to ≡ false
-        go [] = refl
-        go (f ∷ fs) = rw (le-ltb at to h)
+pub occurs-begun : (v : ℕ) (fs : Fields) (at to : ℕ) → occurs v (begun fs at to) ≡ occurs_from v fs at to
+unfolding occurs begun occurs_from
+occurs-begun v [] at to = refl
+occurs-begun v (f ∷ fs) at to = go (ltb at to) (occurs-begun v fs (at + length f + 1) to)
+  where
+    rest : Fields
+    rest = begun fs (at + length f + 1) to
 
-    -- One field more.
-    pub occurs-on : (e : ℕ) (h : at ≤ length l) (found : e ≡ at + length (up_to 9 (drop at l))) → at < to
-        → occurs_from v (fields_from l at) at to ≡ is_variable v (head_of (take (e - at) (drop at l))) || occurs_from v (fields_from l (e + 1)) (e + 1) to
-    unfolding occurs_from
-    occurs-on e h found k =
-        rw (fields-here l at e h found, lt-ltb at to k)
-        (ap (λ (i : ℕ). is_variable v (head_of (take (e - at) (drop at l))) || occurs_from v (fields_from l (e + 1)) i to) (field-length l at e h found))
+    go : (q : Bool) → occurs v rest ≡ occurs_from v fs (at + length f + 1) to
+        → occurs v (if q then f ∷ rest else []) ≡ (if q then is_variable v (head_of f) || occurs_from v fs (at + length f + 1) to else false)
+    go true e = ap (λ (x : Bool). is_variable v (head_of f) || x) e
+    go false e = refl
+
+occurs-first : (v : ℕ) (f : List ℕ) (fs : Fields) → occurs v (f ∷ fs) ≡ is_variable v (head_of f) || occurs v fs
+unfolding occurs
+occurs-first v f fs = refl
+
+occurs-none : (v : ℕ) → occurs v [] ≡ false
+unfolding occurs
+occurs-none v = refl
 
 or_right : (x y : Bool) → y ≡ true → x || y ≡ true
 or_right true y e = refl
@@ -93,28 +99,29 @@ bind-nothing ks h x k = inl k
 pub bind-one : {ks ks' : List ℕ} {h : Head} (v : ℕ) → variable v ≡ h → KeepsOr ks v ks' → KeepsOrOf ks (λ x. is_variable x h) ks'
 bind-one {ks} {ks'} {h} v i a x k = ⊎_elim inl (λ z. inr (subst (λ (y : Head). is_variable x y ≡ true) i (eq-eqb x v z))) (a x k)
 
--- The keys after the fields up to a place; the rest of the fields is of all of them.
-pub record Binding (l : List ℕ) (from to below at left : ℕ) (ks ks' : List ℕ) : Type 0 where
+-- The keys after fields; those that are left are of all of them.
+pub record Binding (all fs : Fields) (below left : ℕ) (ks ks' : List ℕ) : Type 0 where
   pub less : left ≤ below
-  pub keys : KeepsOrOf ks (λ v. occurs_from v (fields_from l from) from to) ks'
-  pub rest : (v : ℕ) → occurs_from v (fields_from l at) at to ≡ true → occurs_from v (fields_from l from) from to ≡ true
+  pub keys : KeepsOrOf ks (λ v. occurs v all) ks'
+  pub rest : (v : ℕ) → occurs v fs ≡ true → occurs v all ≡ true
 
-pub binding-begin : (l : List ℕ) (from to below : ℕ) (ks : List ℕ) → Binding l from to below from below ks ks
-binding-begin l from to below ks = record { less = omega arith; keys = λ x k. inl k; rest = λ v h. h }
+pub binding-begin : {all fs : Fields} → fs ≡ all → (below : ℕ) (ks : List ℕ) → Binding all fs below below ks ks
+binding-begin e below ks = record { less = omega arith; keys = λ x k. inl k; rest = λ v h. ap (occurs v) (sym e) ∙ h }
 
-pub binding-on : {l : List ℕ} {from to below at left : ℕ} {ks ks' : List ℕ} → Binding l from to below at left ks ks' → (e : ℕ) → at ≤ length l
-    → e ≡ at + length (up_to 9 (drop at l)) → at < to → (left' : ℕ) (ks'' : List ℕ) → left' ≤ left
-    → KeepsOrOf ks' (λ v. is_variable v (head_of (take (e - at) (drop at l)))) ks'' → Binding l from to below (e + 1) left' ks ks''
-binding-on {l} {from} {to} {below} {at} {left} {ks} {ks'} b e inside found some left' ks'' less keeps =
+pub binding-on : {all fs fs' : Fields} {f : List ℕ} {below left : ℕ} {ks ks' : List ℕ} → Binding all fs below left ks ks' → fs ≡ f ∷ fs' → (left' : ℕ) (ks'' : List ℕ) → left' ≤ left
+    → KeepsOrOf ks' (λ v. is_variable v (head_of f)) ks'' → Binding all fs' below left' ks ks''
+binding-on {all} {fs} {fs'} {f} b e left' ks'' less keeps =
     record {
       less = omega (arith, b.less);
       keys = λ x k.
           ⊎_elim (b.keys x)
-          (λ h. inr (b.rest x (occurs-on x l at to e inside found some ∙ or_left (is_variable x (head_of (take (e - at) (drop at l)))) (occurs_from x (fields_from l (e + 1)) (e + 1) to) h)))
+          (λ h. inr (b.rest x (ap (occurs x) e ∙ occurs-first x f fs' ∙ or_left (is_variable x (head_of f)) (occurs x fs') h)))
           (keeps x k);
-      rest = λ v h.
-          b.rest v (occurs-on v l at to e inside found some ∙ or_right (is_variable v (head_of (take (e - at) (drop at l)))) (occurs_from v (fields_from l (e + 1)) (e + 1) to) h);
+      rest = λ v h. b.rest v (ap (occurs v) e ∙ occurs-first v f fs' ∙ or_right (is_variable v (head_of f)) (occurs v fs') h);
     }
+
+pub binding-end : {fs : Fields} {below left : ℕ} {ks ks' : List ℕ} (gs : Fields) (at to : ℕ) → Binding (begun gs at to) fs below left ks ks' → KeepsOrOf ks (λ v. occurs_from v gs at to) ks'
+binding-end gs at to b x k = ⊎_elim inl (λ h. inr (sym (occurs-begun x gs at to) ∙ h)) (b.keys x k)
 
 -- ---- variables that are used, field by field
 
@@ -152,53 +159,44 @@ constructor-none e v = ap (is_variable v) (sym e)
 pub neither-none : {x : Head} → neither ≡ x → (v : ℕ) → is_variable v x ≡ false
 neither-none e v = ap (is_variable v) (sym e)
 
--- The fields up to a place are done: a variable of all the fields is fine, or it is one of the rest.
-pub record Using (l : List ℕ) (low below : ℕ) (ks : List ℕ) (from to at : ℕ) : Type 0 where
+-- Some fields are done: a variable of all the fields is fine, or it is one of those that are left.
+pub record Using (l : List ℕ) (low below : ℕ) (ks : List ℕ) (all fs : Fields) : Type 0 where
   pub its : Rule
   pub is : rule_of l ≡ rule its
-  pub fine : (v : ℕ) → occurs_from v (fields_from l from) from to ≡ true → low ≤ v → v < below → (KeyOf ks v ⊎ (late v its ≡ false)) ⊎ (occurs_from v (fields_from l at) at to ≡ true)
+  pub fine : (v : ℕ) → occurs v all ≡ true → low ≤ v → v < below → (KeyOf ks v ⊎ (late v its ≡ false)) ⊎ (occurs v fs ≡ true)
 
-pub using-begin : {l : List ℕ} {right conditions : ℕ} → RuleLine l right conditions → (low below : ℕ) (ks : List ℕ) (from to : ℕ) → Using l low below ks from to from
-using-begin h low below ks from to = record { its = h.its; is = its-rule h; fine = λ v o p q. inr o }
+pub using-begin : {l : List ℕ} {right conditions : ℕ} → RuleLine l right conditions → (low below : ℕ) (ks : List ℕ) {all fs : Fields} → fs ≡ all → Using l low below ks all fs
+using-begin h low below ks e = record { its = h.its; is = its-rule h; fine = λ v o p q. inr (ap (occurs v) e ∙ o) }
 
-module _ {l : List ℕ} {low below : ℕ} {ks : List ℕ} {from to at : ℕ} (u : Using l low below ks from to at) where
-  abbrev all : ℕ → Bool
-  all v = occurs_from v (fields_from l from) from to
+module _ {l : List ℕ} {low below : ℕ} {ks : List ℕ} {fs : Fields} (gs : Fields) (at to : ℕ) (u : Using l low below ks (begun gs at to) fs) where
+  abbrev here : ℕ → Bool
+  here v = occurs_from v gs at to
 
   told : {here : ℕ → Bool} {answer : Bool} → Early u.its low below ks here answer → EarlyIn (rule_of l) low below ks here answer
   told e = rw u.is e
 
-  ended : ((v : ℕ) → occurs_from v (fields_from l at) at to ≡ false) → EarlyIn (rule_of l) low below ks all false
-  ended n = told (far.no refl (λ v o p q. ⊎_elim (λ z. z) (λ z. no_true (n v) z) (u.fine v o p q)))
+  pub using-end : fs ≡ [] → EarlyIn (rule_of l) low below ks here false
+  using-end e = told (far.no refl (λ v o p q. ⊎_elim (λ z. z) (λ z. no_true (ap (occurs v) e ∙ occurs-none v) z) (u.fine v (occurs-begun v gs at to ∙ o) p q)))
 
-  pub using-past : length l < at → EarlyIn (rule_of l) low below ks all false
-  using-past k = ended (λ v. occurs-past v l at to k)
-
-  pub using-end : to ≤ at → EarlyIn (rule_of l) low below ks all false
-  using-end k = ended (λ v. occurs-end v l at to k)
-
-  module _ (e : ℕ) (inside : at ≤ length l) (found : e ≡ at + length (up_to 9 (drop at l))) (some : at < to) where
-    abbrev here : ℕ → Bool
-    here v = is_variable v (head_of (take (e - at) (drop at l)))
-
-    pub using-early : (answer : Bool) → EarlyIn (rule_of l) low below ks here answer → answer ≡ true → EarlyIn (rule_of l) low below ks all true
-    using-early answer k t = go (rw u.is at k)
+  module _ {f : List ℕ} {fs' : Fields} (e : fs ≡ f ∷ fs') (answer : Bool) (k : EarlyIn (rule_of l) low below ks (λ v. is_variable v (head_of f)) answer) where
+    pub using-early : answer ≡ true → EarlyIn (rule_of l) low below ks here true
+    using-early t = go (rw u.is at k)
       where
-        go : Early u.its low below ks here answer → EarlyIn (rule_of l) low below ks all true
+        go : Early u.its low below ks (λ v. is_variable v (head_of f)) answer → EarlyIn (rule_of l) low below ks here true
         go (far.one a v m) = told (far.one refl v m)
         go (far.no a m) = no_true a t
 
-    pub using-on : (answer : Bool) → EarlyIn (rule_of l) low below ks here answer → answer ≡ false → Using l low below ks from to (e + 1)
-    using-on answer k f = go (rw u.is at k)
+    pub using-on : answer ≡ false → Using l low below ks (begun gs at to) fs'
+    using-on n = go (rw u.is at k)
       where
-        go : Early u.its low below ks here answer → Using l low below ks from to (e + 1)
-        go (far.one a v m) = no_true f a
+        go : Early u.its low below ks (λ v. is_variable v (head_of f)) answer → Using l low below ks (begun gs at to) fs'
+        go (far.one a v m) = no_true n a
         go (far.no a m) = record {
           its = u.its;
           is = u.is;
           fine = λ v o p q.
               ⊎_elim inl
-              (λ z. ⊎_elim (λ y. inl (m v y p q)) inr (either (here v) (occurs_from v (fields_from l (e + 1)) (e + 1) to) (sym (occurs-on v l at to e inside found some) ∙ z)))
+              (λ z. ⊎_elim (λ y. inl (m v y p q)) inr (either (is_variable v (head_of f)) (occurs v fs') (sym (ap (occurs v) e ∙ occurs-first v f fs') ∙ z)))
               (u.fine v o p q);
         }
 

@@ -10,17 +10,18 @@ use lib.ListN.{length, take, drop}
 use borrow.Author.Tests.{eqb-true, le-ltb, ltb-true, ltb-false, le-leb, leb-true}
 use Rattle.checks.specs.Kinds.{variables as most}
 use Rattle.meaning.proofs.Tests.{impossible, decided}
-use Rattle.text.specs.Text.{up_to}
+use Rattle.std.specs.List.{list_any}
 use Rattle.rules.specs.Rule.{Pat, Pats, Condition, Rule, variables, variables_all, member, conditions_variables, rule_variables}
 use Rattle.rules.specs.Text.{Fields, rule_fields, Plain, plain-var, plain-con, Plains, plain-none, plain_more, PlainConditions, plain_end, plain-next, PlainRule}
 use Rattle.rules.specs.Text.{Head, variable, constructor, neither, head_of, rule, rule_of}
 use Rattle.rules.specs.Scan.{fields_from}
+use Rattle.rules.specs.Walk.{begun}
+use Rattle.rules.proofs.Terms.{begun-whole}
 use Rattle.check_rules.specs.Bound.{late, all_below, variables_answer, RuleLine, Late, LateIn, answers_variables}
 use Rattle.check_rules.specs.Bound as bounded
 use Rattle.check_rules.specs.Far.{numbers, outside_range, any_outside, Settles, SettlesIn, Far, FarIn}
 use Rattle.check_rules.specs.Far as far
-use Rattle.check_rules.specs.declared.far.Settled.{Settled}
-use Rattle.rules.proofs.Scanning.{fields-here, fields-past}
+use Rattle.check_rules.specs.Far.{Settled}
 use Rattle.check_rules.proofs.Binding.{head_variables, variables_in, member-append}
 use Rattle.check_rules.proofs.Early.{its-rule}
 use Rattle.check_rules.proofs.Judging.{late_is, never-late, late-used, below-rule, below-append}
@@ -30,19 +31,14 @@ no_true p q = impossible (let z : true ≡ false = sym q ∙ p in cc)
 
 -- ---- a variable out of range
 
-pub outside-none : (l : List ℕ) (at : ℕ) → length l < at → false ≡ any_outside (fields_from l at)
+pub outside-any : (fs : Fields) → list_any (λ f. outside_range (head_of f)) fs ≡ any_outside fs
 unfolding any_outside
-outside-none l at h = rw (fields-past l at h)
+outside-any [] = refl
+outside-any (f ∷ fs) = ap (λ (x : Bool). outside_range (head_of f) || x) (outside-any fs)
 
--- The first field decides, or the rest does.
-module _ (l : List ℕ) (at e : ℕ) (h : at ≤ length l) (found : e ≡ at + length (up_to 9 (drop at l))) (b : Bool) (is : b ≡ outside_range (head_of (take (e - at) (drop at l)))) where
-  pub outside-first : b ≡ true → true ≡ any_outside (fields_from l at)
-  unfolding any_outside
-  outside-first t = rw (fields-here l at e h found, sym is ∙ t)
-
-  pub outside-rest : b ≡ false → any_outside (fields_from l (e + 1)) ≡ any_outside (fields_from l at)
-  unfolding any_outside
-  outside-rest f = rw (fields-here l at e h found, sym is ∙ f)
+-- The fields of a whole line.
+pub outside_whole : (l : List ℕ) → any_outside (fields_from l 0) ≡ list_any (λ f. outside_range (head_of f)) (begun (fields_from l 0) 0 (length l + 1))
+outside_whole l = ap any_outside (sym (begun-whole l)) ∙ sym (outside-any (begun (fields_from l 0) 0 (length l + 1)))
 
 outside-head : (h : Head) → outside_range h ≡ not (all_below (head_variables h))
 unfolding all_below

@@ -50,6 +50,7 @@ impl LineFault {
 }
 
 // Entry x of those in use is a REC without free variables.
+#[tactic(auto, unfolding(crate::specs::Line::callable))]
 fn callable(table: &[u32], masks: &[u64], used: u32, x: u32) -> bool
     ensures { result ≡ callableBy table.now masks.now used x }
 {

@@ -25,6 +25,7 @@ fn outside(field: &[u8]) -> bool
 }
 
 // Whether a variable of the line is.
+
 fn any_outside(line: &[u8]) -> bool
     ensures { result ≡ any_outside (fields_from line.now 0) }
 {

@@ -19,7 +19,8 @@ use Rattle.rules.specs.Scan.{width, fields_from, scanned, scanned_count, by_head
 use Rattle.rules.specs.Scan.{Term, term_told}
 use Rattle.std.specs.Prelude.{Ok, Err}
 use Rattle.rules.specs.declared.term.Term as held
-use Rattle.rules.proofs.Scanning.{fields-here, field-length, fields-past}
+use Rattle.rules.specs.Walk.{begun}
+use Rattle.rules.proofs.Scanning.{fields-here, field-length, fields-past, begun-on}
 use Rattle.rules.proofs.Told.{same_end, told, Told, told-good, told-bad}
 
 -- ---- the bytes of fields
@@ -219,3 +220,13 @@ module _ (l : List ℕ) (i : ℕ) where
 
     pub err-inside : (n : ℕ) → Err n ≡ term_told (scanned (fields_from l i) 1 i 0 0) → i + n ≤ length l + 1
     err-inside n e = let (a, z, k) = err-found n e in term-inside h k
+
+-- ---- all fields of a line
+
+begun-within : (fs : Fields) (at to : ℕ) → at + width fs ≤ to → begun fs at to ≡ fs
+unfolding width begun
+begun-within [] at to h = refl
+begun-within (f ∷ fs) at to h = begun-on f fs at to (omega arith) ∙ ap (λ (gs : Fields). f ∷ gs) (begun-within fs (at + length f + 1) to (omega arith))
+
+pub begun-whole : (l : List ℕ) → begun (fields_from l 0) 0 (length l + 1) ≡ fields_from l 0
+begun-whole l = begun-within (fields_from l 0) 0 (length l + 1) (width-most l 0 (omega arith))

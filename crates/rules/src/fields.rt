@@ -6,16 +6,17 @@ use text::field::next_at;
 // The fields that begin from a place on, and before another.
 #[derive(Clone, Copy, Drop)]
 pub struct Fields<'a> {
-    pub line: &'a [u8],
-    pub at: usize,
-    pub to: usize,
+    line: &'a [u8],
+    at: usize,
+    to: usize,
 }
 
 impl<'a> Fields<'a> {
+    ghost use Rattle.rules.specs.Scan.{fields_from};
+    ghost use Rattle.rules.specs.Walk.{begun, fields_left};
+
     pub fn between(line: &'a [u8], from: usize, to: usize) -> Fields<'a>
-        ensures line { result.line ≡ line.entry }
-        ensures at { result.at ≡ from }
-        ensures to { result.to ≡ to }
+        ensures { fields_left result ≡ begun (fields_from line.now from) from to }
     {
         Fields { line, at: from, to }
     }

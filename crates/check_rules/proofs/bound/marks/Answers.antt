@@ -1,52 +1,28 @@
-use Rattle.check_rules.proofs.Binding.{marks-past, marks-end, marks-on}
-use Rattle.rules.proofs.Scanning.{end-within}
-use Rattle.check_rules.specs.Bound.{marks_from}
+use mathlib.Core.Path.{ap, sym, ◌∙◌}
+use mathlib.Core.List.{List}
+use Prim.Native.Nat.{ℕ}
+use Rattle.rules.specs.Text.{Fields}
 use Rattle.rules.specs.Scan.{fields_from}
-use native.Mathlib.Omega.{arith}
-use Prim.Native.Nat.{◌+◌}
-use mathlib.Core.Path.{refl, ◌∙◌, ap}
+use Rattle.rules.specs.Walk.{fields_left}
+use Rattle.rules.specs.declared.fields.Fields as walk
+use Rattle.check_rules.proofs.Binding.{marks_all, marks-begun, marks-first, marks-none}
 use Rattle.check_rules.proofs.bound.marks.Goals as goal
 
-pub loop-at-init : goal.loop-at-init
-loop-at-init c =
-    refl
+pub loop-field-init : goal.loop-field-init
+loop-field-init c =
+    ap (λ (s : walk.Fields). marks_all c.args.base (fields_left s) 0) c.into_iter-field-iterator.ensures.into_iter_gives
+    ∙ ap (λ (fs : Fields). marks_all c.args.base fs 0) c.between-field-items.ensures
+    ∙ marks-begun c.args.base (fields_from c.args.line.now c.args.from) c.args.from c.args.to 0
 
-pub returns-then-line-at : goal.returns-then-line-at
-returns-then-line-at c =
-    marks-past c.args.base c.args.line.now c.loop-at.at c.args.to c.loop-at.mask c.if-line-at.true ∙ c.loop-at.invariant
-
-pub slice_bounds-mark-count : goal.slice_bounds-mark-count
-slice_bounds-mark-count c =
-    let w = end-within c.args.line.now c.loop-at.at c.next_at-end.result c.if-line-at.false c.next_at-end.ensures in
-    omega (arith, w.0)
-
-pub slice_bounds-mark-start : goal.slice_bounds-mark-start
-slice_bounds-mark-start c =
-    let w = end-within c.args.line.now c.loop-at.at c.next_at-end.result c.if-line-at.false c.next_at-end.ensures in
-    omega (arith, w.0, w.1)
-
-pub slice_bounds-mark-end : goal.slice_bounds-mark-end
-slice_bounds-mark-end c =
-    let w = end-within c.args.line.now c.loop-at.at c.next_at-end.result c.if-line-at.false c.next_at-end.ensures in
-    omega (arith, w.0, w.1)
-
-pub overflow_add-at : goal.overflow_add-at
-overflow_add-at c =
-    let w = end-within c.args.line.now c.loop-at.at c.next_at-end.result c.if-line-at.false c.next_at-end.ensures in
-    omega (arith, c.well_formed, w.1)
-
-pub loop-at-smaller : goal.loop-at-smaller
-loop-at-smaller c =
-    let w = end-within c.args.line.now c.loop-at.at c.next_at-end.result c.if-line-at.false c.next_at-end.ensures in
-    omega (arith, w.0, w.1)
-
-pub loop-at-preserved : goal.loop-at-preserved
-loop-at-preserved c =
-    ap (marks_from c.args.base (fields_from c.args.line.now (c.next_at-end.result + 1)) (c.next_at-end.result + 1) c.args.to) c.mark-mask.ensures
-    ∙ marks-on c.args.base c.args.line.now c.loop-at.at c.args.to c.loop-at.mask c.next_at-end.result c.if-line-at.false
-    c.next_at-end.ensures c.loop-at-test.true
-    ∙ c.loop-at.invariant
+pub loop-field-preserved : goal.loop-field-preserved
+loop-field-preserved c =
+    ap (marks_all c.args.base (fields_left c.next.new.self)) c.mark-mask.ensures
+    ∙ sym (marks-first c.args.base c.in-Some.field.now (fields_left c.next.new.self) c.loop-field.mask)
+    ∙ ap (λ (fs : Fields). marks_all c.args.base fs c.loop-field.mask) (sym c.in-Some.ensures.steps)
+    ∙ c.loop-field.invariant
 
 pub returns : goal.returns
 returns c =
-    marks-end c.args.base c.args.line.now c.loop-at.at c.args.to c.loop-at.mask c.loop-at-test.false ∙ c.loop-at.invariant
+    sym (marks-none c.args.base c.loop-field.mask)
+    ∙ ap (λ (fs : Fields). marks_all c.args.base fs c.loop-field.mask) (sym c.in-None.ensures.steps.0)
+    ∙ c.loop-field.invariant

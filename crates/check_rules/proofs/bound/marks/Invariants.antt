@@ -1,15 +1,10 @@
--- `check_rules::bound::marks` meets its contract. The loop's invariant: what the fields from the place on add to the mask is what all add. Assumes nothing.
+-- What the fields that are left add to the mask is what all add. Assumes nothing.
+use mathlib.Core.Path.{◌≡◌}
 use Rattle.check_rules.specs.Bound.{marks_from}
 use Rattle.rules.specs.Scan.{fields_from}
-use lib.ListN.{length}
-use Prim.Native.Nat.{◌+◌, ◌-◌}
-use mathlib.Core.Path.{◌≡◌}
+use Rattle.rules.specs.Walk.{fields_left}
+use Rattle.check_rules.proofs.Binding.{marks_all}
 use Rattle.check_rules.proofs.bound.marks.Given as goal
 
-abbrev pub invariant-loop-at : goal.invariant-loop-at
-invariant-loop-at l =
-    marks_from l.base (fields_from l.line l.at) l.at l.to l.mask ≡ marks_from l.base (fields_from l.line l.from) l.from l.to 0
-
-abbrev pub decreases-loop-at : goal.decreases-loop-at
-decreases-loop-at l =
-    length l.line + 1 - l.at
+abbrev pub invariant-loop-field : goal.invariant-loop-field
+invariant-loop-field l = marks_all l.base (fields_left l.field-iterator) l.mask ≡ marks_from l.base (fields_from l.line l.from) l.from l.to 0

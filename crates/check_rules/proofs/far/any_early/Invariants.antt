@@ -1,13 +1,9 @@
--- `check_rules::far::any_early` meets its contract. The loop's invariant: the fields done are fine. Assumes nothing.
+-- The fields that are done are fine. Assumes nothing.
+use Rattle.rules.specs.Scan.{fields_from}
+use Rattle.rules.specs.Walk.{begun, fields_left}
 use Rattle.check_rules.proofs.Passing.{Using}
-use lib.ListN.{length}
-use Prim.Native.Nat.{◌+◌, ◌-◌}
 use Rattle.check_rules.proofs.far.any_early.Given as goal
 
-abbrev pub invariant-loop-at : goal.invariant-loop-at
-invariant-loop-at l =
-    Using l.line l.low l.below l.keys l.from l.to l.at
-
-abbrev pub decreases-loop-at : goal.decreases-loop-at
-decreases-loop-at l =
-    length l.line + 1 - l.at
+abbrev pub invariant-loop-field : goal.invariant-loop-field
+invariant-loop-field l =
+    Using l.rule.line.now l.low l.below l.tree.keys (begun (fields_from l.rule.line.now l.from) l.from l.to) (fields_left l.field-iterator)

@@ -1,8 +1,0 @@
--- `variable_tree::at` meets its contract: past the end a list reads 0. Assumes nothing.
-use mathlib.Core.Path.{sym}
-use lib.ListN.{get_or-eq_default}
-use borrow.Author.Rules.{rules}
-use Rattle.variable_tree.proofs.at.Goals as goal
-
-pub returns-else-i-words : goal.returns-else-i-words
-returns-else-i-words c = sym (get_or-eq_default c.args.words.now 0 c.if-i-words.false)
