@@ -18,7 +18,14 @@ use Rattle.rules.specs.Shape.{shape_of}
 use Rattle.check_rules.specs.Bound.{variables_answer, RuleLine, answers_variables}
 use Rattle.check_rules.specs.Line.{callable, all_calls, CallsIn, rule_answer, line_of}
 use Rattle.rules.specs.Condition.{Found}
-use Rattle.check_rules.specs.Line.{Line}
+use Rattle.check_rules.specs.Line.{Line, line_fault_number, line_told}
+use Rattle.check_rules.specs.declared.line.LineFault.{LineFault}
+use Rattle.check_rules.specs.declared.line.LineFault.TheVariants.{Shape as Shaped, Unbound, Range, Callee, Room}
+use Rattle.std.specs.Prelude.{if◌then◌else◌, Ok, Err}
+use Rattle.rules.specs.Rule.{bound, rule_variables}
+use Rattle.rules.specs.Walk.{shape_told}
+use Rattle.rules.specs.declared.rule_text.RuleText.{RuleText}
+use Rattle.check_rules.specs.Bound.{all_below}
 use Rattle.rules.specs.Shape.{Shape}
 use Rattle.rules.proofs.Scanning.{fields-past}
 use Rattle.check_rules.proofs.Lines.{good-rule}
@@ -159,3 +166,47 @@ module _ (l : List ℕ) (s : Shape) (e : s ≡ shape_of (rule_of l)) where
       go : (x : ReadRule) → rule_of l ≡ x → record { answer = 18; field = s.field; size = 0 } ≡ line_of f (rule_of l)
       go (rule r) z = impossible (let y : true ≡ false = ap (λ (x : Shape). x.good) (sym (e ∙ ap shape_of z)) ∙ g in cc)
       go (bad_field n) z = ap broken (ap (λ (x : Shape). x.field) (e ∙ ap shape_of z)) ∙ ap (line_of f) (sym z)
+
+-- ---- what the code tells of the line
+
+-- 18 is none of the answers to its variables.
+not-eighteen : (q : Rule) → ◌≡◌ {A = ℕ} (variables_answer q) 18 → ⊥
+unfolding variables_answer
+not-eighteen q = go (bound q) (all_below (rule_variables q))
+  where
+    go : (x y : Bool) → ◌≡◌ {A = ℕ} (if x then (if y then 0 else 20) else 19) 18 → ⊥
+    go true true e = absurd (omega arith)
+    go true false e = absurd (omega arith)
+    go false y e = absurd (omega arith)
+
+fault-some : (f : LineFault) → line_fault_number f ≡ 0 → ⊥
+fault-some (Shaped n) e = absurd (omega arith)
+fault-some Unbound e = absurd (omega arith)
+fault-some Range e = absurd (omega arith)
+fault-some Callee e = absurd (omega arith)
+fault-some Room e = absurd (omega arith)
+
+module _ (l : List ℕ) (f : ℕ → Bool) where
+  pub told-shape : (n : ℕ) → shape_told (Err n) ≡ shape_of (rule_of l) → line_told (line_of f (rule_of l)) (Err (Shaped n))
+  told-shape n e =
+      let z = line-bad l (shape_told (Err n)) e f refl in
+      (ap (λ (x : Line). x.answer) (sym z), λ h. ap (λ (x : Line). x.field) (sym z))
+
+  module _ (r : RuleText) (e : shape_told (Ok r) ≡ shape_of (rule_of l)) where
+    pub told-variables : (v : LineFault) → answers_variables (rule_of l) (line_fault_number v) → line_told (line_of f (rule_of l)) (Err v)
+    told-variables v k =
+        let s = shape_told (Ok r) in
+        let z = line-variables l s e refl f (line_fault_number v) k (fault-some v) in
+        let a : (line_of f (rule_of l)).answer ≡ line_fault_number v = ap (λ (x : Line). x.answer) (sym z) in
+        (a, λ h. absurd (not-eighteen (good-rule l s e refl).0 (sym (rw (good-rule l s e refl).1 at k) ∙ sym a ∙ h)))
+
+    pub told-calls : answers_variables (rule_of l) 0 → (b : Bool) → CallsIn (rule_of l) f b → b ≡ true → line_told (line_of f (rule_of l)) (Ok r.size)
+    told-calls k b c t =
+        let z = line-calls l (shape_told (Ok r)) e refl f 0 k refl b c t in
+        (ap (λ (x : Line). x.answer) (sym z), ap (λ (x : Line). x.size) (sym z))
+
+    pub told-called : answers_variables (rule_of l) 0 → (b : Bool) → CallsIn (rule_of l) f b → b ≡ false → line_told (line_of f (rule_of l)) (Err Callee)
+    told-called k b c t =
+        let z = line-called l (shape_told (Ok r)) e refl f 0 k refl b c t in
+        let a : (line_of f (rule_of l)).answer ≡ 22 = ap (λ (x : Line). x.answer) (sym z) in
+        (a, λ h. absurd (omega arith))

@@ -17,7 +17,11 @@ use Rattle.rules.specs.Text.{ReadRule, rule, bad_field, rule_of}
 use Rattle.rules.specs.Entries.{code_size, rule_code}
 use Rattle.check_rules.specs.Line.{line_of}
 use Rattle.check_rules.specs.Check.{told, refusal, by_line, last_line, text_checked}
-use Rattle.check_rules.specs.Line.{Line}
+use Rattle.check_rules.specs.Line.{Line, line_fault_number, fault_field, line_told}
+use Rattle.check_rules.specs.declared.line.LineFault.{LineFault}
+use Rattle.check_rules.specs.declared.line.LineFault.TheVariants.{Shape, Unbound, Range, Callee, Room}
+use Rattle.std.specs.Prelude.{Err}
+use Rattle.rules.specs.Shape.{shape_of}
 
 -- Line n begins at a place, and e entries are in use before it.
 pub record Checks (f : ℕ → Bool) (room used : ℕ) (s : List ℕ) (e n at : ℕ) : Type 0 where
@@ -137,3 +141,24 @@ module _ {f : ℕ → Bool} {room used : ℕ} {s : List ℕ} {e n at : ℕ} (k :
 
       pub checks-further : at < b.next
       checks-further = omega (arith, fed.next)
+
+-- ---- what the code tells of a line
+
+pub shape-field : (f : ℕ → Bool) (x : ReadRule) → (shape_of x).field ≡ (line_of f x).field
+shape-field f (rule r) = refl
+shape-field f (bad_field n) = refl
+
+pub refused-told : (u n : ℕ) (x : Line) (v : LineFault) → line_told x (Err v) → told u (line_fault_number v) n (fault_field v) ≡ refusal u n x
+unfolding refusal
+refused-told u n x (Shape m) h = rw h.0 (ap (told u 18 n) (sym (h.1 h.0)))
+refused-told u n x Unbound h = rw h.0
+refused-told u n x Range h = rw h.0
+refused-told u n x Callee h = rw h.0
+refused-told u n x Room h = rw h.0
+
+pub refused-some : (x : Line) (v : LineFault) → line_told x (Err v) → x.answer ≡ 0 → ⊥
+refused-some x (Shape m) h z = absurd (omega (arith, h.0))
+refused-some x Unbound h z = absurd (omega (arith, h.0))
+refused-some x Range h z = absurd (omega (arith, h.0))
+refused-some x Callee h z = absurd (omega (arith, h.0))
+refused-some x Room h z = absurd (omega (arith, h.0))

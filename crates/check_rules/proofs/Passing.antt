@@ -258,10 +258,10 @@ module _ {l : List ℕ} {right conditions low at below : ℕ} {ks : List ℕ} (b
   settles-in : {s : Settled} → Settles b.its low s → SettlesIn (rule_of l) low s
   settles-in e = rw b.is e
 
-  pub passing-early : (here : ℕ → Bool) (answer : Bool) → EarlyIn (rule_of l) low below ks here answer → answer ≡ true → SettlesIn (rule_of l) low (record { late = true; below = below })
+  pub passing-early : (here : ℕ → Bool) (answer : Bool) → EarlyIn (rule_of l) low below ks here answer → answer ≡ true → SettlesIn (rule_of l) low (record { late = true; below = 0 })
   passing-early here answer k t = go (rw b.is at k)
     where
-      go : Early b.its low below ks here answer → SettlesIn (rule_of l) low (record { late = true; below = below })
+      go : Early b.its low below ks here answer → SettlesIn (rule_of l) low (record { late = true; below = 0 })
       go (far.one a v m) = settles-in (far.one refl v m)
       go (far.no a m) = no_true a t
 
@@ -323,16 +323,16 @@ module _ {l : List ℕ} {right conditions low at below : ℕ} {ks : List ℕ} (b
         }
 
   -- No condition is left: the right term's variables.
-  pub passing-end : length l < at → (answer : Bool) → EarlyIn (rule_of l) low below ks (λ v. occurs_from v (fields_from l right) right conditions) answer
-      → SettlesIn (rule_of l) low (record { late = answer; below = below })
-  passing-end past answer k = go (rw b.is at k)
+  pub passing-end : length l < at → (answer : Bool) → EarlyIn (rule_of l) low below ks (λ v. occurs_from v (fields_from l right) right conditions) answer → answer ≡ false
+      → SettlesIn (rule_of l) low (record { late = false; below = below })
+  passing-end past answer k f = go (rw b.is at k)
     where
       here : ℕ → Bool
       here = λ v. occurs_from v (fields_from l right) right conditions
 
-      go : Early b.its low below ks here answer → SettlesIn (rule_of l) low (record { late = answer; below = below })
-      go (far.one a v m) = settles-in (far.one a v m)
-      go (far.no a m) = settles-in (far.no a (λ v p q. ⊎_elim (λ y. y)
+      go : Early b.its low below ks here answer → SettlesIn (rule_of l) low (record { late = false; below = below })
+      go (far.one a v m) = no_true f a
+      go (far.no a m) = settles-in (far.no refl (λ v p q. ⊎_elim (λ y. y)
           (λ y. ⊎_elim (λ z. z)
           (λ z. y ∙ late-last v (member v b.seen) b.rest b.its.right (no-conditions b.rest (sym (fields-past l at past) ∙ b.text)) ∙ z)
           (used-here b.its.right here
