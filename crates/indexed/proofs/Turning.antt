@@ -10,7 +10,6 @@ use lib.Seq.{paste}
 use Rattle.words.specs.Words.{rows}
 use Rattle.checks.specs.Kinds.{ours}
 use Rattle.checks.specs.Checked.{Checked}
-use Rattle.meaning.specs.Table.{table}
 use Rattle.meaning.specs.Store.{Input, Accepted}
 use Rattle.meaning.specs.Shared.{twin}
 use Rattle.index.specs.Lent.{built}
@@ -18,16 +17,15 @@ use Rattle.index.specs.Run.{FitsRoom}
 use Rattle.index.proofs.Twinning.{distinct}
 use Rattle.state.specs.Answers.{packed}
 use Rattle.state.specs.Record.{top_of}
-use Rattle.state.specs.Visits.{Entries}
-use Rattle.cycle.specs.Cycle.{Hinted, Ready}
-use Rattle.loading.specs.Loaded.{Opened}
+use Rattle.cycle.specs.Cycle.{Ready}
+use Rattle.loading.specs.Loaded.{Loaded, Opened}
 use Rattle.calls.specs.Many.{Module, handed, single}
 use Rattle.calls.specs.Indexed.{indexed_many_refused}
 use Rattle.calls.specs.Outcome.{Outcome}
 use Rattle.calls.proofs.Turns.{words, Given, Stands, accepted-single}
 use Rattle.calls.proofs.IndexedTurns.{Apart, IndexedGoing, indexed-going-first, indexed-going-next}
 use Rattle.running.specs.Ends.{RanAccepted}
-use Rattle.running.proofs.Whole.{ready, ended-as, fits_after}
+use Rattle.running.proofs.Whole.{Begun, ready, ended-as, fits_after}
 use Rattle.indexed.proofs.Whole.{take_min}
 
 pub many-refused-is : (g : Option (List ℕ)) (t w b : List ℕ) (mark start : ℕ) (ks : List ℕ) (units : ℕ) (rs : List ℕ) (k own : ℕ) (r : Checked) → own ≡ min k (length w)
@@ -71,24 +69,26 @@ first-accepted {c = c} γ s n = accepted-single ours γ s (get_or c.subjects 0 0
         not-zero (suc x) n = omega arith
 
 module _ {g : Option (List ℕ)} {c : Module} (γ : Given ours g c) (x : List ℕ) (size : 2 * rows c.store ≤ length x) {all n : ℕ}
-    {w rs : List ℕ} {m t j : ℕ} (G : Turning g c x all n w rs m t j) (l : j < length c.subjects) where
+    {w rs : List ℕ} {m t j : ℕ} (G : Turning g c x all n w rs m t j) (h : j < length c.subjects) where
   abbrev turn : Input
   turn = single c (take (8 * n) w) m (get_or c.subjects j 0)
 
   pub turn-accepted : Accepted turn
-  turn-accepted = accepted-single ours γ G.going.apart.stands (get_or c.subjects j 0) (γ.subjects j l)
+  turn-accepted = accepted-single ours γ G.going.apart.stands (get_or c.subjects j 0) (γ.subjects j h)
 
-  module _ (code st : List ℕ) (s : ℕ) (same : table code ≡ table c.table) (entries : Entries code) (hints : Hinted code)
-      (o : Opened c.bindings m 0 t n st) (few : c.units < 4294967296) (se : s ≡ packed (get_or c.subjects j 0) c.units) where
-    pub turn-ready : Ready code w st c.start s
-    turn-ready = ready turn turn-accepted code w st 0 t n s same entries hints o G.fits refl few se
+  module _ {code st : List ℕ} (l : Loaded c.table code) (o : Opened c.bindings m 0 t n st) (few : c.units < 4294967296) where
+    turn-begins : Begun turn code w st 0 t n
+    turn-begins = record { accepted = turn-accepted; loaded = l; opened = o; fits = G.fits; own = refl; few = few }
 
-    pub turning-next : (r : Outcome) (st' w' : List ℕ) → length w' ≡ length w → RanAccepted code w st c.start (get_or c.subjects j 0) c.units r st' w'
+    pub turn-ready : Ready code w st c.start (packed (get_or c.subjects j 0) c.units)
+    turn-ready = ready turn-begins
+
+    pub turning-next : {r : Outcome} {st' w' : List ℕ} → length w' ≡ length w → RanAccepted code w st c.start (get_or c.subjects j 0) c.units r st' w'
         → Turning g c x all n w' (paste rs (5 * j) (words ours r) 5) r.mark (top_of st') (j + 1)
-    turning-next r st' w' even e =
-        let q = ended-as turn turn-accepted code w st 0 t n s same entries hints o G.fits refl few se r st' w' e in
+    turning-next {r} {st'} {w'} even e =
+        let q = ended-as turn-begins e in
         record {
-          going = indexed-going-next ours γ x size (take (8 * n) w) rs m j G.going l r (take (8 * n) w') q.numbers q.words;
-          fits = fits_after turn turn-accepted code w st 0 t n s same entries hints o G.fits refl few se r st' w' e;
+          going = indexed-going-next ours γ x size (take (8 * n) w) rs m j G.going h r (take (8 * n) w') q.numbers q.words;
+          fits = fits_after turn-begins e;
           wide = even ∙ G.wide;
         }

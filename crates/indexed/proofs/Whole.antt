@@ -12,14 +12,14 @@ use lib.ListN.{length, get_or, take, drop, replicate, drop_of_length-le, length-
 use lib.Seq.{ext_get_or, get_or-take, get_or-drop, take-take, take_all, length-take-le}
 use borrow.Author.Tests.{eq-eqb, ne_eqb, eqb-true, leb-true, le-leb, lt-leb}
 use Rattle.words.specs.Words.{rows, cleared_from}
-use Rattle.std.specs.Prelude.{if◌then◌else◌}
+use Rattle.std.specs.Prelude.{if◌then◌else◌, Err}
 use Rattle.words.proofs.Tests.{below-or-from}
 use Rattle.words.proofs.Rows.{length-cleared_from, get_or-cleared_from-below, get_or-cleared_from-from}
 use Rattle.checks.specs.Kinds.{ours}
 use Rattle.checks.specs.Checked.{Checked}
-use Rattle.checks.specs.declared.Found.{Found}
-use Rattle.checks.specs.declared.Found.TheVariants.{At, Nothing}
-use Rattle.checks.specs.Checked.{checked, found, place_of}
+use Rattle.checks.specs.declared.refusal.Refusal.{Refusal}
+use Rattle.checks.specs.Numbers.{answer_of as refusal_number, checked_of}
+use Rattle.checks.specs.Checked.{checked, found}
 use Rattle.checks.proofs.Promises.{store_passes}
 use Rattle.meaning.specs.Derivation.{places, nowhere}
 use Rattle.meaning.specs.Store.{Input, Accepted}
@@ -33,6 +33,7 @@ use Rattle.calls.specs.Refused.{or_else, words_refused, start_fits, refused_with
 use Rattle.calls.specs.Run.{input, refusing}
 use Rattle.calls.specs.Indexed.{index_fits, indexed_words_refused_by, indexed_refused_by, indexed_refused, IndexedReturned, indexed_of_by, indexed_of}
 use Rattle.calls.proofs.Accepting.{accepted-with, zero-else, words-passed}
+use Rattle.running.proofs.Whole.{no-zero}
 
 -- ---- the words' refusal, by what is found
 
@@ -49,19 +50,19 @@ module _ (g : Option (List ℕ)) (t s b : List ℕ) (mark : ℕ) (x : List ℕ) 
     unfolding index_fits
     long = le-leb (2 * rows s) (length x) (omega arith)
 
-    pub words-refused-as : (c : Checked) → c ≡ words_refused g t s b mark → (c.answer ≡ 0 → ⊥) → c ≡ words-refused
+    pub words-refused-as : (e : Refusal) → checked_of (Err e) ≡ words_refused g t s b mark → checked_of (Err e) ≡ words-refused
     unfolding indexed_words_refused_by
-    words-refused-as c e n = rw (long, ← e, ne_eqb c.answer 0 n)
+    words-refused-as e is = rw (long, ← is, ne_eqb (refusal_number e) 0 (no-zero e))
 
-    pub twin-refused : (c : Checked) → c ≡ words_refused g t s b mark → c.answer ≡ 0 → (f : Found) → place_of f ≡ twin s mark → found 21 (place_of f) ≡ words-refused
+    pub twin-refused : checked 0 0 ≡ words_refused g t s b mark → (o : Option ℕ) → o ≡ twin s mark → found 21 o ≡ words-refused
     unfolding indexed_words_refused_by
-    twin-refused c e z f p = rw (long, ← e, eq-eqb c.answer 0 z, p)
+    twin-refused is o e = rw (long, ← is, e)
 
 -- where the words pass, the mark is within a store's nodes
-pub mark-few : (g : Option (List ℕ)) (t s b : List ℕ) (mark : ℕ) (c : Checked) → c ≡ words_refused g t s b mark → c.answer ≡ 0 → mark ≤ 131072
-mark-few g t s b mark c e z =
+pub mark-few : (g : Option (List ℕ)) (t s b : List ℕ) (mark : ℕ) → checked 0 0 ≡ words_refused g t s b mark → mark ≤ 131072
+mark-few g t s b mark e =
     let i = input t s b mark 0 0 0 in
-    let p = (words-passed ours g i (sym (ap (λ (c : Checked). c.answer) e) ∙ z)).0.0 in
+    let p = (words-passed ours g i (sym (ap (λ (c : Checked). c.answer) e))).0.0 in
     omega (arith, p.store.most, p.mark)
 
 -- ---- what is not refused
@@ -170,28 +171,35 @@ module _ (w : List ℕ) (k m : ℕ) (h : k ≤ m) (l : m ≤ length w) where
 
 -- ---- the beginning and the end
 
--- of the lent words w the first k are the store's
-module _ (i : Input) (w : List ℕ) (k own n : ℕ) (a : Accepted i) (store : i.store ≡ take k w) (ke : own ≡ min k (length w)) (ne : n ≡ own / 8) (long : 2 * rows i.store ≤ length (drop k w)) where
+-- of the lent words w the first k are the store's, own in number, for n nodes; the others are enough for an index
+pub record Split (i : Input) (w : List ℕ) (k own n : ℕ) : Type 0 where
+  pub accepted : Accepted i
+  pub store : i.store ≡ take k w
+  pub cut : own ≡ min k (length w)
+  pub nodes : n ≡ own / 8
+  pub long : 2 * rows i.store ≤ length (drop k w)
+
+module _ {i : Input} {w : List ℕ} {k own n : ℕ} (S : Split i w k own n) where
   own-long : length i.store ≡ own
-  own-long = ap length store ∙ length-take k w ∙ sym ke
+  own-long = ap length S.store ∙ length-take k w ∙ sym S.cut
 
   own-eights : own ≡ 8 * n
-  own-eights = omega (arith, ((store_passes i.store i.mark).0 (ap (λ (c : Checked). c.answer) a.store)).0.0.whole, own-long)
+  own-eights = omega (arith, ((store_passes i.store i.mark).0 (ap (λ (c : Checked). c.answer) S.accepted.store)).0.0.whole, own-long)
 
   nodes-are : rows i.store ≡ n
-  nodes-are = ap (λ (m : ℕ). m / 8) own-long ∙ sym ne
+  nodes-are = ap (λ (m : ℕ). m / 8) own-long ∙ sym S.nodes
 
   pub nodes-few : n ≤ 131072
-  nodes-few = omega (arith, ((store_passes i.store i.mark).0 (ap (λ (c : Checked). c.answer) a.store)).0.0.most, nodes-are)
+  nodes-few = omega (arith, ((store_passes i.store i.mark).0 (ap (λ (c : Checked). c.answer) S.accepted.store)).0.0.most, nodes-are)
 
   pub mark-inside : i.mark ≤ n
-  mark-inside = omega (arith, ((store_passes i.store i.mark).0 (ap (λ (c : Checked). c.answer) a.store)).0.1, nodes-are)
+  mark-inside = omega (arith, ((store_passes i.store i.mark).0 (ap (λ (c : Checked). c.answer) S.accepted.store)).0.1, nodes-are)
 
   some-nodes : 0 < n
-  some-nodes = omega (arith, a.subject, mark-inside)
+  some-nodes = omega (arith, S.accepted.subject, mark-inside)
 
   room_for : 8 * n + n + n ≤ length w
-  room_for = omega (arith, long, nodes-are, length-drop k w, own-eights)
+  room_for = omega (arith, S.long, nodes-are, length-drop k w, own-eights)
 
   pub held-empty : Held (cleared_from w own) n 0
   held-empty = rw own-eights (held-cleared n w some-nodes room_for)
@@ -205,14 +213,14 @@ module _ (i : Input) (w : List ℕ) (k own n : ℕ) (a : Accepted i) (store : i.
     fits-begun = (subst (λ v. Held v n i.mark) (sym is-begun) (held-begun n w i.mark some-nodes room_for mark-inside), omega arith, nodes-few)
 
     pub own-begun : take (8 * n) w₂ ≡ i.store
-    own-begun = ap (take (8 * n)) is-begun ∙ first-begun n w i.mark ∙ ap (λ m. take m w) (sym own-eights ∙ ke) ∙ take_min k w ∙ sym store
+    own-begun = ap (take (8 * n)) is-begun ∙ first-begun n w i.mark ∙ ap (λ m. take m w) (sym own-eights ∙ S.cut) ∙ take_min k w ∙ sym S.store
 
     pub length-same : length w₂ ≡ length w
     length-same = ap length is-begun ∙ length-begun n w i.mark
 
     -- of them the first k are the store's still, and the others are as many
     pub store-begun : take k w₂ ≡ i.store
-    store-begun = sym (take_min k w₂) ∙ ap (λ j. take j w₂) (ap (min k) length-same ∙ sym ke ∙ own-eights) ∙ own-begun
+    store-begun = sym (take_min k w₂) ∙ ap (λ j. take j w₂) (ap (min k) length-same ∙ sym S.cut ∙ own-eights) ∙ own-begun
 
     pub index-begun : length (drop k w) ≡ length (drop k w₂)
     index-begun = length-drop k w ∙ ap (λ n. n - k) (sym length-same) ∙ sym (length-drop k w₂)
@@ -229,7 +237,7 @@ module _ (i : Input) (w : List ℕ) (k own n : ℕ) (a : Accepted i) (store : i.
       length-end = length-cleared_from w₃ (8 * m) ∙ same ∙ length-same
 
       at_own : own ≡ min k (length (cleared_from w₃ (8 * m)))
-      at_own = ke ∙ ap (min k) (sym length-end)
+      at_own = S.cut ∙ ap (min k) (sym length-end)
 
       pub store-end : take k (cleared_from w₃ (8 * m)) ≡ cleared_from (take (8 * n) w₃) (8 * m)
       store-end =
@@ -239,4 +247,4 @@ module _ (i : Input) (w : List ℕ) (k own n : ℕ) (a : Accepted i) (store : i.
       pub index-end : drop k (cleared_from w₃ (8 * m)) ≡ replicate (length (drop k w)) 0
       index-end =
           sym (drop_min k (cleared_from w₃ (8 * m))) ∙ ap (λ j. drop j (cleared_from w₃ (8 * m))) (sym at_own) ∙ drop-cleared w₃ (8 * m) own below within
-          ∙ ap (λ j. replicate j 0) (ap (λ l. l - own) (same ∙ length-same) ∙ ap (λ j. length w - j) ke ∙ sym (length-drop (min k (length w)) w) ∙ ap length (drop_min k w))
+          ∙ ap (λ j. replicate j 0) (ap (λ l. l - own) (same ∙ length-same) ∙ ap (λ j. length w - j) S.cut ∙ sym (length-drop (min k (length w)) w) ∙ ap length (drop_min k w))

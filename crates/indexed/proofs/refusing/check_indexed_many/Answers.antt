@@ -1,44 +1,41 @@
+-- What a call over many subjects with an index refuses, by what is found first. Assumes nothing.
 use Prim.Native.Nat.{◌*◌}
-use lib.ListN.{length}
-use Rattle.calls.specs.Indexed.{indexed_many_refused_by}
 use native.Mathlib.Omega.{arith}
-use borrow.Author.Tests.{eq-eqb, ne_eqb, not-true, not-false}
-use borrow.Author.Rules.{rules}
-use Rattle.indexed.proofs.refusing.indexed_many_refusal.Reads as reads
-use Rattle.indexed.proofs.refusing.indexed_many_refusal.Lts as lts
-use Rattle.indexed.proofs.refusing.indexed_words_refusal.Reads as indexed-words-refusal-reads
-use Rattle.refusals.proofs.starts_fit.Reads as starts-fit-reads
-use Rattle.indexed.proofs.refusing.indexed_many_refusal.Goals as goal
+use lib.ListN.{length}
+use borrow.Author.Tests.{eq-eqb, ne_eqb}
+use Rattle.std.proofs.lemmas.Result.{err_from_is_err_and}
+use Rattle.calls.specs.Indexed.{indexed_many_refused_by}
+use Rattle.running.proofs.Whole.{no-zero}
+use Rattle.indexed.proofs.refusing.check_indexed_many.Goals as goal
+use Rattle.indexed.proofs.refusing.check_indexed_many.Goals.{then-n-subjects-via-then-n-subjects, then-n-subjects-via-else-n-subjects+then-n-ne0}
 
 pub returns-then-n-subjects : goal.returns-then-n-subjects
 unfolding indexed_many_refused_by
-returns-then-n-subjects c = λ rs x u n e. rw (ne_eqb (length rs) (5 * length c.args.subjects.now) (λ z. c.if-n-subjects.true (omega (arith, n, z))))
+returns-then-n-subjects c rs x u n e =
+    elim c.then-n-subjects.branch [
+      | then-n-subjects-via-then-n-subjects w ↦ rw (ne_eqb (length rs) (5 * length c.args.subjects.now) (λ z. w.if-n-subjects.true (omega (arith, n, z))))
+      | then-n-subjects-via-else-n-subjects+then-n-ne0 w ↦ rw (ne_eqb (length rs) (5 * length c.args.subjects.now) (λ z. w.if-n-ne0.true (omega (arith, n, z))))
+    ]
 
-pub returns-then-n-ne0 : goal.returns-then-n-ne0
+pub returns-in_err-check_indexed_words : goal.returns-in_err-check_indexed_words
 unfolding indexed_many_refused_by
-returns-then-n-ne0 c = λ rs x u n e. rw (ne_eqb (length rs) (5 * length c.args.subjects.now) (λ z. c.if-n-ne0.true (omega (arith, n, z))))
-
-pub returns-then-words-ne0 : goal.returns-then-words-ne0
-unfolding indexed_many_refused_by
-returns-then-words-ne0 c =
-    λ rs x u n e. rw (
-      eq-eqb (length rs) (5 * length c.args.subjects.now)
-          (omega (arith, n, c.if-n-subjects.false, c.if-n-ne0.false)),
-      ← c.indexed_words_refusal-words.ensures x
-          e,
-      ne_eqb _ 0 c.if-words-ne0.true,
-    )
+returns-in_err-check_indexed_words c =
+    let p = err_from_is_err_and c.from_residual.result c.from_residual.ensures.1 in
+    rw (p.1, p.2)
+    (λ rs x u n e. rw (
+      eq-eqb (length rs) (5 * length c.args.subjects.now) (omega (arith, n, c.if-n-subjects.false, c.if-n-ne0.false)),
+      ← c.in_err-check_indexed_words.ensures x e,
+      ne_eqb _ 0 (no-zero c.in_err-check_indexed_words.field-0.0),
+    ))
 
 pub returns-then-not-starts_fit : goal.returns-then-not-starts_fit
 unfolding indexed_many_refused_by
 returns-then-not-starts_fit c =
     λ rs x u n e. rw (
       eq-eqb (length rs) (5 * length c.args.subjects.now) (omega (arith, n, c.if-n-subjects.false, c.if-n-ne0.false)),
-      ← c.indexed_words_refusal-words.ensures x e,
-      eq-eqb _ 0 c.if-words-ne0.false,
-      ←
-          c.starts_fit.ensures,
-      not-true c.starts_fit.result c.if-not-starts_fit.true-raw,
+      ← c.in_ok-check_indexed_words.ensures x e,
+      ← c.starts_fit.ensures,
+      c.if-not-starts_fit.true,
     )
 
 pub returns : goal.returns
@@ -46,9 +43,7 @@ unfolding indexed_many_refused_by
 returns c =
     λ rs x u n e. rw (
       eq-eqb (length rs) (5 * length c.args.subjects.now) (omega (arith, n, c.if-n-subjects.false, c.if-n-ne0.false)),
-      ← c.indexed_words_refusal-words.ensures x e,
-      eq-eqb _ 0 c.if-words-ne0.false,
-      ←
-          c.starts_fit.ensures,
-      not-false c.starts_fit.result c.if-not-starts_fit.false-raw,
+      ← c.in_ok-check_indexed_words.ensures x e,
+      ← c.starts_fit.ensures,
+      c.if-not-starts_fit.false,
     )

@@ -1,34 +1,22 @@
+-- What a run with an index refuses, by what is found first. Assumes nothing.
+use borrow.Author.Tests.{ne_eqb}
+use Rattle.std.proofs.lemmas.Result.{err_from_is_err_and}
 use Rattle.calls.specs.Indexed.{indexed_refused_by}
-use borrow.Author.Tests.{eq-eqb, ne_eqb, not-true, not-false}
-use borrow.Author.Rules.{rules}
-use Rattle.indexed.proofs.refusing.indexed_refusal.Reads as reads
-use Rattle.indexed.proofs.refusing.indexed_refusal.Lts as lts
-use Rattle.indexed.proofs.refusing.indexed_words_refusal.Reads as indexed-words-refusal-reads
-use Rattle.refusals.proofs.start_fits.Reads as start-fits-reads
-use Rattle.indexed.proofs.refusing.indexed_refusal.Goals as goal
+use Rattle.running.proofs.Whole.{no-zero}
+use Rattle.indexed.proofs.refusing.check_indexed_run.Goals as goal
 
-pub returns-then-words-ne0 : goal.returns-then-words-ne0
+pub returns-in_err-check_indexed_words : goal.returns-in_err-check_indexed_words
 unfolding indexed_refused_by
-returns-then-words-ne0 c = λ x u e. rw (← c.indexed_words_refusal-words.ensures x e, ne_eqb _ 0 c.if-words-ne0.true)
+returns-in_err-check_indexed_words c =
+    let p = err_from_is_err_and c.from_residual.result c.from_residual.ensures.1 in
+    rw (p.1, p.2) (λ x u e. rw (← c.in_err-check_indexed_words.ensures x e, ne_eqb _ 0 (no-zero c.in_err-check_indexed_words.field-0.0)))
 
 pub returns-then-not-start_fits : goal.returns-then-not-start_fits
 unfolding indexed_refused_by
 returns-then-not-start_fits c =
-    λ x u e. rw (
-      ← c.indexed_words_refusal-words.ensures x e,
-      eq-eqb _ 0 c.if-words-ne0.false,
-      ←
-          c.start_fits.ensures,
-      not-true c.start_fits.result c.if-not-start_fits.true-raw,
-    )
+    λ x u e. rw (← c.in_ok-check_indexed_words.ensures x e, ← c.start_fits.ensures, c.if-not-start_fits.true)
 
 pub returns : goal.returns
 unfolding indexed_refused_by
 returns c =
-    λ x u e. rw (
-      ← c.indexed_words_refusal-words.ensures x e,
-      eq-eqb _ 0 c.if-words-ne0.false,
-      ←
-          c.start_fits.ensures,
-      not-false c.start_fits.result c.if-not-start_fits.false-raw,
-    )
+    λ x u e. rw (← c.in_ok-check_indexed_words.ensures x e, ← c.start_fits.ensures, c.if-not-start_fits.false)

@@ -1,64 +1,32 @@
+-- What is refused before the start is looked at, by what is found first. Assumes nothing.
+use Rattle.std.proofs.lemmas.Result.{err_from_is_err_and}
+use Rattle.calls.specs.Refused.{lent_signature}
 use Rattle.indexed.proofs.Whole.{short-refused, words-refused-as, twin-refused, mark-few}
-use Rattle.checks.specs.Checked.{found, place_of}
-use Rattle.calls.specs.Refused.{lent_if}
-use mathlib.Core.Path.{◌≡◌, ap, sym, ◌∙◌}
-use borrow.Author.Rules.{rules}
-use Rattle.indexed.proofs.refusing.indexed_words_refusal.Reads as reads
-use Rattle.indexed.proofs.refusing.indexed_words_refusal.Lts as lts
-use Rattle.index.proofs.twins.first_twin.Reads as first-twin-reads
-use Rattle.refusals.proofs.words_refusal.Reads as words-refusal-reads
-use Rattle.indexed.proofs.refusing.indexed_words_refusal.Goals as goal
+use Rattle.indexed.proofs.refusing.check_indexed_words.Goals as goal
 
 pub returns-then-size-store : goal.returns-then-size-store
 returns-then-size-store c =
-    λ x e. short-refused (lent_if c.args.signed
-    c.args.signature.now) c.args.table.now
-    c.args.store.now c.args.bindings.now
-    c.args.mark x (rw e c.if-size-store.true)
+    let a = c.args in
+    λ x e. short-refused (lent_signature a.signature) a.table.now a.store.now a.bindings.now a.mark x (rw e c.if-size-store.true)
 
-pub returns-then-words-ne0 : goal.returns-then-words-ne0
-returns-then-words-ne0 c =
-    λ x e. words-refused-as (lent_if c.args.signed
-    c.args.signature.now)
-    c.args.table.now
-    c.args.store.now
-    c.args.bindings.now
-    c.args.mark x (rw e c.if-size-store.false) _
-    c.words_refusal-words.ensures c.if-words-ne0.true
+pub returns-in_err-check_words : goal.returns-in_err-check_words
+returns-in_err-check_words c =
+    let a = c.args in
+    let p = err_from_is_err_and c.from_residual.result c.from_residual.ensures.1 in
+    rw (p.1, p.2)
+    (λ x e. words-refused-as (lent_signature a.signature) a.table.now a.store.now a.bindings.now a.mark x (rw e c.if-size-store.false) _ c.in_err-check_words.ensures)
 
-pub first_twin-twin-requires : goal.first_twin-twin-requires
-first_twin-twin-requires c =
-    mark-few (lent_if c.args.signed
-    c.args.signature.now)
-    c.args.table.now
-    c.args.store.now
-    c.args.bindings.now
-    c.args.mark _ c.words_refusal-words.ensures
-    c.if-words-ne0.false
+pub first_twin-requires : goal.first_twin-requires
+first_twin-requires c =
+    let a = c.args in
+    mark-few (lent_signature a.signature) a.table.now a.store.now a.bindings.now a.mark c.in_ok-check_words.ensures
 
-pub returns-in-At : goal.returns-in-At
-returns-in-At c =
-    λ x e. ap (λ f. found 21 (place_of f)) (sym c.in-At.is)
-    ∙ twin-refused (lent_if c.args.signed
-    c.args.signature.now)
-    c.args.table.now
-    c.args.store.now
-    c.args.bindings.now
-    c.args.mark x
-    (rw e c.if-size-store.false)
-    c.words_refusal-words.result
-    c.words_refusal-words.ensures c.if-words-ne0.false
-    c.first_twin-twin.result c.first_twin-twin.ensures
+pub returns-in-Some : goal.returns-in-Some
+returns-in-Some c =
+    let a = c.args in
+    λ x e. twin-refused (lent_signature a.signature) a.table.now a.store.now a.bindings.now a.mark x (rw e c.if-size-store.false) c.in_ok-check_words.ensures _ c.in-Some.ensures
 
-pub returns-in-Nothing : goal.returns-in-Nothing
-returns-in-Nothing c =
-    λ x e. ap (λ f. found 21 (place_of f)) (sym c.in-Nothing.is)
-    ∙ twin-refused (lent_if c.args.signed
-    c.args.signature.now)
-    c.args.table.now
-    c.args.store.now
-    c.args.bindings.now
-    c.args.mark x
-    (rw e c.if-size-store.false) c.words_refusal-words.result
-    c.words_refusal-words.ensures c.if-words-ne0.false
-    c.first_twin-twin.result c.first_twin-twin.ensures
+pub returns-in-None : goal.returns-in-None
+returns-in-None c =
+    let a = c.args in
+    λ x e. twin-refused (lent_signature a.signature) a.table.now a.store.now a.bindings.now a.mark x (rw e c.if-size-store.false) c.in_ok-check_words.ensures _ c.in-None.ensures
