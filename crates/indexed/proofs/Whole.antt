@@ -15,6 +15,7 @@ use Rattle.words.specs.Words.{rows, cleared_from}
 use Rattle.std.specs.Prelude.{if◌then◌else◌, Err}
 use Rattle.words.proofs.Tests.{below-or-from}
 use Rattle.words.proofs.Rows.{length-cleared_from, get_or-cleared_from-below, get_or-cleared_from-from}
+use Rattle.checks.proofs.Numbers.{answer_ne0}
 use Rattle.checks.specs.Kinds.{ours}
 use Rattle.checks.specs.Checked.{Checked}
 use Rattle.checks.specs.declared.refusal.Refusal.{Refusal}
@@ -33,7 +34,6 @@ use Rattle.calls.specs.Refused.{or_else, words_refused, start_fits, refused_with
 use Rattle.calls.specs.Run.{input, refusing}
 use Rattle.calls.specs.Indexed.{index_fits, indexed_words_refused_by, indexed_refused_by, indexed_refused, IndexedReturned, indexed_of_by, indexed_of}
 use Rattle.calls.proofs.Accepting.{accepted-with, zero-else, words-passed}
-use Rattle.running.proofs.Whole.{no-zero}
 
 -- ---- the words' refusal, by what is found
 
@@ -52,7 +52,7 @@ module _ (g : Option (List ℕ)) (t s b : List ℕ) (mark : ℕ) (x : List ℕ) 
 
     pub words-refused-as : (e : Refusal) → checked_of (Err e) ≡ words_refused g t s b mark → checked_of (Err e) ≡ words-refused
     unfolding indexed_words_refused_by
-    words-refused-as e is = rw (long, ← is, ne_eqb (refusal_number e) 0 (no-zero e))
+    words-refused-as e is = rw (long, ← is, ne_eqb (refusal_number e) 0 (answer_ne0 e))
 
     pub twin-refused : checked 0 0 ≡ words_refused g t s b mark → (o : Option ℕ) → o ≡ twin s mark → found 21 o ≡ words-refused
     unfolding indexed_words_refused_by

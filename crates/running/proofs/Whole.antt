@@ -12,11 +12,9 @@ use Rattle.checks.specs.Kinds.{ours, variables}
 use Rattle.words.specs.Words.{word_at, rows, cleared_from}
 use Rattle.std.specs.Prelude.{if◌then◌else◌, Err}
 use Rattle.checks.specs.Checked.{Checked, checked, table_checked}
-use Rattle.checks.specs.declared.refusal.Fault.{Fault}
-use Rattle.checks.specs.declared.refusal.Fault.TheVariants as fault
 use Rattle.checks.specs.declared.refusal.Refusal.{Refusal}
-use Rattle.checks.specs.declared.refusal.Refusal.TheVariants.{Sizes, Node, Start, EntryDisobeys, NodeDisobeys, Entry, Twin, Count, NoRun}
-use Rattle.checks.specs.Numbers.{fault_number, answer_of as refusal_number, checked_of}
+use Rattle.checks.specs.Numbers.{answer_of as refusal_number, checked_of}
+use Rattle.checks.proofs.Numbers.{answer_ne0}
 use Rattle.checks.specs.Good.{good_node}
 use Rattle.checks.specs.Promises.{AllGood, StoreFits}
 use Rattle.checks.proofs.Promises.{table_passes, store_passes}
@@ -28,7 +26,7 @@ use Rattle.meaning.specs.Derivation.{places, nowhere}
 use Rattle.meaning.specs.Store.{State, Ran, Input, Accepted, named, bindings, ran, ran_by, rest, on as onWords, stored as plain}
 use Rattle.meaning.specs.Shared.{shared, shared_ran_by}
 use Rattle.meaning.proofs.Shared.{shared-leaves}
-use Rattle.meaning.proofs.Checked.{Node as Filled, good-of-node, store-filled}
+use Rattle.meaning.proofs.Checked.{Node, good-of-node, store-filled}
 use Rattle.meaning.proofs.Words.{same-node}
 use Rattle.index.specs.Run.{lending, FitsRoom, Fitting, SameRoom, own_words, own_ran}
 use Rattle.index.proofs.Running.{own-word, lent-is-plain, lent-is-shared}
@@ -111,7 +109,7 @@ module _ {i : Input} {c w st : List ℕ} {room top n : ℕ} (B : Begun i c w st 
   subject-is : node_in (packed i.subject i.units) ≡ i.subject
   subject-is = node-packed i.subject i.units B.few
 
-  good : (j : ℕ) → j < i.mark → Filled w j
+  good : (j : ℕ) → j < i.mark → Node w j
   good j h =
       same-node i.store w j (λ x l. sym (ap (λ s. word_at s j x) (sym B.own) ∙ own-word room w i.mark top n B.fits j x h l))
       ((store-filled i.store i.mark B.accepted.store).node j h)
@@ -376,28 +374,6 @@ module _ (room : ℕ) {i : Input} (a : Accepted i) {r : Outcome} {st w : List �
 
 -- ---- a refusal, and none
 
--- no refusal has the number 0
-pub fault-some : (f : Fault) → 0 < fault_number f
-fault-some fault.Count = omega arith
-fault-some fault.Argument = omega arith
-fault-some fault.Place = omega arith
-fault-some fault.Sort = omega arith
-fault-some fault.Unused = omega arith
-
-pub refusal-some : (e : Refusal) → 0 < refusal_number e
-refusal-some Sizes = omega arith
-refusal-some (Node k) = omega arith
-refusal-some Start = omega arith
-refusal-some (EntryDisobeys e) = omega arith
-refusal-some (NodeDisobeys k) = omega arith
-refusal-some (Entry f e) = fault-some f
-refusal-some (Twin k) = omega arith
-refusal-some (Count e) = omega arith
-refusal-some NoRun = omega arith
-
-pub no-zero : (e : Refusal) → refusal_number e ≡ 0 → ⊥
-no-zero e z = omega (arith, refusal-some e)
-
 -- the end with the number 0
 pub is-done-end : (e : End) → end_number e ≡ 0 → e ≡ end.Done
 is-done-end end.Done z = refl
@@ -411,7 +387,7 @@ is-done-end end.Unfinished z = absurd (omega arith)
 module _ (g : Option (List ℕ)) (t s b : List ℕ) (m e k u : ℕ) where
   pub run-refused : (r : Refusal) → checked_of (Err r) ≡ refused_with g t s b m e k → at_return (outcome_of (Err r) k m) s b ≡ run_with g (input t s b m e k u)
   unfolding run_with_by
-  run-refused r is = rw (← is, ne_eqb (refusal_number r) 0 (no-zero r))
+  run-refused r is = rw (← is, ne_eqb (refusal_number r) 0 (answer_ne0 r))
 
   module _ (is : checked 0 0 ≡ refused_with g t s b m e k) where
     none-refused : eqb (refused_with g t s b m e k).answer 0 ≡ true

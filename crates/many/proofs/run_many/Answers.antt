@@ -5,12 +5,13 @@ use Prim.Native.Nat.{ℕ, ◌*◌}
 use native.Mathlib.Omega.{arith}
 use borrow.Author.Tests.{eqb-true, eqb-false}
 use lib.ListN.{length, get_or}
+use Rattle.checks.proofs.Numbers.{answer_ne0}
 use Rattle.checks.specs.Kinds.{ours}
 use Rattle.checks.specs.Checked.{checked}
 use Rattle.calls.specs.Refused.{lent_signature}
 use Rattle.meaning.specs.Store.{Accepted}
 use Rattle.calls.specs.Many.{Module, handed, single, many_at_return, many_refused}
-use Rattle.running.proofs.Whole.{ready-plain, ended-plain, store-small, no-zero}
+use Rattle.running.proofs.Whole.{ready-plain, ended-plain, store-small}
 use Rattle.calls.proofs.Turns.{Given, Stands, table-short, mark-short, accepted-single, going-first, going_next, going-last}
 use Rattle.calls.proofs.Turns.{many-refused, many-ran, many-given, many-none}
 use Rattle.std.proofs.lemmas.Result.{err_from_is_err_and}
@@ -34,7 +35,7 @@ both c = many-given ours (lent c) (given c) (checked 0 0) (passed c) refl
 pub returns-in_err-check_many : goal.returns-in_err-check_many
 returns-in_err-check_many c =
     let p = err_from_is_err_and c.from_residual.result c.from_residual.ensures.1 in
-    rw (p.1, p.2) (many-refused ours _ _ _ (c.in_err-check_many.ensures c.args.results.now c.args.units refl) (no-zero _))
+    rw (p.1, p.2) (many-refused ours _ _ _ (c.in_err-check_many.ensures c.args.results.now c.args.units refl) (answer_ne0 _))
 
 pub returns-then-is_empty : goal.returns-then-is_empty
 returns-then-is_empty c =

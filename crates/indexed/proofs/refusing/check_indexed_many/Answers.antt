@@ -4,8 +4,8 @@ use native.Mathlib.Omega.{arith}
 use lib.ListN.{length}
 use borrow.Author.Tests.{eq-eqb, ne_eqb}
 use Rattle.std.proofs.lemmas.Result.{err_from_is_err_and}
+use Rattle.checks.proofs.Numbers.{answer_ne0}
 use Rattle.calls.specs.Indexed.{indexed_many_refused_by}
-use Rattle.running.proofs.Whole.{no-zero}
 use Rattle.indexed.proofs.refusing.check_indexed_many.Goals as goal
 use Rattle.indexed.proofs.refusing.check_indexed_many.Goals.{then-n-subjects-via-then-n-subjects, then-n-subjects-via-else-n-subjects+then-n-ne0}
 
@@ -25,7 +25,7 @@ returns-in_err-check_indexed_words c =
     (λ rs x u n e. rw (
       eq-eqb (length rs) (5 * length c.args.subjects.now) (omega (arith, n, c.if-n-subjects.false, c.if-n-ne0.false)),
       ← c.in_err-check_indexed_words.ensures x e,
-      ne_eqb _ 0 (no-zero c.in_err-check_indexed_words.field-0.0),
+      ne_eqb _ 0 (answer_ne0 c.in_err-check_indexed_words.field-0.0),
     ))
 
 pub returns-then-not-starts_fit : goal.returns-then-not-starts_fit

@@ -6,6 +6,7 @@ use Prim.Native.Nat.{ℕ, ◌/◌}
 use native.Mathlib.Omega.{arith}
 use lib.ListN.{length, take, drop, replicate}
 use lib.Seq.{length-take-le}
+use Rattle.checks.proofs.Numbers.{answer_ne0}
 use Rattle.checks.specs.Checked.{checked}
 use Rattle.words.specs.Words.{cleared_from}
 use Rattle.words.proofs.Rows.{length-cleared_from}
@@ -17,7 +18,7 @@ use Rattle.calls.specs.Refused.{lent_signature}
 use Rattle.calls.specs.Run.{input}
 use Rattle.calls.specs.Indexed.{indexed_at_return, indexed_refused}
 use Rattle.std.proofs.lemmas.Result.{err_from_is_err_and}
-use Rattle.running.proofs.Whole.{Begun, ready, ended-as, fits_after, table_fits, is-done-end, no-zero, bound-left, comes_back}
+use Rattle.running.proofs.Whole.{Begun, ready, ended-as, fits_after, table_fits, is-done-end, bound-left, comes_back}
 use Rattle.indexed.proofs.Whole.{refused-is, drop-size, indexed-refused, indexed-ran, index-long, accepted}
 use Rattle.indexed.proofs.Whole.{Split, nodes-few, mark-inside, held-empty, fits-begun, own-begun, length-same, store-end, index-end}
 use Rattle.indexed.proofs.run.run_indexed.Goals as goal
@@ -82,7 +83,7 @@ returns-in_err-check_indexed_run c =
     (indexed-refused _ _ _ _
     (refused-is (lent_signature a.signature) a.table.now a.lent.now a.bindings.now a.mark a.start a.subject a.units a.words c.store_words-own.result _ cut
     (c.in_err-check_indexed_run.ensures (drop a.words a.lent.now) a.units (drop-size a.words c.store_words-own.result a.lent.now cut)))
-    (no-zero _))
+    (answer_ne0 _))
 
 pub overflow_cast-nodes : goal.overflow_cast-nodes
 overflow_cast-nodes c = omega (arith, nodes-few (split c))
