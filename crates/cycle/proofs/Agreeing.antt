@@ -1,5 +1,5 @@
 -- CONG: constructor and count agree, or it fails.
-use mathlib.Core.Path.{◌≡◌, refl, ap, sym, ◌∙◌}
+use mathlib.Core.Path.{◌≡◌, ap, sym, ◌∙◌}
 use mathlib.Core.Bool.{Bool, true, false, not, ◌&&◌}
 use mathlib.Core.List.{List}
 use Prim.Native.Nat.{ℕ, ◌<◌}
@@ -11,7 +11,7 @@ use Rattle.meaning.specs.Table.{operands}
 use Rattle.meaning.specs.Rules.{agree, when}
 use Rattle.meaning.specs.Store.{children}
 use Rattle.state.specs.Answers.{node_in, units_in, failed_word}
-use Rattle.state.specs.Record.{mark_of, notes_of, standing, held}
+use Rattle.state.specs.Record.{standing, held}
 use borrow.Author.Tests.{not-true, not-false}
 use Rattle.leaves.proofs.Patterns.{agreed-count}
 use Rattle.state.specs.Visits.{plan, ruled, count_of, agreeing, Entries, Gives}

@@ -1,18 +1,17 @@
 -- Visits that only lead on: a CALL and its REC before the first work of an operand.
-use mathlib.Core.Path.{◌≡◌, refl, ap, sym, ◌∙◌}
+use mathlib.Core.Path.{◌≡◌, refl, sym, ◌∙◌}
 use mathlib.Core.Bool.{Bool, true, false}
 use mathlib.Core.List.{List}
-use mathlib.Core.Logic.{◌⊎◌, ⊎_elim}
+use mathlib.Core.Logic.{◌⊎◌, inl, inr, ⊎_elim}
 use Prim.Native.Nat.{ℕ, ◌+◌, ◌-◌, ◌<◌, ◌≤◌}
 use native.Mathlib.Omega.{arith}
 use lib.Dec.{eqb}
 use borrow.Author.Tests.{eqb-true, eqb-false}
 use Rattle.words.specs.Words.{word_at}
+use Rattle.words.proofs.Tests.{below-or-from}
 use Rattle.std.specs.Prelude.{if◌then◌else◌}
 use Rattle.checks.specs.Good.{kind_of}
-use Rattle.meaning.specs.Bindings.{Bindings}
-use Rattle.meaning.specs.Rules.{apply}
-use Rattle.state.specs.Visits.{visit, Entries}
+use Rattle.state.specs.Visits.{Entries}
 use Rattle.leaves.proofs.Patterns.{operand_below}
 use Rattle.cycle.specs.Cycle.{Hinted, Leads, VisitsAhead, entry_ahead, operand_for}
 
@@ -25,6 +24,12 @@ stays t x = record {
       rw (p, q);
   short = λ k b w m d u i j. absurd (omega arith);
 }
+
+-- a number of three
+pub one-of-three : (k r : ℕ) → r ≡ k → 11 ≤ r → r < 14 → (k ≡ 11) ⊎ (k ≡ 12) ⊎ (k ≡ 13)
+one-of-three k r e h l =
+    ⊎_elim (λ z. inl (omega arith)) (λ z. inr (⊎_elim (λ y. inl (omega arith)) (λ y. inr (omega arith)) (below-or-from r 13)))
+    (below-or-from r 12)
 
 module _ {t : List ℕ} {e : ℕ} where
   pub ahead_none : {d : ℕ} → VisitsAhead t e d 0

@@ -1,6 +1,5 @@
 -- PATH and ONE: a child is visited, and the node is made again with what the visit gave in the child's place.
 use mathlib.Core.Path.{◌≡◌, refl, ap, sym, ◌∙◌}
-use mathlib.Core.Bool.{Bool, true, false}
 use mathlib.Core.Option.{Option as Maybe, none, some}
 use Rattle.std.specs.Prelude.{Option, Some, None}
 use mathlib.Core.List.{List, [], ◌∷◌, ◌++◌}
@@ -16,7 +15,7 @@ use Rattle.meaning.specs.Table.{six}
 use Rattle.meaning.specs.Plan.{keep, fail, ask}
 use Rattle.meaning.specs.Rules.{apply, Do, nth, put, given, again, one_of}
 use Rattle.meaning.specs.Store.{children}
-use Rattle.meaning.specs.Demands.{Kept, Leaves}
+use Rattle.meaning.specs.Demands.{Kept}
 use Rattle.state.specs.declared.answers.Answer.{Answer}
 use Rattle.state.specs.declared.answers.Answer.TheVariants.{Done, Failed, Cut}
 use Rattle.state.specs.declared.answers.Attempt.{Attempt}
@@ -57,6 +56,11 @@ unfolding nth
 nth-at [] j l = absurd (omega arith)
 nth-at (h ∷ hs) zero l = refl
 nth-at (h ∷ hs) (suc j) l = nth-at hs j (omega arith)
+
+-- what is not some is none
+pub is-none : (o : Option ℕ) → ((x : ℕ) → o ≡ Some x → ⊥) → o ≡ None
+is-none None h = refl
+is-none (Some x) h = absurd (h x refl)
 
 -- child j of node k
 module _ (w : List ℕ) (k j : ℕ) (l : j < count_of w k) where

@@ -1,12 +1,10 @@
 -- A strategy that fails at its head: a MATCH of another constructor or count, a SEQ that begins with one, a SCOPE of one.
 use mathlib.Core.Path.{◌≡◌, refl, ap, sym, ◌∙◌}
-use mathlib.Core.Bool.{Bool, true, false}
+use mathlib.Core.Bool.{false}
 use mathlib.Core.List.{List}
 use mathlib.Core.Logic.{◌⊎◌}
 use Prim.Native.Nat.{ℕ, ◌+◌, ◌-◌, ◌<◌, ◌≤◌, min}
 use native.Mathlib.Omega.{arith}
-use lib.Dec.{eqb}
-use borrow.Author.Tests.{eqb-true, eqb-false}
 use Rattle.words.specs.Words.{word_at}
 use Rattle.checks.specs.Kinds.{ours}
 use Rattle.checks.specs.Good.{kind_of, mask_by}

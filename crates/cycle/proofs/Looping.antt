@@ -2,26 +2,22 @@
 use mathlib.Core.Path.{◌≡◌, refl, ap, sym, ◌∙◌, subst}
 use mathlib.Core.List.{List}
 use mathlib.Core.Logic.{◌⊎◌, inl, inr, ⊎_elim}
-use Prim.Native.Nat.{ℕ, zero, suc, ◌+◌, ◌-◌, ◌*◌, ◌/◌, ◌%◌, ◌<◌, ◌≤◌, min}
+use Prim.Native.Nat.{ℕ, ◌+◌, ◌-◌, ◌<◌, ◌≤◌, min}
 use native.Mathlib.Omega.{arith}
 use native.Mathlib.Nat.{eq-or-lt_of_le}
 use lib.ListN.{length}
 use Rattle.words.specs.Words.{word_at}
 use Rattle.checks.specs.Good.{kind_of}
-use Rattle.meaning.specs.Bindings.{Bindings}
 use Rattle.meaning.specs.Rules.{apply}
 use Rattle.meaning.specs.Limits.{lost, at}
-use Rattle.state.specs.Noted.{Ran, left_of}
-use Rattle.meaning.specs.Demands.{Kept, Leaves}
-use denote.Enum.Declared.{tag_of}
-use Rattle.state.specs.contracts.answers.Answer.{the_type}
+use Rattle.state.specs.Noted.{left_of}
 use Rattle.state.specs.declared.answers.Answer.{Answer}
-use Rattle.state.specs.declared.answers.Answer.TheVariants.{Done, Failed, Cut}
+use Rattle.state.specs.declared.answers.Answer.TheVariants.{Done, Failed}
 use Rattle.state.specs.Answers.{packed, node_in, units_in, units_word, nesting_word, failed_word, answer_of}
 use Rattle.state.specs.Record.{record_long, mark_of, notes_of, standing, missing, held, back, Framed}
-use Rattle.state.specs.Visits.{visit, ruled, out, count_of, Entries, Steady, Gives}
+use Rattle.state.specs.Visits.{visit, ruled, count_of, Gives}
 use Rattle.cycle.specs.Cycle.{Ready, Last, VisitsToFailure}
-use Rattle.state.proofs.AnswerWords.{answer-failed, out-failed, node-packed, units-packed, done-node, done-units, failed-few}
+use Rattle.state.proofs.AnswerWords.{answer-failed, out-failed, node-packed, units-packed, done-node, failed-few}
 use Rattle.state.proofs.Asking.{Tagged}
 use Rattle.leaves.proofs.Kind.{applied}
 use Rattle.leaves.proofs.Keeping.{LeavesFitting, steady-missing, apply-leaves, steady_kept, steady-after, leaves-done, leaves-failed, node-small}

@@ -1,26 +1,23 @@
 -- Each operator's return: what the code has at hand, and that it is the rule's answer.
-use mathlib.Core.Path.{◌≡◌, refl, ap, sym, ◌∙◌, subst}
-use mathlib.Core.Bool.{Bool, true, false}
-use mathlib.Core.List.{List, [], ◌∷◌}
+use mathlib.Core.Path.{◌≡◌, refl, sym, ◌∙◌}
+use mathlib.Core.List.{List}
 use mathlib.Core.Logic.{◌⊎◌, inl, ⊎_elim}
-use Prim.Native.Nat.{ℕ, zero, suc, ◌+◌, ◌-◌, ◌<◌, ◌≤◌}
-use native.Mathlib.Omega.{arith}
-use lib.ListN.{length}
+use Prim.Native.Nat.{ℕ, ◌<◌}
 use Rattle.words.specs.Words.{word_at}
 use Rattle.checks.specs.Good.{kind_of}
-use Rattle.meaning.specs.Bindings.{Bindings, unbound, masked}
+use Rattle.meaning.specs.Bindings.{Bindings}
 use Rattle.meaning.specs.Plan.{keep, drop, ret, fail, ask}
 use Rattle.meaning.specs.Rules.{Visit, apply, Do}
-use Rattle.meaning.specs.Limits.{ended, lost, cut, run_plan}
-use Rattle.state.specs.Noted.{Standing, back_to, on, stored, Ran, left_of}
+use Rattle.meaning.specs.Limits.{ended, lost, run_plan}
+use Rattle.state.specs.Noted.{Standing, back_to, on, Ran, left_of}
 use Rattle.state.specs.declared.answers.Answer.{Answer}
 use Rattle.state.specs.declared.answers.Answer.TheVariants.{Done, Failed, Cut}
 use Rattle.state.specs.declared.answers.Attempt.{Attempt}
 use Rattle.state.specs.declared.answers.Attempt.TheVariants.{Ended, Cut as Off}
 use Rattle.std.specs.Prelude.{Some, None}
 use Rattle.state.specs.Answers.{packed, node_in, units_in, failed_word, answer_of, attempt_of}
-use Rattle.state.specs.Record.{mark_of, notes_of, standing, held, back, Framed}
-use Rattle.state.specs.Visits.{visit, plan, ruled, out, Steady}
+use Rattle.state.specs.Record.{mark_of, notes_of, standing, held}
+use Rattle.state.specs.Visits.{visit, plan, ruled, out}
 use Rattle.state.proofs.AnswerWords.{gave, gave-failed, done-units, failed-few, attempt-done, attempt-failed, attempt-cut}
 use Rattle.state.proofs.Asking.{Tagged, goes_on, goes_back, caught, cut_off, not_done, not-failed, last}
 use Rattle.cycle.proofs.Ruling.{ruled-test, ruled-not, ruled-where, ruled-seq, ruled-choice, ruled-left}

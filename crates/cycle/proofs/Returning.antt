@@ -1,6 +1,6 @@
 -- What each operator returns, whole: the rule's answer, the words of the variables that were bound, the record's length.
-use mathlib.Core.Path.{◌≡◌, refl, ap, sym, ◌∙◌, subst}
-use mathlib.Core.Bool.{Bool, true, false, true≢false}
+use mathlib.Core.Path.{◌≡◌, refl, sym, ◌∙◌}
+use mathlib.Core.Bool.{Bool, true, false, beq, true≢false}
 use mathlib.Core.List.{List}
 use mathlib.Core.Logic.{◌⊎◌, inl, inr, ⊎_elim}
 use Prim.Native.Nat.{ℕ, ◌<◌, ◌≤◌, ◌+◌}
@@ -9,11 +9,11 @@ use Rattle.words.specs.Words.{word_at}
 use Rattle.checks.specs.Good.{kind_of}
 use Rattle.meaning.specs.Rules.{apply}
 use Rattle.state.specs.declared.answers.Answer.{Answer}
-use Rattle.state.specs.declared.answers.Answer.TheVariants.{Done, Failed, Cut}
+use Rattle.state.specs.declared.answers.Answer.TheVariants.{Done}
 use Rattle.state.specs.declared.answers.Attempt.{Attempt}
 use Rattle.state.specs.declared.answers.Attempt.TheVariants.{Ended, Cut as Off}
 use Rattle.state.specs.Answers.{packed, node_in, units_in, failed_word, answer_of, attempt_of}
-use Rattle.state.specs.Record.{record_long, mark_of, notes_of, standing, held, back, Framed}
+use Rattle.state.specs.Record.{record_long, standing, held, back, Framed}
 use Rattle.meaning.specs.Limits.{lost}
 use Rattle.state.specs.Noted.{Ran, left_of}
 use native.Mathlib.Omega.{arith}
@@ -27,8 +27,21 @@ use Rattle.cycle.proofs.Ruling.{ruled-id, ruled-fail, ruled-above, ruled-all}
 use Rattle.state.proofs.Asking.{Tagged}
 use Rattle.cycle.proofs.Walker.{childless}
 use Rattle.leaves.proofs.Keeping.{node-small}
-use Rattle.state.proofs.Holding.{further, held_back, mark-back, notes-back, framed-back, length_back, framed-refl}
+use Rattle.state.proofs.Holding.{further, held_back, mark-back, notes-back, framed-back, framed-refl}
 use Rattle.cycle.proofs.Operators.{where-stops, where-done, guard-off, test-done, not-did, test-failed, not-failed-then}
+
+-- two truths that are compared
+pub alike : (a b : Bool) → beq a b ≡ true → a ≡ b
+alike true true e = refl
+alike true false e = absurd (true≢false (sym e))
+alike false true e = absurd (true≢false (sym e))
+alike false false e = refl
+
+pub unlike : (a b : Bool) → beq a b ≡ false → a ≡ b → ⊥
+unlike true true e h = true≢false e
+unlike true false e h = true≢false h
+unlike false true e h = true≢false (sym h)
+unlike false false e h = true≢false e
 
 -- the first operand x of entry e ran on the operator's own state, and gave `got`
 module _ {t w st : List ℕ} {e s x got : ℕ} {st' w' : List ℕ} (n : ℕ) (ready : Ready t w st e s) (xe : x ≡ word_at t e 2)

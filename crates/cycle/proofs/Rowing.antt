@@ -19,7 +19,7 @@ use Rattle.meaning.specs.Demands.{Kept}
 use Rattle.meaning.proofs.Checked.{Node, node-of-good}
 use Rattle.meaning.proofs.Words.{kept_word}
 use Rattle.state.specs.Noted.{Standing}
-use Rattle.state.specs.Record.{mark_of, notes_of, standing, held}
+use Rattle.state.specs.Record.{standing, held}
 use Rattle.state.specs.Visits.{plan, count_of, row_at, noded, Steady, Stored}
 use Rattle.state.specs.Answers.{node_in}
 use Rattle.state.proofs.Storing.{steady-stored}

@@ -1,24 +1,22 @@
 -- The rule of each kind over the store's words, its operands being the words of the entry; and what the next visit needs.
-use mathlib.Core.Path.{◌≡◌, refl, ap, sym, ◌∙◌, subst}
-use mathlib.Core.Bool.{Bool, true, false, ◌&&◌}
-use mathlib.Core.List.{List, [], ◌∷◌, map}
-use Prim.Native.Nat.{ℕ, zero, suc, ◌+◌, ◌-◌, ◌<◌, ◌≤◌}
+use mathlib.Core.Path.{◌≡◌, refl, ◌∙◌}
+use mathlib.Core.List.{List, []}
+use Prim.Native.Nat.{ℕ, ◌+◌, ◌<◌}
 use native.Mathlib.Omega.{arith}
 use lib.ListN.{get_or-eq_default}
 use Rattle.words.specs.Words.{word_at}
-use Rattle.std.specs.Prelude.{if◌then◌else◌}
 use Rattle.checks.specs.Kinds.{ours}
-use Rattle.checks.specs.Good.{kind_of, operand_count, argument_of, mask_by, constructor_of}
+use Rattle.checks.specs.Good.{kind_of, argument_of, mask_by, constructor_of}
 use Rattle.meaning.specs.Bindings.{Bindings, unbound, masked}
-use Rattle.meaning.specs.Table.{ID, FAIL, TEST, NOT, SEQ, CHOICE, LEFT, REC, CALL, PATH, CONG, ALL, ONE, SOME, MATCH, BUILD, SCOPE, WHERE, table, by_kind, operands}
-use Rattle.meaning.specs.Plan.{keep, drop, ret, fail, look, make, ask}
-use Rattle.meaning.specs.Rules.{Visit, apply, match, build, Do, strategy, nth, put, zip, agree, when, given, again, walk, one_of, some_of}
+use Rattle.meaning.specs.Table.{ID, FAIL, by_kind, operands}
+use Rattle.meaning.specs.Plan.{keep, drop, ret, fail, ask}
+use Rattle.meaning.specs.Rules.{apply, match, build, Do, strategy, nth, put, agree, when, given, again, one_of}
 use Rattle.meaning.specs.Limits.{ended, lost, run_plan}
 use Rattle.meaning.specs.Store.{children}
-use Rattle.state.specs.Noted.{Standing, on, stored, Ran, left_of}
-use Rattle.state.specs.Answers.{node_in, units_in}
-use Rattle.state.specs.Record.{mark_of, notes_of, standing, held}
-use Rattle.state.specs.Visits.{visit, plan, ruled, Entries, Steady, Matchable}
+use Rattle.state.specs.Noted.{Standing, on, left_of}
+use Rattle.state.specs.Answers.{node_in}
+use Rattle.state.specs.Record.{mark_of}
+use Rattle.state.specs.Visits.{visit, plan, ruled, Matchable}
 use Rattle.cycle.specs.Cycle.{visits, walked, Ready}
 use Rattle.leaves.proofs.Kind.{kind-is, rule-is}
 use Rattle.state.proofs.Asking.{last}

@@ -30,7 +30,7 @@ use Rattle.leaves.proofs.Walking.{returned}
 use Rattle.leaves.proofs.Patterns.{scope-operand-below}
 use Rattle.cycle.proofs.Ruling.{ruled-scope}
 use Rattle.state.proofs.Holding.{further, length-hidden, mark-hidden, notes-hidden, held-hidden, held-apart, held-unscope, framed-unscope}
-use Rattle.state.proofs.Holding.{shown, length-shown, mark-shown, notes-shown, held-shown, framed-shown}
+use Rattle.state.proofs.Holding.{shown, mark-shown, notes-shown, held-shown, framed-shown}
 
 -- a visit's answer r with the record st, and the same word with a record st'' that holds f of the bindings
 rebound : (t : List ℕ) (n : ℕ) (q : Visit ℕ) (w : List ℕ) (m : Standing) (u r : ℕ) (st w' : List ℕ) → out r st w' ≡ visit t n q w m u

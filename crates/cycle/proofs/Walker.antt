@@ -2,27 +2,25 @@
 use mathlib.Core.Path.{◌≡◌, refl, ap, sym, ◌∙◌, subst}
 use mathlib.Core.Bool.{Bool, true, false, true≢false}
 use mathlib.Core.List.{List, [], ◌∷◌, ◌++◌, map}
-use mathlib.Core.Logic.{◌⊎◌, ⊎_elim}
-use Prim.Native.Nat.{ℕ, zero, suc, ◌+◌, ◌-◌, ◌*◌, ◌/◌, ◌%◌, ◌<◌, ◌≤◌, min}
+use Prim.Native.Nat.{ℕ, zero, suc, ◌+◌, ◌-◌, ◌<◌, ◌≤◌, min}
 use native.Mathlib.Omega.{arith}
-use lib.Dec.{eqb, leb, ltb}
-use lib.ListN.{length, drop, set, get_or, length-set, drop_of_length-le, length-map}
+use lib.Dec.{eqb, ltb}
+use lib.ListN.{length, drop, set, get_or, length-set}
 use borrow.Author.Tests.{eq-eqb, ne_eqb, le-ltb, eqb-true, eqb-false}
-use Rattle.words.specs.Words.{word_at, rows, put_row}
-use Rattle.std.specs.Prelude.{Option, Some, None, if◌then◌else◌}
+use Rattle.words.specs.Words.{word_at}
+use Rattle.std.specs.Prelude.{Option, Some, None, MatchOption, if◌then◌else◌}
 use Rattle.checks.specs.Good.{kind_of, operand_count, constructor_of, child_count}
 use Rattle.meaning.specs.Bindings.{Bindings}
-use Rattle.meaning.specs.Table.{operands, six}
-use Rattle.meaning.specs.Plan.{keep, ret, fail, make, ask}
-use Rattle.meaning.specs.Rules.{Visit, apply, Do, zip, when, again, walk, some_of}
-use Rattle.meaning.specs.Limits.{ended, lost, at, room_for, run_plan}
-use Rattle.meaning.specs.Store.{children, row}
-use Rattle.state.specs.Noted.{Standing, on, stored, Ran, left_of}
-use Rattle.meaning.specs.Demands.{Kept, Leaves}
+use Rattle.meaning.specs.Table.{operands}
+use Rattle.meaning.specs.Plan.{keep, fail, ask}
+use Rattle.meaning.specs.Rules.{apply, Do, zip, when, again, walk, some_of}
+use Rattle.meaning.specs.Limits.{ended, lost, run_plan}
+use Rattle.meaning.specs.Store.{children}
+use Rattle.state.specs.Noted.{Standing, on, left_of}
+use Rattle.meaning.specs.Demands.{Kept}
 use Rattle.meaning.proofs.Checked.{node-of-good}
 use Rattle.meaning.proofs.Words.{kept_refl, kept_trans, kept_word}
-use Rattle.state.specs.declared.answers.Answer.{Answer}
-use Rattle.state.specs.declared.answers.Answer.TheVariants.{Done, Failed, Cut}
+use Rattle.state.specs.declared.answers.Answer.TheVariants.{Done, Failed}
 use Rattle.state.specs.declared.answers.Attempt.{Attempt}
 use Rattle.state.specs.declared.answers.Attempt.TheVariants.{Ended, Cut as Off}
 use Rattle.state.specs.Answers.{packed, node_in, units_in, units_word, answer_of, attempt_of}
@@ -36,10 +34,10 @@ use Rattle.index.specs.Run.{Fits}
 use Rattle.cycle.proofs.Rowing.{again-noded, ready-stored}
 use Rattle.state.proofs.Storing.{kept-stored}
 use Rattle.state.proofs.Holding.{further, held_back, mark-back, notes-back, framed-back, length_back, framed-refl, framed-trans}
-use Rattle.leaves.proofs.Children.{part_length, part-next, part_end, filled, filled_next, one_more, filled_row}
+use Rattle.leaves.proofs.Children.{part-next, part_end, filled, filled_next, one_more, filled_row}
 use Rattle.leaves.proofs.Patterns.{operand_below}
 use Rattle.cycle.proofs.Ahead.{leads-on, leads-inside}
-use Rattle.cycle.proofs.Operators.{ends, fails, not-caught}
+use Rattle.cycle.proofs.Operators.{fails, not-caught}
 
 -- a term without children
 itself : (t : List ℕ) (n k c : ℕ) (b : Bindings ℕ) (w : List ℕ) (m : Standing) (u : ℕ) → plan t n (again k c [] b) w m u ≡ ended k b (on w m) u
@@ -140,6 +138,14 @@ pub childless : (t w : List ℕ) (e k n : ℕ) (b : Bindings ℕ) (m : Standing)
 childless t w e k n b m u h z =
     ap (λ p. plan t n p w m u) (sym (rest_all t w e k b) ∙ rest_end t w e k (λ f. omega (arith, h, f), λ f. absurd (omega arith)) 0 false [] b (omega (arith, z)))
     ∙ rw (ne_eqb (kind_of t e) 13 (λ f. omega arith)) (itself t n k (constructor_of w k) b w m u)
+
+-- what a result says of its two cases
+pub when-none : {T : Type 0} (A : Type 0) (B : T → Type 0) (o : Option T) → MatchOption o A B → ((x : T) → o ≡ Some x → ⊥) → A
+when-none A B None a h = a
+when-none A B (Some x) b h = absurd (h x refl)
+
+pub when-some : {T : Type 0} (A : Type 0) (B : T → Type 0) (o : Option T) → MatchOption o A B → (x : T) → o ≡ Some x → B x
+when-some A B o m x e = subst (λ o. MatchOption o A B) e m
 
 -- the words of the node that is made: its children are the first, the second, and the four after them
 pub placed : {a' b' y : ℕ} {more' : List ℕ} (i x c n a b : ℕ) (more : List ℕ) → a' ≡ (if eqb i 0 then y else a) → b' ≡ (if eqb i 1 then y else b)

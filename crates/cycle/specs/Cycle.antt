@@ -4,8 +4,8 @@ use Rattle.words.specs.Words.{word_at}
 use Rattle.checks.specs.Good.{kind_of, operand_count, constructor_of}
 use Rattle.meaning.specs.Bindings.{Bindings}
 use Rattle.meaning.specs.Table.{operands}
-use Rattle.meaning.specs.Rules.{Visit, apply, Do, does, walk, some_of, again, zip}
-use Rattle.meaning.specs.Limits.{units, nesting, ended, lost, cut}
+use Rattle.meaning.specs.Rules.{Visit, apply, Do, walk, some_of, again, zip}
+use Rattle.meaning.specs.Limits.{units, ended, lost, cut}
 use Rattle.meaning.specs.Store.{children}
 use Rattle.state.specs.Noted.{Standing, missed_at, on, Ran, left_of}
 use Rattle.state.specs.Answers.{node_in, units_in}

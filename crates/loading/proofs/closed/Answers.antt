@@ -1,7 +1,6 @@
 use Prim.Native.Nat.{ℕ, ◌+◌}
 use mathlib.Core.Path.{ap, sym, ◌∙◌}
 use native.Mathlib.Omega.{arith}
-use Rattle.state.specs.Record.{held}
 use Rattle.state.proofs.Holding.{further, held-some}
 use Rattle.loading.proofs.Copying.{written-more, written_all, word_some, word_none}
 use Rattle.loading.proofs.closed.Goals as goal

@@ -1,13 +1,13 @@
-use Prim.Native.Nat.{◌+◌, ◌-◌, ◌<◌, ◌≤◌}
+use Prim.Native.Nat.{◌<◌, ◌≤◌}
 use Rattle.cycle.proofs.Agreeing.{cong-counted, gives-cong, gives-cong-failed}
-use Rattle.cycle.proofs.Descending.{fits-path, fits_one, gives-one-none, gives-one-off, gives-one-short, gives-path, gives-path-past, gives-path-stops, gives-path-zero, gives_one, one-begins, one_again, ready-one, ready-path, stored-path, stored_one}
+use Rattle.cycle.proofs.Descending.{fits-path, fits_one, gives-one-none, gives-one-off, gives-one-short, gives-path, gives-path-past, gives-path-stops, gives-path-zero, gives_one, is-none, one-begins, one_again, ready-one, ready-path, stored-path, stored_one}
 use Rattle.state.proofs.Asking.{Tagged-not_done, Tagged-not_failed}
 use Rattle.cycle.proofs.Looping.{all-itself, ends-nesting, ends-units, first-turn, last-kind, left-returns, left-turn, no-scope, of_two, pos, ready-next, ready-same, rec-turn, same-node, seq-returns, seq-turn, skip-turn, two-kinds, whole}
-use Rattle.cycle.proofs.Returning.{gives-failure, gives-guard-off, gives-id, gives-not, gives-not-failed, gives-test, gives-test-failed, gives-where, gives-where-stops, no-rule, renamed, ruled-none}
+use Rattle.cycle.proofs.Returning.{alike, unlike, gives-failure, gives-guard, gives-guard-failed, gives-guard-off, gives-id, gives-where, gives-where-stops, no-rule, renamed, ruled-none}
 use Rattle.cycle.proofs.Rowing.{ready-stored}
 use Rattle.cycle.proofs.Ruling.{ready-operand, ruled-all, ruled-build, ruled-match, ruled-some}
 use Rattle.cycle.proofs.Scoping.{gives-hiding, gives-scope, ready-hiding, ready-scope}
-use Rattle.cycle.proofs.Walker.{ahead-gives, ahead-ready, ahead-short, four-still, going-ends, going-first, going-fits, going-long, going-no, going-off, going-small, going-stops, going-stored, going-yes, placed, whole-made}
+use Rattle.cycle.proofs.Walker.{ahead-gives, ahead-ready, ahead-short, four-still, going-ends, going-first, going-fits, going-long, going-no, going-off, going-small, going-stops, going-stored, going-yes, placed, when-none, when-some, whole-made}
 use Rattle.cycle.specs.Cycle.{operand_for}
 use Rattle.leaves.proofs.Patterns.{operand_below}
 use Rattle.meaning.specs.Rules.{apply}
@@ -15,11 +15,11 @@ use Rattle.state.proofs.Storing.{steady-stored}
 use Rattle.state.specs.Answers.{node_in, packed, units_in}
 use Rattle.state.specs.Record.{held, standing}
 use Rattle.state.specs.Visits.{Gives, count_of, visit}
-use mathlib.Core.Logic.{inl, inr}
+use mathlib.Core.Logic.{inl, inr, ⊎_elim}
 use mathlib.Core.Path.{refl, sym, ◌∙◌, ◌≡◌}
 use native.Mathlib.Omega.{arith}
 use Rattle.cycle.proofs.visits.+visiting.Goals as goal
-use Rattle.cycle.proofs.visits.+visiting.Goals.{apply_first-then-kind-ne-CONG+else-kind-ne-SCOPE, apply_first-else-kind-ne-CONG, apply_loop-in_default-via-then-kind-lt4, apply_loop-in_default-via-else-kind-lt4+else-kind-lt7+else-kind-lt9, rule-in_default-via-then-kind-lt2, rule-in_default-via-else-kind-lt2+else-kind-lt4, walk-then-yes, walk-else-yes+else-kind-ne-SOME}
+use Rattle.cycle.proofs.visits.+visiting.Goals.{apply_first-else-kind-ne-CONG-via-then-kind-ne-CONG+else-kind-ne-SCOPE, apply_first-else-kind-ne-CONG-via-else-kind-ne-CONG, apply_loop-in_default-via-then-this-lt4, apply_loop-in_default-via-else-this-lt4+else-this-lt7+else-this-lt9, rule-in_default-via-then-this-lt2, rule-in_default-via-else-this-lt2+else-this-lt4, path-then-i-eq0-via-then-i-eq0, path-then-i-eq0-via-else-i-eq0+then-count-i, walk-in-Some, walk-in-None+in-Some-saved}
 
 -- ---- apply
 
@@ -100,7 +100,7 @@ apply_first-returns-then-kind-eq-SCOPE t c =
 
 pub apply_first-cong-requires : goal.apply_first-cong-requires
 apply_first-cong-requires t c =
-    let k : c.kind-kind.result ≡ 10 = elim c.if-kind-ne-CONG.branch [ apply_first-then-kind-ne-CONG+else-kind-ne-SCOPE w ↦ absurd (c.if-kind-eq-SCOPE.false w.if-kind-ne-SCOPE.false) | apply_first-else-kind-ne-CONG w ↦ w.if-kind-ne-CONG.false ] in (
+    let k : c.kind-kind.result ≡ 10 = elim c.else-kind-ne-CONG.branch [ apply_first-else-kind-ne-CONG-via-then-kind-ne-CONG+else-kind-ne-SCOPE w ↦ absurd (c.if-kind-eq-SCOPE.false w.if-kind-ne-SCOPE.false) | apply_first-else-kind-ne-CONG-via-else-kind-ne-CONG w ↦ w.if-kind-ne-CONG.false ] in (
       omega (arith, pos _ c.if-deep-eq0.false),
       (
         ready-same (first-turn _ c.requires
@@ -239,8 +239,8 @@ apply_loop-returns-in-12 t c =
     c.if-left-eq0.false
     c.if-d-eq0.false c.one.ensures
 
-pub apply_loop-visits_to_failure-fails-requires : goal.apply_loop-visits_to_failure-fails-requires
-apply_loop-visits_to_failure-fails-requires t c = (
+pub apply_loop-visits_to_failure-requires : goal.apply_loop-visits_to_failure-requires
+apply_loop-visits_to_failure-requires t c = (
   c.loop-start.invariant.ready.hints,
   c.loop-start.invariant.ready.inside,
   operand_below _ c.loop-start.invariant.ready.entries _ 2
@@ -249,14 +249,14 @@ apply_loop-visits_to_failure-fails-requires t c = (
   rw (same-node _ c.if-left-eq0.false) (ready-stored c.loop-start.invariant.ready),
 )
 
-pub apply_loop-loop-start-smaller-then-fails-ne0 : goal.apply_loop-loop-start-smaller-then-fails-ne0
-apply_loop-loop-start-smaller-then-fails-ne0 t c =
+pub apply_loop-loop-start-smaller-in-Some : goal.apply_loop-loop-start-smaller-in-Some
+apply_loop-loop-start-smaller-in-Some t c =
     omega (arith, pos _ c.if-d-eq0.false)
 
-pub apply_loop-loop-start-preserved-then-fails-ne0 : goal.apply_loop-loop-start-preserved-then-fails-ne0
-apply_loop-loop-start-preserved-then-fails-ne0 t c =
-    skip-turn c.loop-start.invariant c.if-left-eq0.false c.if-d-eq0.false refl c.visits_to_failure-fails.ensures
-    c.if-fails-ne0.true (of_two _ _ 5 c.kind.ensures (omega arith) (omega arith)) c.entry-then-fails-ne0.ensures c.entry-e-then-fails-ne0.ensures
+pub apply_loop-loop-start-preserved-in-Some : goal.apply_loop-loop-start-preserved-in-Some
+apply_loop-loop-start-preserved-in-Some t c =
+    skip-turn c.loop-start.invariant c.if-left-eq0.false c.if-d-eq0.false refl c.in-Some.ensures
+    (of_two _ _ 5 c.kind.ensures (omega arith) (omega arith)) c.entry-in-Some.ensures c.entry-e-in-Some.ensures
 
 pub apply_loop-apply_first-got-requires : goal.apply_loop-apply_first-got-requires
 apply_loop-apply_first-got-requires t c = (
@@ -274,13 +274,13 @@ apply_loop-returns-in_default-answer_of-2 t c =
     (of_two _ _ 5 c.kind.ensures (omega arith) (omega arith)) refl
     (Tagged-not_failed _ c.in_default-answer_of-2.not-Failed)
 
-pub apply_loop-loop-start-smaller-then-kind-lt7 : goal.apply_loop-loop-start-smaller-then-kind-lt7
-apply_loop-loop-start-smaller-then-kind-lt7 t c =
+pub apply_loop-loop-start-smaller-then-this-lt7 : goal.apply_loop-loop-start-smaller-then-this-lt7
+apply_loop-loop-start-smaller-then-this-lt7 t c =
     omega (arith, pos _ c.if-d-eq0.false)
 
-pub apply_loop-loop-start-preserved-then-kind-lt7 : goal.apply_loop-loop-start-preserved-then-kind-lt7
-apply_loop-loop-start-preserved-then-kind-lt7 t c =
-    rw (c.restore.ensures, c.mask_of-mask.ensures)
+pub apply_loop-loop-start-preserved-then-this-lt7 : goal.apply_loop-loop-start-preserved-then-this-lt7
+apply_loop-loop-start-preserved-then-this-lt7 t c =
+    rw (c.restore.ensures, c.save-saved.ensures.mark, c.save-saved.ensures.mask)
     (left-turn c.loop-start.invariant c.if-left-eq0.false c.if-d-eq0.false c.entry-first.ensures
     c.apply_first-got.ensures c.answer_of-in-5-to-6.ensures
     (of_two _ _ 5 c.kind.ensures (omega arith) (omega arith))
@@ -301,7 +301,7 @@ apply_loop-rule-requires t c = (
     ready-same c.loop-start.invariant c.if-left-eq0.false c.if-d-eq0.false,
     last-kind _ _ c.kind.ensures
         (λ z. omega arith) (λ z. omega arith) (λ z. omega arith)
-        (elim c.in_default.branch [ apply_loop-in_default-via-then-kind-lt4 w ↦ inl (omega arith) | apply_loop-in_default-via-else-kind-lt4+else-kind-lt7+else-kind-lt9 w ↦ inr (omega arith) ]),
+        (elim c.in_default.branch [ apply_loop-in_default-via-then-this-lt4 w ↦ inl (omega arith) | apply_loop-in_default-via-else-this-lt4+else-this-lt7+else-this-lt9 w ↦ inr (omega arith) ]),
   ),
 )
 
@@ -371,29 +371,17 @@ pub guard-returns-in_default : goal.guard-returns-in_default
 guard-returns-in_default t c =
     gives-guard-off _ c.requires.0 c.entry.ensures c.apply-got.ensures c.attempt_of.ensures c.requires.1 c.in_default.is
 
-pub guard-returns-then-yes : goal.guard-returns-then-yes
-guard-returns-then-yes t c =
-    rw (c.restore.ensures, c.mask_of-mask.ensures)
-    (gives-test _ c.requires.0 c.entry.ensures c.apply-got.ensures c.attempt_of.ensures c.requires.1
-    c.in-Ended.is c.kind.ensures c.if-kind-eq-TEST.true c.if-yes.true c.done.ensures)
+pub guard-returns-then-is_some-kind : goal.guard-returns-then-is_some-kind
+guard-returns-then-is_some-kind t c =
+    rw (c.restore.ensures, c.save-saved.ensures.mark, c.save-saved.ensures.mask)
+    (gives-guard _ c.requires.0 c.entry.ensures c.apply-got.ensures c.attempt_of.ensures c.requires.1
+    c.in-Ended.is c.kind.ensures (sym c.is_some.ensures ∙ alike _ _ c.if-is_some-kind.true) c.done.ensures)
 
-pub guard-returns-then-kind-eq-TEST : goal.guard-returns-then-kind-eq-TEST
-guard-returns-then-kind-eq-TEST t c =
-    rw (c.restore.ensures, c.mask_of-mask.ensures)
-    (gives-test-failed _ c.requires.0 c.entry.ensures c.apply-got.ensures c.attempt_of.ensures c.requires.1
-    c.in-Ended.is c.kind.ensures c.if-kind-eq-TEST.true c.if-yes.false c.failure.ensures)
-
-pub guard-returns-then-yes-2 : goal.guard-returns-then-yes-2
-guard-returns-then-yes-2 t c =
-    rw (c.restore.ensures, c.mask_of-mask.ensures)
-    (gives-not-failed _ c.requires.0 c.entry.ensures c.apply-got.ensures c.attempt_of.ensures c.requires.1
-    c.in-Ended.is c.kind.ensures c.if-kind-eq-TEST.false c.if-yes-2.true c.failure-then-yes-2.ensures)
-
-pub guard-returns : goal.guard-returns
-guard-returns t c =
-    rw (c.restore.ensures, c.mask_of-mask.ensures)
-    (gives-not _ c.requires.0 c.entry.ensures c.apply-got.ensures c.attempt_of.ensures c.requires.1
-    c.in-Ended.is c.kind.ensures c.if-kind-eq-TEST.false c.if-yes-2.false c.done-2.ensures)
+pub guard-returns-else-is_some-kind : goal.guard-returns-else-is_some-kind
+guard-returns-else-is_some-kind t c =
+    rw (c.restore.ensures, c.save-saved.ensures.mark, c.save-saved.ensures.mask)
+    (gives-guard-failed _ c.requires.0 c.entry.ensures c.apply-got.ensures c.attempt_of.ensures c.requires.1
+    c.in-Ended.is c.kind.ensures (λ z. unlike _ _ c.if-is_some-kind.false (c.is_some.ensures ∙ z)) c.failure.ensures)
 
 -- ---- hiding
 
@@ -466,31 +454,31 @@ one-row-made-requires t c =
     let enough : c.visits_ahead-ahead.result ≤ c.loop-i.left = omega (arith, c.if-left-ahead.false) in
     stored_one c.args.deep c.requires.0 c.loop-i.invariant c.loop-i-test.true c.requires.1
     c.visits_ahead-ahead.ensures c.entry_ahead-op.ensures c.node_word.ensures enough c.done.ensures
-    c.apply_loop-got.ensures c.attempt_of.ensures c.in-Ended.is c.if-yes.true
+    c.apply_loop-got.ensures c.attempt_of.ensures c.in-Ended.is c.in-Some.is
 
 pub one-node-requires : goal.one-node-requires
 one-node-requires t c =
     let enough : c.visits_ahead-ahead.result ≤ c.loop-i.left = omega (arith, c.if-left-ahead.false) in (
       fits_one c.args.deep c.requires.0 c.loop-i.invariant c.loop-i-test.true c.requires.1
           c.visits_ahead-ahead.ensures c.entry_ahead-op.ensures c.node_word.ensures enough c.done.ensures
-          c.apply_loop-got.ensures c.attempt_of.ensures c.in-Ended.is c.if-yes.true,
+          c.apply_loop-got.ensures c.attempt_of.ensures c.in-Ended.is c.in-Some.is,
       c.apply_loop-got.ensures.frame.long ∙ c.loop-i.invariant.wide ∙ c.requires.0.long,
     )
 
-pub one-returns-then-yes : goal.one-returns-then-yes
-one-returns-then-yes t c =
+pub one-returns-in-Some : goal.one-returns-in-Some
+one-returns-in-Some t c =
     let enough : c.visits_ahead-ahead.result ≤ c.loop-i.left = omega (arith, c.if-left-ahead.false) in
     gives_one _ c.requires.0 c.loop-i.invariant c.loop-i-test.true c.requires.1 c.visits_ahead-ahead.ensures
     c.entry_ahead-op.ensures c.node_word.ensures enough c.done.ensures c.apply_loop-got.ensures
-    c.attempt_of.ensures c.in-Ended.is c.if-yes.true c.row-made.ensures c.node.ensures
+    c.attempt_of.ensures c.in-Ended.is c.in-Some.is c.row-made.ensures c.node.ensures
 
 pub one-loop-i-preserved : goal.one-loop-i-preserved
 one-loop-i-preserved t c =
     let enough : c.visits_ahead-ahead.result ≤ c.loop-i.left = omega (arith, c.if-left-ahead.false) in
-    rw (c.restore.ensures, c.mask_of-mask.ensures)
+    rw (c.restore.ensures, c.save-saved.ensures.mark, c.save-saved.ensures.mask)
     (one_again _ c.requires.0 c.loop-i.invariant c.loop-i-test.true c.requires.1 c.visits_ahead-ahead.ensures
     c.entry_ahead-op.ensures c.node_word.ensures enough c.done.ensures c.apply_loop-got.ensures
-    c.attempt_of.ensures c.in-Ended.is c.if-yes.false)
+    c.attempt_of.ensures c.in-Ended.is (is-none _ c.in_default-term.not-Some))
 
 pub one-returns : goal.one-returns
 one-returns t c =
@@ -502,13 +490,13 @@ one-returns t c =
 -- there is such a child, and it is in hand
 -- its visit has been made
 pub path-returns-then-i-eq0 : goal.path-returns-then-i-eq0
-path-returns-then-i-eq0 t c =
-    gives-path-zero _ c.requires.0 c.requires.1 c.entry-i.ensures c.if-i-eq0.true c.failure.ensures
-
-pub path-returns-then-count-i : goal.path-returns-then-count-i
-path-returns-then-count-i t c =
-    gives-path-past _ c.requires.0 c.requires.1 c.entry-i.ensures c.count.ensures c.if-i-eq0.false
-    c.if-count-i.true c.failure-then-count-i.ensures
+path-returns-then-i-eq0 t c = elim c.then-i-eq0.branch [
+  | path-then-i-eq0-via-then-i-eq0 w ↦
+      gives-path-zero _ c.requires.0 c.requires.1 c.entry-i.ensures w.if-i-eq0.true c.failure.ensures
+  | path-then-i-eq0-via-else-i-eq0+then-count-i w ↦
+      gives-path-past _ c.requires.0 c.requires.1 c.entry-i.ensures w.count.ensures w.if-i-eq0.false w.if-count-i.true
+      c.failure.ensures
+]
 
 pub path-apply-got-requires : goal.path-apply-got-requires
 path-apply-got-requires t c = (
@@ -555,22 +543,8 @@ rule-walk-requires t c = (
   (
     c.requires.0,
     (
-      λ z. omega (arith, c.kind.ensures, c.in-11.is, z),
-      λ z. absurd
-          (two-kinds c.kind.ensures c.in-11.is z (omega arith)),
-    ),
-  ),
-)
-
-pub rule-walk-requires-in-13 : goal.rule-walk-requires-in-13
-rule-walk-requires-in-13 t c = (
-  omega arith,
-  (
-    c.requires.0,
-    (
-      λ z. omega (arith, c.kind.ensures, c.in-13.is, z),
-      λ z. absurd
-          (two-kinds c.kind.ensures c.in-13.is z (omega arith)),
+      λ z. ⊎_elim (λ y. omega (arith, c.kind.ensures, y, z)) (λ y. omega (arith, c.kind.ensures, y, z)) c.in-11.is,
+      λ z. absurd (⊎_elim (λ y. two-kinds c.kind.ensures y z (omega arith)) (λ y. two-kinds c.kind.ensures y z (omega arith)) c.in-11.is),
     ),
   ),
 )
@@ -598,13 +572,8 @@ rule-returns-in-0 t c =
 
 pub rule-returns-in-11 : goal.rule-returns-in-11
 rule-returns-in-11 t c =
-    renamed c.walk.ensures (sym (ruled-all _ _ _ _ _ _ _ _
-    (sym c.kind.ensures ∙ c.in-11.is)))
-
-pub rule-returns-in-13 : goal.rule-returns-in-13
-rule-returns-in-13 t c =
-    renamed c.walk-in-13.ensures (sym (ruled-some _ _ _ _ _ _ _ _
-    (sym c.kind.ensures ∙ c.in-13.is)))
+    renamed c.walk.ensures (sym (⊎_elim (λ y. ruled-all _ _ _ _ _ _ _ _ (sym c.kind.ensures ∙ y))
+    (λ y. ruled-some _ _ _ _ _ _ _ _ (sym c.kind.ensures ∙ y)) c.in-11.is))
 
 pub rule-returns-in-14 : goal.rule-returns-in-14
 rule-returns-in-14 t c =
@@ -621,8 +590,8 @@ rule-returns-in-15 t c =
 pub rule-returns-in_default : goal.rule-returns-in_default
 rule-returns-in_default t c =
     gives-failure _ c.requires.0 (ruled-none _ c.requires.0 c.kind.ensures
-    (no-rule _ _ c.kind.ensures c.requires.1 (elim c.in_default.branch [ rule-in_default-via-then-kind-lt2 w ↦ inl (omega arith) | rule-in_default-via-else-kind-lt2+else-kind-lt4 w ↦ inr (omega arith) ])
-    (λ z. omega arith) (λ z. omega arith) (λ z. omega arith) (λ z. omega arith) (λ z. omega arith) (λ z. omega arith) (λ z. omega arith) (λ z. omega arith))) c.failure.ensures
+    (no-rule _ _ c.kind.ensures c.requires.1 (elim c.in_default.branch [ rule-in_default-via-then-this-lt2 w ↦ inl (omega arith) | rule-in_default-via-else-this-lt2+else-this-lt4 w ↦ inr (omega arith) ])
+    (λ z. omega arith) (λ z. omega arith) (λ z. grind arith) (λ z. grind arith) (λ z. omega arith) (λ z. omega arith) (λ z. omega arith) (λ z. omega arith))) c.failure.ensures
 
 -- ---- scope
 
@@ -682,8 +651,8 @@ walk-returns-in_default t c =
     going-off c.requires.0 c.requires.1 c.loop-i.invariant.0 child refl c.kind-kind.ensures
     c.node_word-c.ensures refl gives c.attempt_of.ensures c.in_default.is
 
-pub walk-returns-then-kind-ne-SOME : goal.walk-returns-then-kind-ne-SOME
-walk-returns-then-kind-ne-SOME t c =
+pub walk-returns-in_default-saved : goal.walk-returns-in_default-saved
+walk-returns-in_default-saved t c =
     let child : c.loop-i.i < count_of c.args.store.now (node_in c.args.s) = omega (arith, c.count-n.ensures, c.loop-i-test.true) in
     let gives : Gives (visit c.args.table.now c.args.deep (apply (operand_for c.args.table.now c.args.e c.kind-kind.result c.loop-i.i)
     (node_in (packed c.node_word-c.result c.loop-i.left)) (held c.loop-i.st)) c.loop-i.store (standing c.loop-i.st)
@@ -692,8 +661,8 @@ walk-returns-then-kind-ne-SOME t c =
     c.entry_ahead-first.ensures c.operand.ensures c.node_word-c.ensures c.done.ensures (omega (arith, c.if-left-ahead.false))
     c.apply-got.ensures in
     going-stops c.requires.0 c.requires.1 c.loop-i.invariant.0 child refl c.kind-kind.ensures
-    c.node_word-c.ensures refl gives c.attempt_of.ensures c.in-Ended.is c.kind-kind.ensures c.if-kind-ne-SOME.true
-    c.if-yes.false
+    c.node_word-c.ensures refl gives c.attempt_of.ensures c.in-Ended.is c.kind-kind.ensures
+    (when-none _ _ _ c.save_for-saved.ensures c.in_default-saved.not-Some) c.in-None.is
 
 pub walk-loop-i-preserved : goal.walk-loop-i-preserved
 walk-loop-i-preserved t c =
@@ -704,18 +673,19 @@ walk-loop-i-preserved t c =
     ahead-gives c.requires.0 c.requires.1 c.loop-i.invariant.0 child _ _ c.visits_ahead-ahead.ensures c.kind-kind.ensures
     c.entry_ahead-first.ensures c.operand.ensures c.node_word-c.ensures c.done.ensures (omega (arith, c.if-left-ahead.false))
     c.apply-got.ensures in (
-      elim c.if-yes.branch [
-        | walk-then-yes j ↦
+      elim c.match-term.branch [
+        | walk-in-Some j ↦
             going-yes c.requires.0 c.requires.1 c.loop-i.invariant.0 child refl c.kind-kind.ensures c.node_word-c.ensures
-            refl gives c.attempt_of.ensures c.in-Ended.is j.if-yes.true j.st-is j.won-is
+            refl gives c.attempt_of.ensures c.in-Ended.is j.in-Some.is j.st-is j.won-is
             (placed c.loop-i.i _ _ _ c.loop-i.a c.loop-i.b c.loop-i.others c.child_at-a.ensures c.child_at-b.ensures c.others_at-others.ensures j.y-is)
-        | walk-else-yes+else-kind-ne-SOME j ↦
+        | walk-in-None+in-Some-saved j ↦
+            let s = when-some _ _ _ c.save_for-saved.ensures _ j.in-Some-saved.is in
             going-no c.requires.0 c.requires.1 c.loop-i.invariant.0 child refl c.kind-kind.ensures c.node_word-c.ensures
-            refl gives c.attempt_of.ensures c.in-Ended.is j.if-yes.false c.kind-kind.ensures j.if-kind-ne-SOME.false
-            c.saved_mark-mark.ensures c.saved_mask-mask.ensures (j.st-is ∙ j.restore.ensures) j.won-is
+            refl gives c.attempt_of.ensures c.in-Ended.is j.in-None.is c.kind-kind.ensures s.0 s.1 s.2
+            (j.st-is ∙ j.restore.ensures) j.won-is
             (placed c.loop-i.i _ _ _ c.loop-i.a c.loop-i.b c.loop-i.others c.child_at-a.ensures c.child_at-b.ensures c.others_at-others.ensures j.y-is)
       ],
-      four-still c.loop-i.others c.loop-i.i c.if-yes.y c.loop-i.invariant.1 c.others_at-others.ensures,
+      four-still c.loop-i.others c.loop-i.i c.match-term.y c.loop-i.invariant.1 c.others_at-others.ensures,
     )
 
 pub walk-finish-requires : goal.walk-finish-requires

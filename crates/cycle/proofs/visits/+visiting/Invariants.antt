@@ -1,5 +1,5 @@
 -- The nesting falls at each visit; within one visit the functions call one another in the order of the numbers added here.
-use Rattle.std.proofs.Common.{◌≡◌, ◌-◌, ◌+◌, ◌*◌, ◌∷◌, length}
+use Rattle.std.proofs.Common.{◌≡◌, ◌+◌, ◌*◌, ◌∷◌, length}
 use Rattle.cycle.proofs.Looping.{Turn}
 use Rattle.cycle.proofs.Descending.{Trying}
 use Rattle.cycle.proofs.Walker.{Going}

@@ -1,5 +1,4 @@
 -- `visits_ahead` reads its number in the table, where the nesting is enough. Assumes nothing.
-use mathlib.Core.Path.{sym, ◌∙◌}
 use native.Mathlib.Omega.{arith}
 use Rattle.cycle.proofs.Ahead.{ahead_none, ahead-hint, one-of-three}
 use Rattle.cycle.proofs.visits.visits_ahead.Goals as goal

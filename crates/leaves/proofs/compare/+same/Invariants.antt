@@ -4,7 +4,7 @@
 use mathlib.Core.Path.{◌≡◌}
 use Rattle.state.specs.Visits.{count_of, Stored}
 use Rattle.leaves.proofs.Comparing.{Pair, FromPair}
-use Prim.Native.Nat.{◌-◌, ◌<◌, ◌≤◌}
+use Prim.Native.Nat.{◌<◌, ◌≤◌}
 use Rattle.leaves.proofs.compare.+same.Given as goal
 
 abbrev pub decreases-same : goal.decreases-same

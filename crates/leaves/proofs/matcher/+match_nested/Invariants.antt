@@ -5,7 +5,7 @@ use lib.ListN.{length}
 use Rattle.checks.specs.Good.{operand_count}
 use Rattle.state.specs.Record.{record_long}
 use Rattle.leaves.proofs.Matching.{Matched}
-use Prim.Native.Nat.{◌-◌, ◌<◌, ◌≤◌}
+use Prim.Native.Nat.{◌<◌, ◌≤◌}
 use Rattle.leaves.proofs.matcher.+match_nested.Given as goal
 
 abbrev pub decreases-match_nested : goal.decreases-match_nested
