@@ -16,7 +16,7 @@ pub(crate) fn line_at(text: &[u8], at: usize) -> Bounds
     ensures { result ≡ bounds_at text.now at }
 {
     if at < text.len() {
-        let end = next_at(text, at, 10);
+        let end = next_at(text, at, b'\n');
         if end < text.len() {
             return Bounds { end, next: end + 1 };
         }

@@ -11,23 +11,25 @@ pub struct Reader<'a> {
     pub at: usize,
 }
 
-// A reader at a place of a text.
-fn new<'a>(text: &'a [u8], at: usize) -> Reader<'a>
-    ensures { (result.text ≡ text.entry) × (result.at ≡ at) }
-{
-    Reader { text, at }
-}
+impl<'a> Reader<'a> {
+    // A reader at a place of a text.
+    fn new(text: &'a [u8], at: usize) -> Reader<'a>
+        ensures { (result.text ≡ text.entry) × (result.at ≡ at) }
+    {
+        Reader { text, at }
+    }
 
-// The line that begins at the reader's place.
-fn line<'a>(r: Reader<'a>) -> Bounds
-    ensures { result ≡ bounds_at r.entry.text.now r.entry.at }
-{
-    line_at(r.text, r.at)
+    // The line that begins at the reader's place.
+    fn line(self) -> Bounds
+        ensures { result ≡ bounds_at self.entry.text.now self.entry.at }
+    {
+        line_at(self.text, self.at)
+    }
 }
 
 // The line that begins at a place of a text, by a reader.
 pub fn line_from(text: &[u8], at: usize) -> Bounds
     ensures { result ≡ bounds_at text.now at }
 {
-    line(new(text, at))
+    Reader::new(text, at).line()
 }
