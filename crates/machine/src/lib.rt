@@ -7,8 +7,9 @@ ghost use Rattle.std.specs.Int.Bits.{bit_and};
 ghost use Rattle.machine.specs.Machine.{Lent, Carried, Halts, Comes, Turned, Gone};
 
 use crate::frames::{copy_words, kept_mask, move_on, open, restore, take_turn};
-use crate::nodes::{put_node, row_at};
+use crate::nodes::put_node;
 use turns::turn::{Asked, RECORD, Turn};
+use words::row;
 
 mod frames;
 mod nodes;
@@ -96,7 +97,7 @@ fn act(
             }
         }
         Turn::Leaf(c) => put_node(store, m, i, [c, 0, 0, 0, 0, 0, 0, 0], shares),
-        Turn::Made => put_node(store, m, i, row_at(work, 10 * i + 1), shares),
+        Turn::Made => put_node(store, m, i, row(work, 10 * i + 1), shares),
         Turn::Ask(a) => {
             if i < DEEPEST {
                 open(table, store, work, 10 * i, m, a);

@@ -4,29 +4,12 @@ ghost use Rattle.checks.specs.Checked.{place_of};
 ghost use Rattle.meaning.specs.Store.{row as node_row};
 ghost use Rattle.meaning.specs.Shared.{standing};
 ghost use Rattle.turns.specs.Ways.{kids};
-ghost use Rattle.machine.specs.Stack.{row_at};
 ghost use Rattle.machine.specs.Machine.{child_or0, Node};
 
 use crate::{FULL, Machine, SUCCEEDED, state};
 use index::chains::has;
 use turns::turn::few;
-use words::{put_row, word};
-
-// The eight words of row r; zeros outside the words.
-pub(crate) fn row_at(words: &[u32], r: u32) -> [u32; 8]
-    ensures { result ≡ row_at words.now r }
-{
-    [
-        word(words, r, 0),
-        word(words, r, 1),
-        word(words, r, 2),
-        word(words, r, 3),
-        word(words, r, 4),
-        word(words, r, 5),
-        word(words, r, 6),
-        word(words, r, 7),
-    ]
-}
+use words::put_row;
 
 // Child j of a row, which has n of them; 0 where there is none.
 fn child(row: [u32; 8], n: u32, j: u32) -> u32

@@ -8,6 +8,7 @@ use Rattle.turns.specs.Ways.{record_from, held_at}
 use Rattle.machine.specs.Stack.{row_at}
 use Rattle.machine.specs.Machine.{own_from}
 use Rattle.machine.specs.declared.Machine.{Machine}
+use Rattle.stepping.specs.declared.own.Given.{Given}
 use Rattle.stepping.specs.Stepping.{numbers, own_row}
 
 -- the machine m and what was given stand in the run's own words; no other word changes
@@ -16,6 +17,10 @@ pub record Saved (k : List ℕ) (m : Machine) (u s g : ℕ) (k' : List ℕ) : Ty
   pub own : row_at k' own_row ≡ (m.mode + 1) ∷ m.x ∷ m.y ∷ m.level ∷ m.mark ∷ m.place ∷ m.fuel ∷ (m.mask % 4294967296) ∷ []
   pub given : row_at k' (own_row + 1) ≡ (m.mask / 4294967296) ∷ u ∷ s ∷ g ∷ 0 ∷ 0 ∷ 0 ∷ 0 ∷ []
   pub other : (j : ℕ) → (j < own_from) ⊎ (record_from ≤ j) → slice_index k' j ≡ slice_index k j
+
+-- what was given, as the list has it
+abbrev pub given_in : List ℕ → Given
+given_in k = record { units = word_at k (own_row + 1) 1; subject = word_at k (own_row + 1) 2; mark = word_at k (own_row + 1) 3 }
 
 -- the bindings of the words b stand in the list with the mask m
 pub record Loaded (k b : List ℕ) (m : ℕ) (k' : List ℕ) : Type 0 where

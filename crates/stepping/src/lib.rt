@@ -9,7 +9,7 @@ ghost use Rattle.calls.specs.Run.{input};
 ghost use Rattle.stepping.specs.Stepping.{lists, lengths_fit, Starts, StepsOn};
 ghost use Rattle.stepping.specs.Ended.{Ended, Finished, Went};
 
-use crate::own::{OWN, given, load_bindings, put_bindings, save, saved};
+use crate::own::{Given, OWN, load_bindings, put_bindings, save, saved};
 use calls::{End, Ran};
 use checks::entries::table_length_fits;
 use checks::kinds::VARIABLES;
@@ -59,7 +59,12 @@ pub fn start_run(
         fuel: units,
         mask,
     };
-    save(work, m, units, subject, mark);
+    let g = Given {
+        units,
+        subject,
+        mark,
+    };
+    save(work, m, g);
     Ok(Ran {
         end: End::Unfinished,
         subject,
@@ -72,16 +77,10 @@ pub fn start_run(
 fn lengths_fit(table: &[u32], store: &[u32], bindings: &[u32], work: &[u32]) -> bool
     ensures { result ≡ lengths_fit table.now (lists store.now bindings.now work.now) }
 {
-    if !table_length_fits(table.len()) {
-        return false;
-    }
-    if !store_length_fits(store.len()) {
-        return false;
-    }
-    if bindings.len() != VARIABLES {
-        return false;
-    }
-    WORK <= work.len()
+    table_length_fits(table.len())
+        && store_length_fits(store.len())
+        && bindings.len() == VARIABLES
+        && WORK <= work.len()
 }
 
 // The work list is zero again: it holds no run.
@@ -96,16 +95,14 @@ fn end_run(store: &mut [u32], work: &mut [u32], end: End, left: u32) -> Ran
     requires { 327680 ≤ length work.old }
     ensures { Ended store.old work.old (end_number end) (end_place end) left (ran_of result) store.new work.new }
 {
-    let units = given(work, 1);
-    let subject = given(work, 2);
-    let mark = given(work, 3);
-    clear_from(store, 8 * (mark as usize));
+    let g = Given::read(work);
+    clear_from(store, 8 * (g.mark as usize));
     clear_list(work);
     Ran {
         end,
-        subject,
-        mark,
-        units: units.wrapping_sub(left),
+        subject: g.subject,
+        mark: g.mark,
+        units: g.units.wrapping_sub(left),
     }
 }
 
@@ -114,7 +111,7 @@ fn finish(store: &mut [u32], bindings: &mut [u32], work: &mut [u32], m: Machine)
     requires { (length bindings.old ≡ 64) × (327680 ≤ length work.old) }
     ensures { Finished store.old work.old m (ran_of result) store.new bindings.new work.new }
 {
-    let units = given(work, 1);
+    let g = Given::read(work);
     put_bindings(bindings, work, m.mask);
     clear_from(store, 8 * (m.mark as usize));
     clear_list(work);
@@ -122,7 +119,7 @@ fn finish(store: &mut [u32], bindings: &mut [u32], work: &mut [u32], m: Machine)
         end: End::Done,
         subject: m.y,
         mark: m.mark,
-        units: units.wrapping_sub(m.fuel),
+        units: g.units.wrapping_sub(m.fuel),
     }
 }
 
@@ -146,15 +143,13 @@ pub fn conclude(
         if had < visits {
             return end_run(store, work, End::Units, m.fuel);
         }
-        let units = given(work, 1);
-        let subject = given(work, 2);
-        let mark = given(work, 3);
-        save(work, m, units, subject, mark);
+        let g = Given::read(work);
+        save(work, m, g);
         return Ran {
             end: End::Unfinished,
-            subject,
-            mark,
-            units: units.wrapping_sub(m.fuel),
+            subject: g.subject,
+            mark: g.mark,
+            units: g.units.wrapping_sub(m.fuel),
         };
     }
     match m.mode {

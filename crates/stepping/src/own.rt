@@ -4,56 +4,52 @@
 ghost use Rattle.std.specs.Prelude.{◌≡◌, ℕ, ◌+◌, ◌*◌, ◌<◌, ◌≤◌, length};
 ghost use Rattle.words.specs.Words.{word_at};
 ghost use Rattle.stepping.specs.Stepping.{own_row, level_in, machine_in};
-ghost use Rattle.stepping.specs.Ended.{Saved, Loaded, PutBack};
+ghost use Rattle.stepping.specs.Ended.{given_in, Saved, Loaded, PutBack};
 
-use checks::kinds::VARIABLES;
-use machine::Machine;
-use turns::turn::RECORD;
+use machine::{Machine, SUCCEEDED};
+use turns::turn::{RECORD, bound};
 use words::{put_row, word};
 
 // The row of the run's own words, and the one after it.
 pub const OWN: u32 = 40950;
 
-// What was given: 1 units, 2 subject, 3 mark.
-pub(crate) fn given(work: &[u32], j: u32) -> u32
-    requires { j < 8 }
-    ensures { result ≡ word_at work.now (own_row + 1) j }
-{
-    word(work, OWN + 1, j)
+// What a run was given: its units, its subject and its mark.
+#[derive(Clone, Copy)]
+pub struct Given {
+    pub units: u32,
+    pub subject: u32,
+    pub mark: u32,
+}
+
+impl Given {
+    // As the list has it.
+    pub(crate) fn read(work: &[u32]) -> Given
+        ensures { result ≡ given_in work.now }
+    {
+        Given {
+            units: word(work, OWN + 1, 1),
+            subject: word(work, OWN + 1, 2),
+            mark: word(work, OWN + 1, 3),
+        }
+    }
 }
 
 // The machine, and what was given, written into the list.
-pub fn save(work: &mut [u32], m: Machine, units: u32, subject: u32, mark: u32)
+pub fn save(work: &mut [u32], m: Machine, g: Given)
     requires { (327680 ≤ length work.old) × (m.mode < 4) }
-    ensures { Saved work.old m units subject mark work.new }
+    ensures { Saved work.old m g.units g.subject g.mark work.new }
 {
+    let low = (m.mask % 4294967296) as u32;
+    let high = (m.mask / 4294967296) as u32;
     put_row(
         work,
         OWN,
-        [
-            m.mode + 1,
-            m.x,
-            m.y,
-            m.level,
-            m.mark,
-            m.place,
-            m.fuel,
-            (m.mask % 4294967296) as u32,
-        ],
+        [m.mode + 1, m.x, m.y, m.level, m.mark, m.place, m.fuel, low],
     );
     put_row(
         work,
         OWN + 1,
-        [
-            (m.mask / 4294967296) as u32,
-            units,
-            subject,
-            mark,
-            0,
-            0,
-            0,
-            0,
-        ],
+        [high, g.units, g.subject, g.mark, 0, 0, 0, 0],
     );
 }
 
@@ -61,10 +57,8 @@ pub fn save(work: &mut [u32], m: Machine, units: u32, subject: u32, mark: u32)
 fn level_in(mode: u32, level: u32) -> u32
     ensures { result ≡ level_in mode level }
 {
-    if mode < 4 {
-        return if level < 4096 { level } else { 4096 };
-    }
-    if level < 4095 { level } else { 4095 }
+    let deepest = if mode < SUCCEEDED { 4096 } else { 4095 };
+    level.min(deepest)
 }
 
 // The machine that the list holds. A level above the deepest is read as the deepest.
@@ -91,14 +85,11 @@ pub fn load_bindings(work: &mut [u32], bindings: &[u32]) -> u64
     ensures { Loaded work.old bindings.now result work.new }
 {
     let mut mask: u64 = 0;
-    let mut v: u32 = 0;
-    while (v as usize) < VARIABLES {
-        let w = bindings[v as usize];
-        if w != 0 {
-            work[RECORD + (v as usize)] = w - 1;
+    for (v, w) in bindings.iter().enumerate() {
+        if *w != 0 {
+            work[RECORD + v] = *w - 1;
             mask = mask | (1 << v);
         }
-        v += 1;
     }
     mask
 }
@@ -108,13 +99,10 @@ pub(crate) fn put_bindings(bindings: &mut [u32], work: &[u32], mask: u64)
     requires { (length bindings.old ≡ 64) × (327680 ≤ length work.now) }
     ensures { PutBack work.now mask bindings.new }
 {
-    let mut v: u32 = 0;
-    while (v as usize) < VARIABLES {
-        if (mask >> v) % 2 == 1 {
-            bindings[v as usize] = std::num::wrapping_add_u32(work[RECORD + (v as usize)], 1);
-        } else {
-            bindings[v as usize] = 0;
-        }
-        v += 1;
+    for (v, w) in bindings.iter_mut().enumerate() {
+        *w = match bound(work, mask, v as u32) {
+            Some(node) => node.wrapping_add(1),
+            None => 0,
+        };
     }
 }

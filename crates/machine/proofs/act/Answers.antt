@@ -52,7 +52,7 @@ returns-in-Leaf c = carried-made _ _ _ _ _ _ _ c.requires.1 c.in-Leaf.is refl re
 pub returns-in-Made : goal.returns-in-Made
 unfolding plan_of
 returns-in-Made c =
-    let is = c.row_at.ensures in
+    let is = c.row.ensures in
     carried-made _ _ _ _ _ _ _ c.requires.1 c.in-Made.is refl (ap (λ r. get_or r 0 0) is) (ap kids is) c.put_node-in-Made.ensures
 
 pub shape_of-work-after-i-lt-DEEPEST : goal.shape_of-work-after-i-lt-DEEPEST

@@ -6,7 +6,3 @@ use Rattle.stepping.proofs.own.load_bindings.Given as goal
 abbrev pub invariant-loop-v : goal.invariant-loop-v
 invariant-loop-v l =
     SoFar l.initial.work l.bindings l.v l.mask l.work
-
-abbrev pub decreases-loop-v : goal.decreases-loop-v
-decreases-loop-v l =
-    64 - l.v

@@ -6,7 +6,3 @@ use Rattle.stepping.proofs.own.put_bindings.Given as goal
 abbrev pub invariant-loop-v : goal.invariant-loop-v
 invariant-loop-v l =
     Written l.work l.mask l.v l.bindings
-
-abbrev pub decreases-loop-v : goal.decreases-loop-v
-decreases-loop-v l =
-    64 - l.v
