@@ -477,11 +477,14 @@ level-low k a e = subst (λ a. (a.level ≤ 4096) × (3 < a.mode → a.level < 4
           arith,
     )) (below-or-from m 4)
 
-pub stop-then : (had v : ℕ) → v < had → had - v ≡ stop_at had v
+stop-then : (had v : ℕ) → v < had → had - v ≡ stop_at had v
 stop-then had v l = rw (lt-ltb v had l) refl
 
-pub stop-else : (had v : ℕ) → had ≤ v → 0 ≡ stop_at had v
+stop-else : (had v : ℕ) → had ≤ v → 0 ≡ stop_at had v
 stop-else had v l = rw (le-ltb v had l) refl
+
+pub stop-is : (had v : ℕ) → had - v ≡ stop_at had v
+stop-is had v = ⊎_elim (stop-then had v) (λ l. let z : had - v ≡ 0 = omega arith in z ∙ stop-else had v l) (below-or-from v had)
 
 pub stop-few : (had v stop : ℕ) → stop ≡ stop_at had v → stop ≤ had
 stop-few had v stop e = ⊎_elim (λ l. omega (arith, e ∙ sym (stop-then had v l))) (λ l. omega (arith, e ∙ sym (stop-else had v l)))

@@ -117,6 +117,29 @@ one_written {k} {b} {m} {v} {x} s l e = record {
       (below-or-from u v);
 }
 
+-- the word of a variable, by the node that it is bound to
+module _ (k : List ℕ) (m v : ℕ) (few : v < 64) where
+  abbrev pub word_back : ℕ
+  word_back = if has m v then (get_or k (record_from + v) 0 + 1) % 4294967296 else 0
+
+  pub word-bound : {n : ℕ} → some n ≡ held_at k record_from m v → (n + 1) % 4294967296 ≡ word_back
+  unfolding held_at
+  word-bound {n} e = go (has m v) refl
+    where
+      go : (c : Bool) → has m v ≡ c → (n + 1) % 4294967296 ≡ word_back
+      go true h =
+          let z : some n ≡ some (get_or k (record_from + v) 0) = rw (lt-ltb v 64 few, h) at e in
+          let y : n ≡ get_or k (record_from + v) 0 = cc in rw h (ap (λ (n : ℕ). (n + 1) % 4294967296) y)
+      go false h = let z : some n ≡ none = rw (lt-ltb v 64 few, h) at e in absurd (cc)
+
+  pub word-unbound : none ≡ held_at k record_from m v → 0 ≡ word_back
+  unfolding held_at
+  word-unbound e = go (has m v) refl
+    where
+      go : (c : Bool) → has m v ≡ c → 0 ≡ word_back
+      go true h = let z : none ≡ some (get_or k (record_from + v) 0) = rw (lt-ltb v 64 few, h) at e in absurd (cc)
+      go false h = rw h refl
+
 pub all-written : {k b : List ℕ} {m v : ℕ} → Written k m v b → 64 ≤ v → PutBack k m b
 all-written s l = record { long = s.long; word = λ u h. s.word u (omega arith) }
 

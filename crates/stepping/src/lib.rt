@@ -77,10 +77,13 @@ pub fn start_run(
 fn lengths_fit(table: &[u32], store: &[u32], bindings: &[u32], work: &[u32]) -> bool
     ensures { result ≡ lengths_fit table.now (lists store.now bindings.now work.now) }
 {
-    table_length_fits(table.len())
-        && store_length_fits(store.len())
-        && bindings.len() == VARIABLES
-        && WORK <= work.len()
+    if !table_length_fits(table.len())
+        || !store_length_fits(store.len())
+        || bindings.len() != VARIABLES
+    {
+        return false;
+    }
+    WORK <= work.len()
 }
 
 // The work list is zero again: it holds no run.
