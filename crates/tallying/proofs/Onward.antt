@@ -16,7 +16,7 @@ use Rattle.machine.specs.Machine.{Lent, Turned, visited, spent, Once}
 use Rattle.machine.proofs.Going.{rank, rank-asked, rank-ended}
 use Rattle.tallying.specs.declared.Seen.{Seen}
 use Rattle.tallying.specs.Counts.{bumped, code_of, visited_code, occurs, Kept, Counts, Room}
-use Rattle.tallying.specs.Tally.{seen_at, CountedOn}
+use Rattle.tallying.specs.Tally.{seen_at, CountedOn, Comes, visit, end}
 use Rattle.tallying.proofs.Tallying.{code-visited, one-few, balanced-begun, balanced-ended, counts-begun, counts-ended, kept-begun}
 use Rattle.tallying.proofs.Tallying.{kept-first, kept-others, seen-begun}
 
@@ -201,32 +201,17 @@ module _ {sh : Bool} {t w₀ k₀ given : List ℕ} {a m : Machine} {s : Seen} {
 
 -- ---- how a turn comes: a visit begins, or an end is told; and what is counted
 
-pub data Comes (m : Machine) (s : Seen) (kept cs : List ℕ) : Seen → List ℕ → List ℕ → Type 0 where
-  visit : {kept' cs' : List ℕ} → m.mode < 4 → 0 < m.fuel → m.level < 4096 → kept' ≡ set kept m.level (visited_code m)
-      → cs' ≡ bumped cs (visited_code m) 0 → Comes m s kept cs (seen_at s m.mode) kept' cs'
-  end : {cs' : List ℕ} → 3 < m.mode → m.mode < 6 → (m.level ≡ 0 → ⊥)
-      → cs' ≡ bumped cs (get_or kept m.level 0) (if eqb m.mode 4 then 1 else 2) → Comes m s kept cs s kept cs'
-
 module _ {sh : Bool} {t w₀ k₀ given : List ℕ} {a m : Machine} {s : Seen} {w k kept cs : List ℕ} (room : Room given)
     (most : a.fuel < 4294967296) (so : CountedOn sh t w₀ k₀ given a m s w k kept cs) where
   pub nearer : {s₁ : Seen} {kept₁ cs₁ : List ℕ} → Comes m s kept cs s₁ kept₁ cs₁ → (m' : Machine) {w' k' : List ℕ}
       → Once sh t w k m 0 m' w' k' → 4098 * m'.fuel + rank m' < 4098 * m.fuel + rank m
   nearer (visit h l g ek ec) m' d = visit-nearer room most so h l g m' (d.begun h (λ z. omega arith) g)
-  nearer (end h g l ec) m' d = end-nearer room most so h g l m' (d.told h g l)
+  nearer (end h g l ec) m' d =
+      let n : m.level ≡ 0 → ⊥ = λ e. omega arith in end-nearer room most so h g n m' (d.told h g n)
 
   pub further : {s₁ : Seen} {kept₁ cs₁ : List ℕ} → Comes m s kept cs s₁ kept₁ cs₁ → (m' : Machine) {w' k' : List ℕ}
       → Once sh t w k m 0 m' w' k' → CountedOn sh t w₀ k₀ given a m' s₁ w' k' kept₁ cs₁
   further {kept₁ = kept₁} {cs₁ = cs₁} (visit h l g ek ec) m' {w'} {k'} d =
       visit-counted room most so h l g m' w' k' kept₁ cs₁ ek ec (d.begun h (λ z. omega arith) g)
-  further {cs₁ = cs₁} (end h g l ec) m' {w'} {k'} d = end-counted room most so h g l m' w' k' cs₁ ec (d.told h g l)
-
-pub comes-visit : {m : Machine} {s s₁ : Seen} {kept cs kept₁ cs₁ : List ℕ} → s₁ ≡ seen_at s m.mode
-    → m.mode < 4 → (m.fuel ≡ 0 → ⊥) → m.level < 4096 → kept₁ ≡ set kept m.level (visited_code m) → cs₁ ≡ bumped cs (visited_code m) 0
-    → Comes m s kept cs s₁ kept₁ cs₁
-comes-visit {m} es h l g ek ec =
-    rw es (visit h (⊎_elim (λ z. z) (λ z. absurd (l (omega arith))) (below-or-from 0 m.fuel)) g ek ec)
-
-pub comes-end : {m : Machine} {s s₁ : Seen} {kept cs kept₁ cs₁ : List ℕ} → s₁ ≡ s → kept₁ ≡ kept
-    → 3 < m.mode → m.mode < 6 → (m.level ≡ 0 → ⊥) → cs₁ ≡ bumped cs (get_or kept m.level 0) (if eqb m.mode 4 then 1 else 2)
-    → Comes m s kept cs s₁ kept₁ cs₁
-comes-end es ek h g l ec = rw (es, ek) (end h g l ec)
+  further {cs₁ = cs₁} (end h g l ec) m' {w'} {k'} d =
+      let n : m.level ≡ 0 → ⊥ = λ e. omega arith in end-counted room most so h g n m' w' k' cs₁ ec (d.told h g n)

@@ -1,5 +1,5 @@
 -- What a counted run promises: it is the machine's, and its counts are of what happened to visits.
-use Rattle.std.specs.Prelude.{◌≡◌, ℕ, suc, ◌+◌, ◌-◌, ◌%◌, ◌<◌, ◌≤◌, Bool, ◌⊎◌, List, [], length, ◌==◌, if◌then◌else◌}
+use Rattle.std.specs.Prelude.{◌≡◌, ℕ, suc, ◌+◌, ◌-◌, ◌%◌, ◌<◌, ◌≤◌, Bool, ◌⊎◌, List, [], length, ◌==◌, nat_eq, slice_index, slice_set, if◌then◌else◌}
 use Rattle.meaning.specs.Table.{table}
 use Rattle.meaning.specs.Rules.{does}
 use Rattle.meaning.specs.Derivation.{What, Event, history}
@@ -10,7 +10,7 @@ use Rattle.machine.specs.declared.Machine.{Machine}
 use Rattle.machine.specs.Stack.{Run, Stands, Fair}
 use Rattle.machine.specs.Machine.{Lent, OwnStay}
 use Rattle.tallying.specs.declared.Seen.{Seen}
-use Rattle.tallying.specs.Counts.{Kept, Balanced, Counts}
+use Rattle.tallying.specs.Counts.{bumped, visited_code, Kept, Balanced, Counts}
 
 -- a visit of this mode more: of a pattern, or of a pair
 abbrev pub seen_at : Seen → ℕ → Seen
@@ -46,3 +46,15 @@ pub record CountedOn (sh : Bool) (t w₀ k₀ given : List ℕ) (a m : Machine) 
 pub record Stopped (m : Machine) : Type 0 where
   pub asking : m.mode < 4 → (m.fuel ≡ 0) ⊎ (4096 ≤ m.level)
   pub ended : 3 < m.mode → m.mode < 6 → m.level ≡ 0
+
+-- it has a turn to take: a visit that no limit cuts off, or an end to tell to a frame
+pub record Going (m : Machine) : Type 0 where
+  pub asking : m.mode < 4 → (0 < m.fuel) × (m.level < 4096)
+  pub ended : 3 < m.mode → (m.mode < 6) × (0 < m.level)
+
+-- how a turn comes: a visit begins, or an end is told; and what is counted
+pub data Comes (m : Machine) (s : Seen) (kept cs : List ℕ) : Seen → List ℕ → List ℕ → Type 0 where
+  visit : {kept' cs' : List ℕ} → m.mode < 4 → 0 < m.fuel → m.level < 4096 → kept' ≡ slice_set kept m.level (visited_code m)
+      → cs' ≡ bumped cs (visited_code m) 0 → Comes m s kept cs (seen_at s m.mode) kept' cs'
+  end : {cs' : List ℕ} → 3 < m.mode → m.mode < 6 → 0 < m.level
+      → cs' ≡ bumped cs (slice_index kept m.level) (if nat_eq m.mode 4 then 1 else 2) → Comes m s kept cs s kept cs'

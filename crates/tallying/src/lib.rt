@@ -2,23 +2,32 @@
 // in flight at a cut-off.
 #![tactic(auto)]
 
-ghost use Rattle.std.specs.Prelude.{◌≡◌, ℕ, ◌+◌, ◌*◌, ◌<◌, ◌≤◌, length, nat_eq, slice_index, slice_set, if◌then◌else◌};
+ghost use Rattle.std.specs.Prelude.{◌≡◌, ℕ, ◌+◌, ◌*◌, ◌<◌, ◌≤◌, length, true, false, nat_eq, slice_index, slice_set, if◌then◌else◌};
 ghost use Rattle.words.specs.Words.{rows};
 ghost use Rattle.meaning.specs.Store.{Accepted};
 ghost use Rattle.calls.specs.Run.{input};
 ghost use Rattle.machine.specs.Machine.{Lent};
 ghost use Rattle.tallying.specs.Counts.{bumped, visited_code, flown, rest_counted, Room};
-ghost use Rattle.tallying.specs.Tally.{seen_at, CountedOn, Stopped};
+ghost use Rattle.tallying.specs.Tally.{seen_at, CountedOn, Going, Stopped, Comes};
 ghost use Rattle.tallying.specs.Added.{counted_at_return, counted_end, counted_ran, ran_if};
 
 use calls::Ran;
 use machine::{FULL, Machine, SUCCEEDED, go};
-use stepping::own::{load_bindings, save};
+use stepping::own::{Given, load_bindings, save};
 use stepping::{NOWHERE, WORK, conclude};
 use turns::turn::{APPLY, COMPARED};
 
 // What stands for a visit that is none of an entry.
 const NO_ENTRY: u32 = 4294967295;
+
+// The four counts of an entry: visits, successes, failures, visits in flight.
+const BEGUN: usize = 0;
+
+const WON: usize = 1;
+
+const LOST: usize = 2;
+
+const IN_FLIGHT: usize = 3;
 
 // Adds 1 to count c of entry e, where there is such a word.
 fn add(counts: &mut [u64], e: u32, c: usize)
@@ -27,7 +36,7 @@ fn add(counts: &mut [u64], e: u32, c: usize)
 {
     let i = 4 * (e as usize) + c;
     if i < counts.len() {
-        counts[i] = std::num::wrapping_add_u64(counts[i], 1);
+        counts[i] = counts[i].wrapping_add(1);
     }
 }
 
@@ -38,7 +47,7 @@ fn begin(kept: &mut [u32], counts: &mut [u64], m: Machine)
 {
     let e = if m.mode == APPLY { m.x } else { NO_ENTRY };
     kept[m.level as usize] = e;
-    add(counts, e, 0);
+    add(counts, e, BEGUN);
 }
 
 // The visit at a level has ended.
@@ -47,11 +56,8 @@ fn end(kept: &[u32], counts: &mut [u64], m: Machine)
     ensures { counts.new ≡ bumped counts.old (slice_index kept.now m.level) (if nat_eq m.mode 4 then 1 else 2) }
 {
     let e = kept[m.level as usize];
-    if m.mode == SUCCEEDED {
-        add(counts, e, 1);
-        return;
-    }
-    add(counts, e, 2);
+    let c = if m.mode == SUCCEEDED { WON } else { LOST };
+    add(counts, e, c);
 }
 
 // The visits at the first n levels are in flight.
@@ -59,10 +65,8 @@ fn fly(kept: &[u32], counts: &mut [u64], n: u32)
     requires { (n ≤ 4096) × (4096 ≤ length kept.now) }
     ensures { counts.new ≡ flown kept.now counts.old n }
 {
-    let mut l: u32 = 0;
-    while l < n {
-        add(counts, kept[l as usize], 3);
-        l += 1;
+    for e in &kept[..n as usize] {
+        add(counts, *e, IN_FLIGHT);
     }
 }
 
@@ -77,18 +81,16 @@ pub struct Seen {
 fn see(s: Seen, mode: u32) -> Seen
     ensures { result ≡ seen_at s mode }
 {
-    if mode == APPLY {
-        return s;
-    }
-    if mode == COMPARED {
-        return Seen {
-            patterns: s.patterns,
-            pairs: std::num::wrapping_add_u32(s.pairs, 1),
-        };
-    }
-    Seen {
-        patterns: std::num::wrapping_add_u32(s.patterns, 1),
-        pairs: s.pairs,
+    match mode {
+        APPLY => s,
+        COMPARED => Seen {
+            pairs: s.pairs.wrapping_add(1),
+            ..s
+        },
+        _ => Seen {
+            patterns: s.patterns.wrapping_add(1),
+            ..s
+        },
     }
 }
 
@@ -97,6 +99,30 @@ fn see(s: Seen, mode: u32) -> Seen
 pub struct Tally {
     pub machine: Machine,
     pub seen: Seen,
+}
+
+// The machine has a turn to take: a visit that no limit cuts off, or an end to tell to a frame.
+fn goes_on(m: Machine) -> bool
+    ensures goes { result ≡ true → Going m }
+    ensures stops { result ≡ false → Stopped m }
+{
+    if m.mode < SUCCEEDED {
+        return 0 < m.fuel && m.level < 4096;
+    }
+    m.mode < FULL && 0 < m.level
+}
+
+// The visit that begins now, or that has ended, is counted.
+fn count_turn(kept: &mut [u32], counts: &mut [u64], m: Machine, s: Seen) -> Seen
+    requires { Going m × (3 < m.mode → m.level < 4096) × (4096 ≤ length kept.old) }
+    ensures { Comes m s kept.old counts.old result kept.new counts.new }
+{
+    if m.mode < SUCCEEDED {
+        begin(kept, counts, m);
+        return see(s, m.mode);
+    }
+    end(kept, counts, m);
+    s
 }
 
 // Visits until the units are used or the run ends, each counted as it begins and as it ends.
@@ -118,38 +144,13 @@ fn count_on(
         patterns: 0,
         pairs: 0,
     };
-    loop {
-        if m.mode < 4 {
-            if m.fuel == 0 {
-                return Tally {
-                    machine: m,
-                    seen: s,
-                };
-            }
-            if 4095 < m.level {
-                return Tally {
-                    machine: m,
-                    seen: s,
-                };
-            }
-            begin(kept, counts, m);
-            s = see(s, m.mode);
-        } else {
-            if 5 < m.mode {
-                return Tally {
-                    machine: m,
-                    seen: s,
-                };
-            }
-            if m.level == 0 {
-                return Tally {
-                    machine: m,
-                    seen: s,
-                };
-            }
-            end(kept, counts, m);
-        }
+    while goes_on(m) {
+        s = count_turn(kept, counts, m, s);
         m = go(table, store, work, m, 0, shares, true);
+    }
+    Tally {
+        machine: m,
+        seen: s,
     }
 }
 
@@ -160,13 +161,11 @@ fn count_rest(kept: &[u32], counts: &mut [u64], m: Machine)
 {
     if m.mode < SUCCEEDED {
         fly(kept, counts, m.level);
-        return;
-    }
-    if m.mode < FULL {
+    } else if m.mode < FULL {
         end(kept, counts, m);
-        return;
+    } else {
+        fly(kept, counts, m.level + 1);
     }
-    fly(kept, counts, m.level + 1);
 }
 
 // What a counted run comes to, and its visits of patterns and of pairs.
@@ -206,11 +205,14 @@ pub fn run_on(
         fuel: units,
         mask,
     };
-    save(&mut work, a, units, subject, mark);
+    let g = Given {
+        units,
+        subject,
+        mark,
+    };
+    save(&mut work, a, g);
     let t = count_on(table, store, &mut work, &mut kept, counts, a, shares);
-    let m = t.machine;
-    let seen = t.seen;
-    count_rest(&kept, counts, m);
-    let ran = conclude(store, bindings, &mut work, 0, 1, 0, m);
-    RanCounted { ran, seen }
+    count_rest(&kept, counts, t.machine);
+    let ran = conclude(store, bindings, &mut work, 0, 1, 0, t.machine);
+    RanCounted { ran, seen: t.seen }
 }

@@ -52,15 +52,15 @@ slice_bounds-conclude-end c =
     let saved-long : length c.save.new.work ≡ 327680 = c.save.auto.work ∙ work-long in
     sym (c.count_on-t.auto.work ∙ saved-long)
 
-pub conclude-ended-requires : goal.conclude-ended-requires
-conclude-ended-requires c = (c.requires.0.bindings, c.count_on-t.ensures.0.lent.frames)
+pub conclude-ran-requires : goal.conclude-ran-requires
+conclude-ran-requires c = (c.requires.0.bindings, c.count_on-t.ensures.0.lent.frames)
 
 -- ---- the lent lists are as long as they were
 pub shape_of-store : goal.shape_of-store
-shape_of-store c = c.conclude-ended.auto.store ∙ c.count_on-t.auto.store
+shape_of-store c = c.conclude-ran.auto.store ∙ c.count_on-t.auto.store
 
 pub shape_of-bindings : goal.shape_of-bindings
-shape_of-bindings c = c.conclude-ended.auto.bindings
+shape_of-bindings c = c.conclude-ran.auto.bindings
 
 pub shape_of-counts : goal.shape_of-counts
 shape_of-counts c = c.count_rest.auto.counts ∙ c.count_on-t.auto.counts
@@ -74,4 +74,4 @@ returns c =
     c.requires.1 c.requires.2 c.ranges.units.fits
     _ _ _ _ c.load_bindings-mask.ensures c.save.ensures
     _ _ _ _ _ _ c.count_on-t.ensures.0 c.count_on-t.ensures.1
-    _ _ _ _ c.conclude-ended.ensures
+    _ _ _ _ c.conclude-ran.ensures
