@@ -1,5 +1,6 @@
 -- `start_run` meets its contract. Assumes nothing.
 use Rattle.std.proofs.Common.{refl, arith}
+use Rattle.std.proofs.lemmas.Result.{err_from_is_err_and}
 use Rattle.checks.proofs.Numbers.{answer_ne0}
 use Rattle.calls.specs.Refused.{lent_signature}
 use Rattle.calls.specs.Run.{input}
@@ -15,9 +16,11 @@ returns-then-work-lt-WORK c =
 pub returns-in_err-check_run : goal.returns-in_err-check_run
 returns-in_err-check_run c =
     let a = c.args in
-    refused-by (lent_signature a.signature)
+    let p = err_from_is_err_and c.from_residual.result c.from_residual.ensures.1 in
+    rw (p.1, p.2)
+    (refused-by (lent_signature a.signature)
     (input a.table.now a.store.now a.bindings.now a.mark a.start a.subject a.units) a.work.now _
-    (omega (arith, c.if-work-lt-WORK.false)) c.in_err-check_run.ensures (answer_ne0 _)
+    (omega (arith, c.if-work-lt-WORK.false)) c.in_err-check_run.ensures (answer_ne0 _))
 
 pub load_bindings-mask-requires : goal.load_bindings-mask-requires
 load_bindings-mask-requires c =
