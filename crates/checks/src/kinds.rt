@@ -4,6 +4,7 @@ ghost use Rattle.checks.specs.Kinds.{kind, ours, lowest, highest_by, operands_fr
 ghost use Rattle.checks.specs.Kinds as table;
 
 // The kinds by document 01's names.
+// As it is: a kind stays the number that word 0 of an entry holds, and `match` goes over ranges of kinds, as document 01 has it.
 pub const ID: u32 = 0;
 
 pub const FAIL: u32 = 1;
@@ -55,6 +56,7 @@ pub enum Sort {
     Neither,
 }
 
+// As it is: document 01 asks for constant tables over the kinds; one table of twenty records would be longer and no plainer.
 // The least number of operands of each kind.
 const LEAST: [u32; 20] = [0, 0, 1, 1, 2, 2, 2, 1, 1, 1, 0, 1, 1, 1, 1, 1, 1, 1, 0, 0];
 
@@ -144,6 +146,7 @@ pub(crate) fn takes(k: u32) -> Sort
 pub fn sort_of(k: u32) -> Sort
     ensures { result ≡ sort_of k }
 {
+    // As it is: document 01 gives the sorts as ranges of kinds.
     match k {
         ID..=WHERE => Sort::Strategy,
         PVAR..=PCON => Sort::Pattern,

@@ -90,6 +90,7 @@ impl Refusal {
 }
 
 // Answer and place as the documents number them; 0 and 0 where nothing is refused.
+// As it is: the two numbers are for C; no `From` may be written here from a Result to an array, both of them foreign types.
 pub fn numbers_of(r: Result<(), Refusal>) -> [u32; 2]
     ensures { result ≡ (checked_of r).answer ∷ (checked_of r).place ∷ [] }
 {

@@ -12,6 +12,7 @@ use words::word;
 pub fn has(store: &[u32], k: u32, r: [u32; 8]) -> bool
     ensures { result ≡ alike (eight store.now k) r }
 {
+    // As it is: comparing the row read whole, `row(store, k) == r`, was tried and takes 1.6 times as long.
     (0..8).all(|j| word(store, k, j) == r[j as usize])
 }
 
@@ -37,6 +38,7 @@ impl Layout {
     {
         let nexts = self.at + (self.n as usize);
         let mut x = index[self.at + home_of(self.n, r)];
+        // As it is: this follows the links of a chain; an iterator over it would hold this very loop.
         while x != 0 {
             let k = x - 1;
             if k < m && has(store, k, r) {

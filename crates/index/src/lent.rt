@@ -38,6 +38,7 @@ fn forget(lent: &mut [u32], n: u32, mark: u32, top: u32)
     }
 }
 
+// As it is: no Option, since what comes of asking is one of three, two of which carry a number.
 // What comes of asking for a node: the number of the node that stands, or of the new one, or no room.
 #[derive(Clone, Copy)]
 pub enum Node {
