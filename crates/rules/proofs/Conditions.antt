@@ -16,7 +16,7 @@ use Rattle.rules.specs.Scan.{width, fields_from}
 use Rattle.rules.specs.Condition.{after_it, lost_after, ConditionAt, condition, none as no-condition}
 use Rattle.rules.specs.Condition.{Found}
 use Rattle.std.specs.Prelude.{Some, Result, Ok, Err}
-use Rattle.core.specs.Result.{result_ok}
+use Rattle.std.specs.Result.{result_ok}
 use Rattle.rules.specs.Scan.{Term}
 use Rattle.rules.proofs.Reading.{ahead, pat-read}
 use Rattle.rules.proofs.Scanning.{fields-here, field-length}

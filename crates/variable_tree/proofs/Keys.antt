@@ -1,14 +1,8 @@
 -- The keys of the tree of bound variables: a key that is put is the only new one. Assumes nothing.
-use mathlib.Core.Path.{◌≡◌, sym, ◌∙◌, subst}
-use mathlib.Core.Logic.{◌≢◌, ◌⊎◌, inl, inr, ⊎_elim}
-use mathlib.Core.Bool.{true, false}
+use mathlib.Core.Path.{sym, subst}
+use mathlib.Core.Logic.{⊎_elim}
 use mathlib.Core.List.{List}
-use Prim.Native.Nat.{ℕ, ◌<◌}
-use lib.Dec.{eqb}
-use lib.ListN.{length, get_or, set}
-use lib.Seq.{get_or-set_same, get_or-set_other}
-use borrow.Author.Tests.{eqb-true, eqb-false}
-use Rattle.meaning.proofs.Tests.{decided}
+use Prim.Native.Nat.{ℕ}
 use Rattle.variable_tree.specs.Tree.{KeyOf, Keeps, KeepsOr}
 
 -- A key that was there before is put again.

@@ -1,7 +1,5 @@
 -- `variable_tree::middle` meets its contract: the lower end never passes the upper one. Assumes nothing.
 use Prim.Native.Nat.{◌-◌, ◌≤◌}
-use native.Mathlib.Omega.{arith}
-use borrow.Author.Rules.{rules}
 use Rattle.variable_tree.proofs.middle.Given as goal
 
 abbrev pub invariant-loop-high : goal.invariant-loop-high
