@@ -2,27 +2,27 @@
 use mathlib.Core.Path.{◌≡◌, refl, ap, sym, ◌∙◌}
 use mathlib.Core.Bool.{Bool, true, false}
 use mathlib.Core.List.{List}
-use Prim.Native.Nat.{ℕ, zero, suc, ◌+◌, ◌-◌, ◌/◌, ◌%◌, ◌≤◌, ◌<◌}
+use Prim.Native.Nat.{ℕ, zero, suc, ◌+◌, ◌-◌, ◌/◌, ◌%◌, ◌≤◌, ◌<◌, min}
 use native.Mathlib.Omega.{arith}
 use lib.Dec.{eqb, ltb}
 use lib.ListN.{length, get_or, set, length-set}
-use borrow.Author.Tests.{eq-eqb, ne_eqb, lt-ltb, le-ltb, ltb-false}
+use borrow.Author.Tests.{eq-eqb, ne_eqb, lt-ltb, le-ltb, ltb-false, ltb-true}
 use Rattle.std.specs.Prelude.{if◌then◌else◌}
-use Rattle.words.specs.Words.{word_at, put_row}
-use Rattle.translate.specs.Links.{inner_of, filled, row_at, row_linked, steps_table, steps_ends}
+use Rattle.words.specs.Words.{word_at, put_row, row_at}
+use Rattle.translate.specs.Links.{inner_of, filled, row_linked, steps_table, steps_ends}
 use Rattle.translate.specs.declared.link.Linked.{Linked}
 
 pub inner-call : (w : ℕ) → w / 16 ≡ 8 → 0 ≡ inner_of w
 unfolding inner_of
 inner-call w e = rw (eq-eqb (w / 16) 8 e)
 
-pub inner-over : (w : ℕ) → (w / 16 ≡ 8 → ⊥) → 6 < w % 16 → 6 ≡ inner_of w
+pub inner-count : (w n : ℕ) → (w / 16 ≡ 8 → ⊥) → n ≡ min (w % 16) 6 → n ≡ inner_of w
 unfolding inner_of
-inner-over w e l = rw (ne_eqb (w / 16) 8 e, lt-ltb 6 (w % 16) l)
-
-pub inner-count : (w : ℕ) → (w / 16 ≡ 8 → ⊥) → w % 16 ≤ 6 → w % 16 ≡ inner_of w
-unfolding inner_of
-inner-count w e l = rw (ne_eqb (w / 16) 8 e, le-ltb 6 (w % 16) l)
+inner-count w n e m = rw (ne_eqb (w / 16) 8 e) (go (ltb 6 (w % 16)) refl)
+  where
+    go : (y : Bool) → ltb 6 (w % 16) ≡ y → n ≡ (if y then 6 else w % 16)
+    go true x = omega (arith, m, ltb-true 6 (w % 16) x)
+    go false x = omega (arith, m, ltb-false 6 (w % 16) x)
 
 pub inner-most : (w : ℕ) → inner_of w ≤ 6
 unfolding inner_of

@@ -6,7 +6,7 @@ use Prim.Native.Nat.{ℕ, zero, suc, ◌+◌, ◌-◌, ◌*◌, ◌≤◌, ◌<�
 use native.Mathlib.Omega.{arith}
 use lib.ListN.{length, get_or, set, replicate, length-set, length-append, length-replicate}
 use lib.Seq.{ext_get_or, sets, get_or-set_same, get_or-set_other}
-use Rattle.words.specs.Words.{word_at, rows, put_row}
+use Rattle.words.specs.Words.{word_at, rows, put_row, row_at}
 use Rattle.meaning.specs.Table.{SEQ, CALL, MATCH, BUILD, WHERE, PVAR, PCON}
 use Rattle.rules.specs.Rule.{Pat, Pats, Condition, Rule}
 use Rattle.rules.specs.Text.{Plain, plain-var, plain-con, Plains, plain-none, plain_more, PlainConditions, plain_end, plain-next, PlainRule}
@@ -14,7 +14,7 @@ use Rattle.rules.specs.Entries.{condition_code, conditions_code, Entry, strategy
 use Rattle.rules.proofs.Words.{rows_append}
 use Rattle.translate.specs.Added.{put_entries}
 use Rattle.translate.specs.Bare.{bare_body}
-use Rattle.translate.specs.Links.{inner_of, filled, row_at, row_linked, steps_table, steps_ends}
+use Rattle.translate.specs.Links.{inner_of, filled, row_linked, steps_table, steps_ends}
 use Rattle.translate.specs.declared.link.Linked.{Linked}
 use Rattle.translate.proofs.Written.{Eights, no-entry, next-entry, eights-append, length-put, put_other, row-swap, put-swap}
 use Rattle.translate.proofs.Linking.{Tree, Trees, tree, none, more, many, size_t, sizes_t, places_t, entries_t, entries_ts, bare_t, bare_ts, length-bare, length-entries}

@@ -1,6 +1,6 @@
 -- The operands of entries, from the last back, as the code writes them.
 use Rattle.std.specs.Prelude.{◌≡◌, List, [], ◌∷◌, ℕ, zero, suc, ◌+◌, ◌-◌, ◌/◌, ◌%◌, eqb, ltb, get_or, set, if◌then◌else◌}
-use Rattle.words.specs.Words.{word_at, put_row}
+use Rattle.words.specs.Words.{word_at, put_row, row_at}
 use Rattle.translate.specs.declared.link.Linked.{Linked}
 
 -- how many operands are entries of the same tree; a CALL has none
@@ -11,9 +11,6 @@ inner_of w = if eqb (w / 16) 8 then 0 else (if ltb 6 (w % 16) then 6 else w % 16
 unfoldable pub filled : ℕ → (o : ℕ) → List ℕ → (row : List ℕ) → (j : ℕ) → Linked
 filled zero o es row j = record { row = row; end = o }
 filled (suc n) o es row j = filled n (get_or es o 0) es (set row j o) (j + 1)
-
-abbrev pub row_at : List ℕ → ℕ → List ℕ
-row_at t e = word_at t e 0 ∷ word_at t e 1 ∷ word_at t e 2 ∷ word_at t e 3 ∷ word_at t e 4 ∷ word_at t e 5 ∷ word_at t e 6 ∷ word_at t e 7 ∷ []
 
 unfoldable pub row_linked : List ℕ → List ℕ → ℕ → Linked
 row_linked t es e = filled (inner_of (word_at t e 0)) (e + 1) es (row_at t e) 2

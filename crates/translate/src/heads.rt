@@ -6,11 +6,29 @@ ghost use Rattle.rules.specs.Scan.{fields_from};
 ghost use Rattle.translate.specs.Added.{Placed};
 ghost use Rattle.translate.specs.Bare.{scope_put, bare_of, body_opened, condition_opened, call_put, build_put, bare_found, bare_body, its_conditions, Fits, PlacedIn};
 
+use checks::kinds::{BUILD, CALL, MATCH, PCON, PVAR, SCOPE, SEQ, WHERE};
 use rules::condition::Condition;
 use rules::field::{Head, children, head_of};
 use rules::rule_text::RuleText;
 use text::field::next_at;
 use words::put_row;
+
+// Word 0 of an entry of each kind: 16 times the kind, and the number of its operands, which for a PCON is to be added.
+const SEQ_HEAD: u32 = 16 * SEQ + 2;
+
+const CALL_HEAD: u32 = 16 * CALL + 1;
+
+const MATCH_HEAD: u32 = 16 * MATCH + 1;
+
+const BUILD_HEAD: u32 = 16 * BUILD + 1;
+
+const SCOPE_HEAD: u32 = 16 * SCOPE + 1;
+
+const WHERE_HEAD: u32 = 16 * WHERE + 1;
+
+const PVAR_HEAD: u32 = 16 * PVAR;
+
+const PCON_HEAD: u32 = 16 * PCON;
 
 // The entries of the term whose first field begins at `from`; the entry after them.
 fn put_term(table: &mut [u32], line: &[u8], from: usize, first: u32) -> u32
@@ -30,7 +48,7 @@ fn put_term(table: &mut [u32], line: &[u8], from: usize, first: u32) -> u32
                 return e;
             }
             Some(Head::Variable(v)) => {
-                put_row(table, e, [288, v, 0, 0, 0, 0, 0, 0]);
+                put_row(table, e, [PVAR_HEAD, v, 0, 0, 0, 0, 0, 0]);
                 at = end + 1;
                 e += 1;
                 wanted -= 1;
@@ -44,7 +62,7 @@ fn put_term(table: &mut [u32], line: &[u8], from: usize, first: u32) -> u32
                 let Some(n) = children(&line[at..stop]) else {
                     return e;
                 };
-                put_row(table, e, [304 + n, c, 0, 0, 0, 0, 0, 0]);
+                put_row(table, e, [PCON_HEAD + n, c, 0, 0, 0, 0, 0, 0]);
                 at = stop + 1;
                 e += 1;
                 wanted = wanted - 1 + (n as usize);
@@ -61,7 +79,7 @@ pub(crate) fn put_scope(table: &mut [u32], e: u32, mask: u64) -> u32
 {
     let low = (mask % 4294967296) as u32;
     let high = (mask / 4294967296) as u32;
-    put_row(table, e, [257, low, high, e + 1, 0, 0, 0, 0]);
+    put_row(table, e, [SCOPE_HEAD, low, high, e + 1, 0, 0, 0, 0]);
     e + 1
 }
 
@@ -70,8 +88,8 @@ fn open_body(table: &mut [u32], e: u32) -> u32
     requires { (e + 2 ≤ rows table.old) × (length table.old ≤ 32768) }
     ensures { Placed table.old e body_opened table.new result }
 {
-    put_row(table, e, [66, 0, 0, 0, 0, 0, 0, 0]);
-    put_row(table, e + 1, [225, 0, 0, 0, 0, 0, 0, 0]);
+    put_row(table, e, [SEQ_HEAD, 0, 0, 0, 0, 0, 0, 0]);
+    put_row(table, e + 1, [MATCH_HEAD, 0, 0, 0, 0, 0, 0, 0]);
     e + 2
 }
 
@@ -80,10 +98,10 @@ fn open_condition(table: &mut [u32], e: u32) -> u32
     requires { (e + 4 ≤ rows table.old) × (length table.old ≤ 32768) }
     ensures { Placed table.old e condition_opened table.new result }
 {
-    put_row(table, e, [66, 0, 0, 0, 0, 0, 0, 0]);
-    put_row(table, e + 1, [273, 0, 0, 0, 0, 0, 0, 0]);
-    put_row(table, e + 2, [66, 0, 0, 0, 0, 0, 0, 0]);
-    put_row(table, e + 3, [241, 0, 0, 0, 0, 0, 0, 0]);
+    put_row(table, e, [SEQ_HEAD, 0, 0, 0, 0, 0, 0, 0]);
+    put_row(table, e + 1, [WHERE_HEAD, 0, 0, 0, 0, 0, 0, 0]);
+    put_row(table, e + 2, [SEQ_HEAD, 0, 0, 0, 0, 0, 0, 0]);
+    put_row(table, e + 3, [BUILD_HEAD, 0, 0, 0, 0, 0, 0, 0]);
     e + 4
 }
 
@@ -92,9 +110,9 @@ fn put_call(table: &mut [u32], e: u32, x: u32) -> u32
     requires { (e + 3 ≤ rows table.old) × (length table.old ≤ 32768) }
     ensures { Placed table.old e (call_put x) table.new result }
 {
-    put_row(table, e, [66, 0, 0, 0, 0, 0, 0, 0]);
-    put_row(table, e + 1, [129, 0, x, 0, 0, 0, 0, 0]);
-    put_row(table, e + 2, [225, 0, 0, 0, 0, 0, 0, 0]);
+    put_row(table, e, [SEQ_HEAD, 0, 0, 0, 0, 0, 0, 0]);
+    put_row(table, e + 1, [CALL_HEAD, 0, x, 0, 0, 0, 0, 0]);
+    put_row(table, e + 2, [MATCH_HEAD, 0, 0, 0, 0, 0, 0, 0]);
     e + 3
 }
 
@@ -103,7 +121,7 @@ fn put_build(table: &mut [u32], e: u32) -> u32
     requires { (e + 1 ≤ rows table.old) × (length table.old ≤ 32768) }
     ensures { Placed table.old e build_put table.new result }
 {
-    put_row(table, e, [241, 0, 0, 0, 0, 0, 0, 0]);
+    put_row(table, e, [BUILD_HEAD, 0, 0, 0, 0, 0, 0, 0]);
     e + 1
 }
 
