@@ -1,21 +1,25 @@
 -- The entries of one line: the scope, the bare entries inside it, and their operands. Assumes nothing.
 use mathlib.Core.Path.{◌≡◌, refl, ap, sym, ◌∙◌, subst}
-use mathlib.Core.Bool.{true}
+use mathlib.Core.Bool.{true, false}
 use mathlib.Core.List.{List, ◌++◌}
 use Prim.Native.Nat.{ℕ, suc, ◌+◌, ◌-◌, ◌*◌, ◌^◌, ◌≤◌, ◌<◌}
 use native.Mathlib.Omega.{arith}
 use lib.ListN.{length}
+use denote.Ref.{Bor}
+use Rattle.std.specs.Prelude.{Result, Ok, Err, IsOk, IfOk}
 use Rattle.words.specs.Words.{rows}
+use Rattle.meaning.proofs.Tests.{impossible}
 use Rattle.rules.specs.Rule.{Rule, rule_variables}
 use Rattle.rules.specs.Text.{ReadRule, rule, rule_of}
 use Rattle.rules.specs.Entries.{Entry, mask_of, rule_code, code_size, code_entries, rule_entries, Rows}
 use Rattle.rules.specs.Scan.{fields_from}
-use Rattle.rules.specs.Shape.{shape_of, rule_size}
+use Rattle.rules.specs.Shape.{Shape, shape_of, rule_size}
+use Rattle.rules.specs.Walk.{shape_told}
+use Rattle.rules.specs.declared.rule_text.RuleText.{RuleText}
 use Rattle.check_rules.specs.Bound.{window, all_below, marks_from, RuleLine}
-use Rattle.rules.specs.Shape.{Shape}
 use Rattle.rules.proofs.Sizes.{length-code}
-use Rattle.check_rules.proofs.Calling.{rule-line}
 use Rattle.check_rules.proofs.Early.{its-rule}
+use Rattle.check_rules.proofs.Lines.{known}
 use Rattle.translate.specs.Added.{put_entries, Placed, LineFits, LineIn}
 use Rattle.translate.specs.Bare.{scope_put, bare_body, Fits, PlacedIn}
 use Rattle.translate.specs.Links.{steps_table}
@@ -33,13 +37,19 @@ rule-entries : (e : ℕ) (r : Rule) → scope_put e (mask_of (rule_variables r))
 unfolding rule_entries rule_code code_entries
 rule-entries e r = refl
 
-shape-good : (x : ReadRule) (r : Rule) → x ≡ rule r → (shape_of x).good ≡ true
-shape-good x r e = rw e
+-- Of a rule's line the shape is told.
+pub rule-told : (r : Result RuleText ℕ) (l : List ℕ) {first room : ℕ} → shape_told r ≡ shape_of (rule_of l) → LineFits first room (rule_of l) → IsOk r
+rule-told (Ok a) l e h = refl
+rule-told (Err n) l e h = let x : false ≡ true = ap (λ (s : Shape). s.good) (e ∙ ap shape_of h.is) in impossible (cc)
 
-module _ (l : List ℕ) (s : Shape) (is : s ≡ shape_of (rule_of l)) (first : ℕ) (t₀ : List ℕ) (h : LineFits first (rows t₀) (rule_of l)) where
-  line : RuleLine l s.right s.conditions
-  line = rule-line l s is (ap (λ (x : Shape). x.good) is ∙ shape-good (rule_of l) h.its h.is)
+-- It is of the line.
+pub told-line : {r : Result RuleText ℕ} {l : Bor (List ℕ)} (s : RuleText) → r ≡ Ok s → IfOk r (λ (x : RuleText). x.line ≡ l) → s.line ≡ l
+told-line {r} {l} s e h = rw e at h
 
+pub known-line : {l : Bor (List ℕ)} (s : RuleText) → s.line ≡ l → RuleLine l.now s.right s.conditions
+known-line s e = subst (λ (x : Bor (List ℕ)). RuleLine x.now s.right s.conditions) e (known s)
+
+module _ (l : List ℕ) {right conditions : ℕ} (line : RuleLine l right conditions) (first : ℕ) (t₀ : List ℕ) (h : LineFits first (rows t₀) (rule_of l)) where
   same : h.its ≡ line.its
   same = let z : rule h.its ≡ rule line.its = sym h.is ∙ its-rule line in cc
 
@@ -60,7 +70,7 @@ module _ (l : List ℕ) (s : Shape) (is : s ≡ shape_of (rule_of l)) (first : �
       bare-fits : e₁ + length (bare_body line.its) ≤ rows t₁
       bare-fits = omega (arith, fits, body-long line.its, scope.place, same₁)
 
-      pub body-room : Fits bare_body l s.right s.conditions e₁ (rows t₁)
+      pub body-room : Fits bare_body l right conditions e₁ (rows t₁)
       body-room = record { line = line; fits = bare-fits }
 
       module _ (t₂ : List ℕ) (stop : ℕ) (body : PlacedIn (rule_of l) bare_body t₁ e₁ t₂ stop) (same₂ : length t₂ ≡ length t₁) where

@@ -92,9 +92,6 @@ module _ {l : List ℕ} {first : ℕ} {t₀ t : List ℕ} {e at : ℕ} (g : Head
           fits = g.fits;
         }
 
-    pub heading-further : at < r.next
-    heading-further = let a : r.next ≡ after_it at next.first = ap (λ (x : Found). x.next) next.found in omega arith
-
   pub heading-end : length l < at → PlacedIn (rule_of l) its_conditions t₀ first t e
   heading-end past =
       let w = none-put t e g.rest (no-conditions g.rest (sym (fields-past l at past) ∙ g.text)) in

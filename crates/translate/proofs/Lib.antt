@@ -11,4 +11,5 @@ pub mod Adding
 pub mod Lining
 pub mod Sound
 pub mod Extending
+pub mod Refusing
 pub mod Promises

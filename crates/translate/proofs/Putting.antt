@@ -9,7 +9,6 @@ use Rattle.words.specs.Words.{rows, put_row}
 use Rattle.meaning.specs.Table.{PVAR, PCON}
 use Rattle.text.specs.Text.{up_to, one_word, number_of}
 use Rattle.rules.specs.Text.{Fields, variable, constructor, neither, head_of, up_to_six}
-use Rattle.rules.specs.Held.{count_held}
 use Rattle.rules.specs.Entries.{Entry, pattern, row_of}
 use Rattle.rules.specs.Scan.{fields_from}
 use Rattle.translate.specs.Added.{put_entries, Placed}
@@ -56,21 +55,13 @@ module _ (f : List ℕ) (fs : Fields) where
   first-constructor zero c m h = absurd (omega arith)
   first-constructor (suc w) c m h = let z : suc w - 1 ≡ w = omega arith in rw (← h, z)
 
-  first-bad : (c w : ℕ) → 7 ≡ count_held (up_to_six (number_of one_word f)) → bare_count (f ∷ fs) c w ≡ []
+  first-bad : (c w : ℕ) → none ≡ up_to_six (number_of one_word f) → bare_count (f ∷ fs) c w ≡ []
   unfolding bare_count
-  first-bad c w h = go (up_to_six (number_of one_word f)) (six-most (number_of one_word f)) h
-    where
-      go : (o : Option ℕ) → SixMost o → 7 ≡ count_held o → on_count o (λ n. pattern (PCON c (replicate n 0)) ∷ bare_of fs (w + n)) ≡ []
-      go none i h = refl
-      go (some k) i h = absurd (omega arith)
+  first-bad c w h = rw (← h)
 
-  first_count : (c w k : ℕ) → k ≡ count_held (up_to_six (number_of one_word f)) → (k ≡ 7 → ⊥) → (bare_count (f ∷ fs) c w ≡ pattern (PCON c (replicate k 0)) ∷ bare_of fs (w + k)) × (k ≤ 6)
+  first_count : (c w k : ℕ) → some k ≡ up_to_six (number_of one_word f) → (bare_count (f ∷ fs) c w ≡ pattern (PCON c (replicate k 0)) ∷ bare_of fs (w + k)) × (k ≤ 6)
   unfolding bare_count
-  first_count c w k h m = go (up_to_six (number_of one_word f)) (six-most (number_of one_word f)) h
-    where
-      go : (o : Option ℕ) → SixMost o → k ≡ count_held o → (on_count o (λ n. pattern (PCON c (replicate n 0)) ∷ bare_of fs (w + n)) ≡ pattern (PCON c (replicate k 0)) ∷ bare_of fs (w + k)) × (k ≤ 6)
-      go none i h = absurd (m h)
-      go (some j) i h = (ap (λ (n : ℕ). pattern (PCON c (replicate n 0)) ∷ bare_of fs (w + n)) (sym h), omega arith)
+  first_count c w k h = (rw (← h), rw (← h) at (six-most (number_of one_word f)))
 
 pub bare-past : (l : List ℕ) (i w : ℕ) → length l < i → bare_of (fields_from l i) w ≡ []
 unfolding bare_of
@@ -96,12 +87,12 @@ module _ (l : List ℕ) (i e : ℕ) (at : i ≤ length l) (found : e ≡ i + len
   pub bare-constructor : (w c : ℕ) → 0 < w → constructor c ≡ head_of field → bare_of (fields_from l i) w ≡ bare_count (fields_from l (e + 1)) c (w - 1)
   bare-constructor w c m h = ap (λ (fs : Fields). bare_of fs w) here ∙ first-constructor field (fields_from l (e + 1)) w c m h
 
-  pub count-bad : (c w : ℕ) → 7 ≡ count_held (up_to_six (number_of one_word field)) → bare_count (fields_from l i) c w ≡ []
+  pub count-bad : (c w : ℕ) → none ≡ up_to_six (number_of one_word field) → bare_count (fields_from l i) c w ≡ []
   count-bad c w h = ap (λ (fs : Fields). bare_count fs c w) here ∙ first-bad field (fields_from l (e + 1)) c w h
 
-  pub count-some : (c w k : ℕ) → k ≡ count_held (up_to_six (number_of one_word field)) → (k ≡ 7 → ⊥)
+  pub count-some : (c w k : ℕ) → some k ≡ up_to_six (number_of one_word field)
       → (bare_count (fields_from l i) c w ≡ pattern (PCON c (replicate k 0)) ∷ bare_of (fields_from l (e + 1)) (w + k)) × (k ≤ 6)
-  count-some c w k h m = let (x, y) = first_count field (fields_from l (e + 1)) c w k h m in (ap (λ (fs : Fields). bare_count fs c w) here ∙ x, y)
+  count-some c w k h = let (x, y) = first_count field (fields_from l (e + 1)) c w k h in (ap (λ (fs : Fields). bare_count fs c w) here ∙ x, y)
 
 -- ---- the loop
 

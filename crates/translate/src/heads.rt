@@ -1,7 +1,8 @@
 // The entries of a good line in preorder, before their operands are known; a CALL has its REC, and the SCOPE has its operand.
-ghost use Rattle.std.specs.Prelude.{◌+◌, ◌≤◌, length};
+ghost use Rattle.std.specs.Prelude.{◌+◌, ◌≤◌, length, Ok};
 ghost use Rattle.words.specs.Words.{rows};
 ghost use Rattle.rules.specs.Text.{rule_of};
+ghost use Rattle.rules.specs.Condition.{found_of};
 ghost use Rattle.rules.specs.Scan.{fields_from};
 ghost use Rattle.translate.specs.Added.{Placed};
 ghost use Rattle.translate.specs.Bare.{scope_put, bare_of, body_opened, condition_opened, call_put, build_put, bare_found, bare_body, its_conditions, Fits, PlacedIn};
@@ -127,8 +128,8 @@ fn put_build(table: &mut [u32], e: u32) -> u32
 
 // The entries of a condition.
 fn put_condition(table: &mut [u32], line: &[u8], c: Condition, first: u32) -> u32
-    requires { (first + length (bare_found line.now c) ≤ rows table.old) × (length table.old ≤ 32768) }
-    ensures { Placed table.old first (bare_found line.now c) table.new result }
+    requires { (first + length (bare_found line.now (found_of (Ok c))) ≤ rows table.old) × (length table.old ≤ 32768) }
+    ensures { Placed table.old first (bare_found line.now (found_of (Ok c))) table.new result }
 {
     let start = open_condition(table, first);
     let call = put_term(table, line, c.start, start);

@@ -1,15 +1,17 @@
 -- `translate::heads::put_condition` meets its contract, part by part. Assumes nothing.
 use Rattle.translate.proofs.Placing.{found-long, placed-found}
 use native.Mathlib.Omega.{arith}
+use Rattle.std.specs.Prelude.{Ok}
+use Rattle.rules.specs.Condition.{found_of}
 use Rattle.translate.proofs.heads.put_condition.Goals as goal
 
 pub open_condition-start-requires : goal.open_condition-start-requires
 open_condition-start-requires c =
-    (omega (arith, c.requires.0, found-long c.args.line.now c.args.c), c.requires.1)
+    (omega (arith, c.requires.0, found-long c.args.line.now (found_of (Ok c.args.c))), c.requires.1)
 
 pub put_term-call-requires : goal.put_term-call-requires
 put_term-call-requires c = (
-  omega (arith, c.requires.0, found-long c.args.line.now c.args.c, c.open_condition-start.ensures.place, c.open_condition-start.auto.table),
+  omega (arith, c.requires.0, found-long c.args.line.now (found_of (Ok c.args.c)), c.open_condition-start.ensures.place, c.open_condition-start.auto.table),
   omega
       (arith, c.requires.1, c.open_condition-start.auto.table),
 )
@@ -20,7 +22,7 @@ put_call-outcome-requires c = (
     arith,
     c.requires.0,
     found-long c.args.line.now
-        c.args.c,
+        (found_of (Ok c.args.c)),
     c.open_condition-start.ensures.place,
     c.open_condition-start.auto.table,
     c.put_term-call.ensures.place,
@@ -35,7 +37,7 @@ put_term-requires c = (
     arith,
     c.requires.0,
     found-long c.args.line.now
-        c.args.c,
+        (found_of (Ok c.args.c)),
     c.open_condition-start.ensures.place,
     c.open_condition-start.auto.table,
     c.put_term-call.ensures.place,
@@ -49,5 +51,5 @@ put_term-requires c = (
 
 pub returns : goal.returns
 returns c =
-    placed-found c.args.line.now c.args.c c.open_condition-start.ensures c.put_term-call.ensures c.put_call-outcome.ensures
+    placed-found c.args.line.now (found_of (Ok c.args.c)) c.open_condition-start.ensures c.put_term-call.ensures c.put_call-outcome.ensures
     c.put_term.ensures

@@ -24,7 +24,7 @@ loop-e-preserved c =
     let e = c.loop-e.e in
     let inv = c.loop-e.invariant in
     let h = link-step c.args.table.now c.args.ends.now c.args.stop e (omega arith) (omega arith) inv.2 inv.3 c.row_linked-got.ensures
-        c.put_row.ensures
+    c.put_row.ensures
     in
     let i : 8 * (e - 1) + 8 ≤ length c.loop-e.table = omega arith in
     let n : length c.row_linked-got.result.row ≡ 8 = ap (λ (r : Linked). length r.row) c.row_linked-got.ensures ∙ row-eight c.loop-e.table c.loop-e.ends (e - 1) in

@@ -12,7 +12,7 @@ use Rattle.translate.proofs.link.row_linked.Goals as goal
 pub loop-i-init : goal.loop-i-init
 loop-i-init c =
     let n : c.inner-i-end.result ≡ inner_of (word_at c.args.table.now c.args.e 0) =
-        c.inner-i-end.ensures ∙ ap (λ (row : List ℕ). inner_of (get_or row 0 0)) c.row-row.ensures
+    c.inner-i-end.ensures ∙ ap (λ (row : List ℕ). inner_of (get_or row 0 0)) c.row-row.ensures
     in (
       ap (λ (row : List ℕ). length row) c.row-row.ensures,
       ap (λ (row : List ℕ). filled (c.inner-i-end.result - 0) (c.args.e + 1) c.args.ends.now row 2) c.row-row.ensures
