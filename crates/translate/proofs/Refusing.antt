@@ -11,7 +11,7 @@ use Rattle.check_rules.specs.Check.{told_of}
 use Rattle.check_rules.specs.declared.check.RulesRefusal.{RulesRefusal}
 use Rattle.check_rules.specs.declared.check.RulesRefusal.TheVariants.{Table, Line}
 
-fault_ne0 : (f : LineFault) → line_fault_number f ≡ 0 → ⊥
+pub fault_ne0 : (f : LineFault) → line_fault_number f ≡ 0 → ⊥
 fault_ne0 (fault.Shape n) z = absurd (omega arith)
 fault_ne0 fault.Unbound z = absurd (omega arith)
 fault_ne0 fault.Range z = absurd (omega arith)
