@@ -9,7 +9,7 @@ use checks::kinds::PVAR;
 use index::lent::{Node, ask};
 use state::answers::{Answer, answer_of, done, no_binding, no_nesting, no_room, no_units};
 use state::reading::{entry, kind, operands};
-use state::record::{MARK, NODES, RECORD, ROOM, TOP, bit, word_of};
+use state::record::{MARK, NODES, RECORD, ROOM, TOP, is_bound, word_of};
 use words::put_row;
 
 // The node of these eight words where the room does not let it be made at once: there is none, or the index is asked.
@@ -64,7 +64,7 @@ fn build_variable(table: &[u32; 32768], st: &[u32; RECORD], p: u32, units: u32, 
         return no_nesting(units);
     }
     let v = entry(table, p, 1);
-    if bit(st, v) == 1 {
+    if is_bound(st, v) {
         return done(word_of(st, v), units - 1);
     }
     no_binding(v, units - 1)

@@ -9,7 +9,7 @@ use crate::compare::same;
 use checks::kinds::PVAR;
 use state::answers::{Answer, HALF, answer_of, done, failure, no_nesting, no_units, stopped};
 use state::reading::{agree, entry, kind, node_word, operands};
-use state::record::{Bindings, MISS, RECORD, bind, bit, give_up, put_variable, word_of};
+use state::record::{Bindings, MISS, RECORD, bind, give_up, is_bound, put_variable, word_of};
 
 // The children of a PCON whose constructor and count agree with the node's, after its own visit, one by one, in the record lent. Some
 // nesting is left for them, so that the loop does not test it; its caller does.
@@ -35,7 +35,7 @@ fn match_nested(
         left -= 1;
         if kind(table, q) == PVAR {
             let v = entry(table, q, 1);
-            if bit(st, v) == 1 {
+            if is_bound(st, v) {
                 // A call gets a copy of the slice, so that the slice itself stays in registers; so below.
                 let words = store;
                 let got = same(words, word_of(st, v), c, left, deep - 1);
@@ -115,7 +115,7 @@ fn match_in_place(
         i += 1;
         if kind(table, q) == PVAR {
             let v = entry(table, q, 1);
-            if bit(st, v) == 1 {
+            if is_bound(st, v) {
                 let words = store;
                 let got = same(words, word_of(st, v), c, left, d - 1);
                 let Answer::Done(_, rest) = answer_of(got) else {
@@ -187,7 +187,7 @@ pub fn match_node(
     let t = (s / HALF) as u32;
     if kind(table, p) == PVAR {
         let v = entry(table, p, 1);
-        if bit(st, v) == 1 {
+        if is_bound(st, v) {
             let words = store;
             let got = same(words, word_of(st, v), t, left - 1, deep - 1);
             let Answer::Done(_, rest) = answer_of(got) else {

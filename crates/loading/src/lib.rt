@@ -9,7 +9,7 @@ ghost use Rattle.state.specs.Record.{held};
 ghost use Rattle.loading.specs.Loaded.{Loaded, Opened};
 
 use crate::hints::hint_for;
-use state::record::{MARK, NODES, RECORD, ROOM, TOP, bit, put_variable, word_of};
+use state::record::{MARK, NODES, RECORD, ROOM, TOP, is_bound, put_variable, word_of};
 
 mod hints;
 
@@ -54,7 +54,7 @@ pub fn closed(bindings: &mut [u32], st: [u32; RECORD])
 {
     for (v, w) in bindings.iter_mut().enumerate() {
         let v = v as u32;
-        *w = if bit(&st, v) == 1 {
+        *w = if is_bound(&st, v) {
             word_of(&st, v) + 1
         } else {
             0

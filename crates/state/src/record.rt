@@ -2,7 +2,7 @@
 // match gave up last, the room, the nodes that an index holds, the store's nodes, and the mask of the variables that are bound, in two
 // words, the low one first. The word of an unbound variable means nothing. Where the mask stands and how it is set is known here alone;
 // elsewhere it is one number.
-ghost use Rattle.std.specs.Prelude.{◌≡◌, ◌+◌, ◌≤◌, ◌<◌, length, get_or, replicate};
+ghost use Rattle.std.specs.Prelude.{◌≡◌, ◌+◌, ◌≤◌, ◌<◌, eqb, length, get_or, replicate};
 ghost use Rattle.std.specs.Int.Bits.{bit_and};
 ghost use Rattle.checks.specs.Kinds.{variables};
 ghost use Rattle.state.specs.Answers.{answer_of};
@@ -61,12 +61,12 @@ fn put_mask(st: &mut [u32; RECORD], mask: u64)
     st[MASK_HIGH] = (mask / HALF) as u32;
 }
 
-// 1 where variable v is bound, else 0.
-pub fn bit(st: &[u32; RECORD], v: u32) -> u64
+// Whether variable v is bound.
+pub fn is_bound(st: &[u32; RECORD], v: u32) -> bool
     requires { v < variables }
-    ensures { result ≡ bit_of (mask_of st.now) v }
+    ensures { result ≡ eqb (bit_of (mask_of st.now) v) 1 }
 {
-    (mask_of(st) >> v) % 2
+    (mask_of(st) >> v) % 2 == 1
 }
 
 // The word of variable v: its node, where it is bound.

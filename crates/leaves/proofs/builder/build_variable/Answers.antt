@@ -1,4 +1,5 @@
 -- `builder::build_variable` meets its contract: the limits first, then the variable's node, or that it has none.
+use borrow.Author.Tests.{eqb-true, eqb-false}
 use mathlib.Core.Path.{sym, ◌∙◌}
 use Prim.Native.Nat.{◌<◌}
 use native.Mathlib.Omega.{arith}
@@ -19,8 +20,8 @@ returns-then-deep-eq0 c = λ w s k. record {
   frame = framed-refl further _;
 }
 
-pub bit-requires : goal.bit-requires
-bit-requires c =
+pub is_bound-requires : goal.is_bound-requires
+is_bound-requires c =
     let small : c.entry-v.result < variables =
     omega (
       arith,
@@ -41,8 +42,8 @@ word_of-requires c =
     ) in
     small
 
-pub returns-then-bit-eq1 : goal.returns-then-bit-eq1
-returns-then-bit-eq1 c =
+pub returns-then-is_bound : goal.returns-then-is_bound
+returns-then-is_bound c =
     let small : c.entry-v.result < variables =
     omega (
       arith,
@@ -53,7 +54,7 @@ returns-then-bit-eq1 c =
     λ w s k. variable-built _ _ _ _ _ _ c.if-units-eq0.false
     c.if-deep-eq0.false _ c.requires.2
     c.entry-v.ensures k _ (omega arith) s small
-    (sym c.bit.ensures ∙ c.if-bit-eq1.true) c.word_of.ensures c.done.ensures
+    (eqb-true _ 1 (sym c.is_bound.ensures ∙ c.if-is_bound.true)) c.word_of.ensures c.done.ensures
 
 pub no_binding-requires : goal.no_binding-requires
 no_binding-requires c =
@@ -78,4 +79,4 @@ returns c =
     λ w s k. variable-unbound _ _ _ _ _ _ c.if-units-eq0.false
     c.if-deep-eq0.false _ c.requires.2
     c.entry-v.ensures k _ (omega arith) small
-    (λ e. c.if-bit-eq1.false (c.bit.ensures ∙ e)) c.no_binding.ensures
+    (eqb-false _ 1 (sym c.is_bound.ensures ∙ c.if-is_bound.false)) c.no_binding.ensures

@@ -2,7 +2,7 @@ use mathlib.Core.Path.{◌≡◌, sym, ◌∙◌}
 use mathlib.Core.Bool.{true}
 use native.Mathlib.Omega.{arith}
 use borrow.Author.Rules.{rules}
-use borrow.Author.Tests.{not-true, not-false}
+use borrow.Author.Tests.{eqb-false, eqb-true, not-false, not-true}
 use Rattle.checks.specs.Good.{kind_of}
 use Rattle.state.specs.Record.{held}
 use Rattle.state.specs.Visits.{agreeing}
@@ -13,7 +13,7 @@ use Rattle.leaves.proofs.Matching.{operand-is, variable-small, constructor-is, c
 use Rattle.leaves.proofs.Matching.{bound-matched, bound-stops, other, leaf-matched, handed, inner-matched, inner-stops}
 use Prim.Native.Nat.{◌+◌, ◌-◌, ◌<◌}
 use Rattle.leaves.proofs.matcher.+match_nested.Goals as goal
-use Rattle.leaves.proofs.matcher.+match_nested.Goals.{then-kind-eq-PVAR+then-bit-eq1+in-Done, then-kind-eq-PVAR+else-bit-eq1}
+use Rattle.leaves.proofs.matcher.+match_nested.Goals.{then-kind-eq-PVAR+then-is_bound+in-Done, then-kind-eq-PVAR+else-is_bound}
 use Rattle.leaves.proofs.matcher.+match_nested.Goals.{else-kind-eq-PVAR+else-not-agree+then-operands-ne0+else-deep-eq1+in-Done-answer_of}
 use Rattle.leaves.proofs.matcher.+match_nested.Goals.{else-kind-eq-PVAR+else-not-agree+else-operands-ne0}
 
@@ -105,8 +105,8 @@ entry-v-requires t c =
     } in
     ((operand-is turn).0, omega arith)
 
-pub bit-requires : goal.bit-requires
-bit-requires t c =
+pub is_bound-requires : goal.is_bound-requires
+is_bound-requires t c =
     let turn : let a = c.args in let l = c.loop-i in Turn a.table.now a.store.now a.deep a.p a.s a.st.now l.st l.left l.i c.entry-q.result c.node_word-c.result =
     let f = c.requires.1 in
     let i = c.loop-i.invariant in
@@ -170,7 +170,7 @@ same-got-requires t c =
     sym c.kind.ensures ∙ c.if-kind-eq-PVAR.true in
     let k = turn in (
       bound-there k is-variable c.entry-v.ensures
-          (sym c.bit.ensures ∙ c.if-bit-eq1.true) c.word_of.ensures c.requires.2,
+          (eqb-true _ 1 (sym c.is_bound.ensures ∙ c.if-is_bound.true)) c.word_of.ensures c.requires.2,
       child-there k,
     )
 
@@ -197,7 +197,7 @@ returns-in_default t c =
     sym c.kind.ensures ∙ c.if-kind-eq-PVAR.true in
     bound-stops turn c.if-left-eq0.false levels
     is-variable c.entry-v.ensures c.loop-i.invariant.3
-    (sym c.bit.ensures ∙ c.if-bit-eq1.true) c.word_of.ensures _
+    (eqb-true _ 1 (sym c.is_bound.ensures ∙ c.if-is_bound.true)) c.word_of.ensures _
     (λ m. c.same-got.ensures _ (held c.loop-i.st) m) _ c.answer_of.ensures
     c.give_up.ensures (Tagged-not_done _ c.in_default.not-Done)
 
@@ -408,14 +408,14 @@ loop-i-preserved t c =
     let e = c.kind.ensures in
     let less : l.left - 1 < 4294967296 = omega (arith, l.invariant.2) in
     elim c.if-kind-eq-PVAR.branch [
-      | then-kind-eq-PVAR+then-bit-eq1+in-Done w ↦
+      | then-kind-eq-PVAR+then-is_bound+in-Done w ↦
           matched-at _ _ _ _ _ _ _ _ _ _ _ w.st-is w.left-is (omega (arith, done-node _ _ _ (sym w.answer_of.ensures ∙ w.in-Done.is)))
-          (bound-matched k z d (sym e ∙ w.if-kind-eq-PVAR.true) w.entry-v.ensures l.invariant.3 (sym w.bit.ensures ∙ w.if-bit-eq1.true)
+          (bound-matched k z d (sym e ∙ w.if-kind-eq-PVAR.true) w.entry-v.ensures l.invariant.3 (eqb-true _ 1 (sym w.is_bound.ensures ∙ w.if-is_bound.true))
           w.word_of.ensures _ (λ m. w.same-got.ensures _ (held l.st) m) _ w.answer_of.ensures _ _ w.in-Done.is)
-      | then-kind-eq-PVAR+else-bit-eq1 w ↦
+      | then-kind-eq-PVAR+else-is_bound w ↦
           matched-at _ _ _ _ _ _ _ _ _ _ _ w.st-is w.left-is less
           (free-matched k z d (sym e ∙ w.if-kind-eq-PVAR.true) w.entry-v.ensures l.invariant.3
-          (λ f. w.if-bit-eq1.false (w.bit.ensures ∙ f)) w.put_variable.ensures)
+          (eqb-false _ 1 (sym w.is_bound.ensures ∙ w.if-is_bound.false)) w.put_variable.ensures)
       | else-kind-eq-PVAR+else-not-agree+then-operands-ne0+else-deep-eq1+in-Done-answer_of w ↦
           matched-at _ _ _ _ _ _ _ _ _ _ _ w.st-is w.left-is
           (omega (arith, done-node _ _ _ (sym w.answer_of-then-operands-ne0.ensures ∙ w.in-Done-answer_of.is)))

@@ -2,7 +2,7 @@ use mathlib.Core.Path.{◌≡◌, sym, ◌∙◌}
 use mathlib.Core.Bool.{true}
 use Prim.Native.Nat.{◌<◌, ◌≤◌}
 use native.Mathlib.Omega.{arith}
-use borrow.Author.Tests.{not-true, not-false}
+use borrow.Author.Tests.{eqb-false, eqb-true, not-false, not-true}
 use Rattle.checks.specs.Kinds.{variables}
 use Rattle.checks.specs.Good.{kind_of, operand_count}
 use Rattle.state.specs.Record.{held}
@@ -81,8 +81,8 @@ entry-v-requires c =
     c.node_word-c.ensures l.2 in
     ((operand-is turn).0, omega arith)
 
-pub bit-requires : goal.bit-requires
-bit-requires c =
+pub is_bound-requires : goal.is_bound-requires
+is_bound-requires c =
     let turn : let a = c.args in let l = c.loop-i in Turn a.table.now a.store.now l.d l.x l.invariant.5.given l.invariant.5.held_then l.st l.left l.i c.entry-q.result c.node_word-c.result =
     let l = c.loop-i.invariant in
     going-turn l.5 c.requires.1.0 (omega arith) c.entry-q.ensures
@@ -114,7 +114,7 @@ same-got-requires c =
     let is-variable : kind_of c.args.table.now c.entry-q.result ≡ 18 =
     sym c.kind.ensures ∙ c.if-kind-eq-PVAR.true in
     let k = turn in (
-      bound-there k is-variable c.entry-v.ensures (sym c.bit.ensures ∙ c.if-bit-eq1.true)
+      bound-there k is-variable c.entry-v.ensures (eqb-true _ 1 (sym c.is_bound.ensures ∙ c.if-is_bound.true))
           c.word_of.ensures c.loop-i.invariant.5.bound-then,
       child-there k,
     )
@@ -129,15 +129,15 @@ returns-in_default c =
     sym c.kind.ensures ∙ c.if-kind-eq-PVAR.true in
     c.loop-i.invariant.5.whole _ _ (bound-stops turn c.if-left-eq0.false (λ e. omega (arith, c.loop-i.invariant.3))
     is-variable c.entry-v.ensures c.loop-i.invariant.4
-    (sym c.bit.ensures ∙ c.if-bit-eq1.true) c.word_of.ensures _
+    (eqb-true _ 1 (sym c.is_bound.ensures ∙ c.if-is_bound.true)) c.word_of.ensures _
     (λ m. c.same-got.ensures _ (held c.loop-i.st) m) _ c.answer_of.ensures
     c.give_up.ensures (Tagged-not_done _ c.in_default.not-Done))
 
-pub loop-i-smaller-then-bit-eq1 : goal.loop-i-smaller-then-bit-eq1
-loop-i-smaller-then-bit-eq1 c = omega arith
+pub loop-i-smaller-then-is_bound : goal.loop-i-smaller-then-is_bound
+loop-i-smaller-then-is_bound c = omega arith
 
-pub loop-i-preserved-then-bit-eq1 : goal.loop-i-preserved-then-bit-eq1
-loop-i-preserved-then-bit-eq1 c =
+pub loop-i-preserved-then-is_bound : goal.loop-i-preserved-then-is_bound
+loop-i-preserved-then-is_bound c =
     let turn : let a = c.args in let l = c.loop-i in Turn a.table.now a.store.now l.d l.x l.invariant.5.given l.invariant.5.held_then l.st l.left l.i c.entry-q.result c.node_word-c.result =
     let l = c.loop-i.invariant in
     going-turn l.5 c.requires.1.0 (omega arith) c.entry-q.ensures
@@ -146,7 +146,7 @@ loop-i-preserved-then-bit-eq1 c =
     sym c.kind.ensures ∙ c.if-kind-eq-PVAR.true in
     let l = c.loop-i.invariant in
     let f = bound-matched turn c.if-left-eq0.false (λ e. omega (arith, c.loop-i.invariant.3))
-    is-variable c.entry-v.ensures l.4 (sym c.bit.ensures ∙ c.if-bit-eq1.true)
+    is-variable c.entry-v.ensures l.4 (eqb-true _ 1 (sym c.is_bound.ensures ∙ c.if-is_bound.true))
     c.word_of.ensures _ (λ m. c.same-got.ensures _ (held c.loop-i.st) m) _
     c.answer_of.ensures _ _ c.in-Done.is in (
       omega (arith, c.loop-i-test.true),
@@ -171,11 +171,11 @@ put_variable-requires c =
     variable-small turn is-variable c.entry-v.ensures in
     small
 
-pub loop-i-smaller-else-bit-eq1 : goal.loop-i-smaller-else-bit-eq1
-loop-i-smaller-else-bit-eq1 c = omega arith
+pub loop-i-smaller-else-is_bound : goal.loop-i-smaller-else-is_bound
+loop-i-smaller-else-is_bound c = omega arith
 
-pub loop-i-preserved-else-bit-eq1 : goal.loop-i-preserved-else-bit-eq1
-loop-i-preserved-else-bit-eq1 c =
+pub loop-i-preserved-else-is_bound : goal.loop-i-preserved-else-is_bound
+loop-i-preserved-else-is_bound c =
     let turn : let a = c.args in let l = c.loop-i in Turn a.table.now a.store.now l.d l.x l.invariant.5.given l.invariant.5.held_then l.st l.left l.i c.entry-q.result c.node_word-c.result =
     let l = c.loop-i.invariant in
     going-turn l.5 c.requires.1.0 (omega arith) c.entry-q.ensures
@@ -184,7 +184,7 @@ loop-i-preserved-else-bit-eq1 c =
     sym c.kind.ensures ∙ c.if-kind-eq-PVAR.true in
     let l = c.loop-i.invariant in
     let f = free-matched turn c.if-left-eq0.false (λ e. omega (arith, c.loop-i.invariant.3))
-    is-variable c.entry-v.ensures l.4 (λ e. c.if-bit-eq1.false (c.bit.ensures ∙ e))
+    is-variable c.entry-v.ensures l.4 (eqb-false _ 1 (sym c.is_bound.ensures ∙ c.if-is_bound.false))
     c.put_variable.ensures in
     (omega arith, l.1, omega (arith, l.2), l.3, going-long l.5 l.4 f, going_on l.5 f)
 

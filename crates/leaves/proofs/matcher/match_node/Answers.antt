@@ -3,7 +3,7 @@ use mathlib.Core.Path.{◌≡◌, sym, ◌∙◌}
 use Prim.Native.Nat.{◌<◌}
 use native.Mathlib.Omega.{arith}
 use mathlib.Core.Bool.{true}
-use borrow.Author.Tests.{not-true, not-false}
+use borrow.Author.Tests.{eqb-false, eqb-true, not-false, not-true}
 use Rattle.checks.specs.Kinds.{variables}
 use Rattle.checks.specs.Good.{kind_of}
 use Rattle.state.specs.Answers.{node_in}
@@ -25,8 +25,8 @@ pub returns-then-deep-eq0 : goal.returns-then-deep-eq0
 returns-then-deep-eq0 c = root-nesting c.requires.0 _ c.no_nesting.ensures c.if-left-eq0.false
     c.if-deep-eq0.true
 
-pub bit-requires : goal.bit-requires
-bit-requires c =
+pub is_bound-requires : goal.is_bound-requires
+is_bound-requires c =
     let is-variable : kind_of c.args.table.now c.args.p ≡ 18 =
     sym c.kind.ensures ∙ c.if-kind-eq-PVAR.true in
     let small : c.entry-v.result < variables =
@@ -50,7 +50,7 @@ same-got-requires c =
     let is-variable : kind_of c.args.table.now c.args.p ≡ 18 =
     sym c.kind.ensures ∙ c.if-kind-eq-PVAR.true in (
       root-bound-there c.requires.0 c.args.deep c.if-left-eq0.false c.if-deep-eq0.false is-variable
-          c.entry-v.ensures (sym c.bit.ensures ∙ c.if-bit-eq1.true) c.word_of.ensures,
+          c.entry-v.ensures (eqb-true _ 1 (sym c.is_bound.ensures ∙ c.if-is_bound.true)) c.word_of.ensures,
       root-stored
           c.requires.0 c.args.deep,
     )
@@ -60,16 +60,16 @@ returns-in_default c =
     let is-variable : kind_of c.args.table.now c.args.p ≡ 18 =
     sym c.kind.ensures ∙ c.if-kind-eq-PVAR.true in
     root-bound-stops c.requires.0 _ c.if-left-eq0.false c.if-deep-eq0.false is-variable
-    c.entry-v.ensures (sym c.bit.ensures ∙ c.if-bit-eq1.true) c.word_of.ensures _
+    c.entry-v.ensures (eqb-true _ 1 (sym c.is_bound.ensures ∙ c.if-is_bound.true)) c.word_of.ensures _
     (c.same-got.ensures _ (held c.args.st.now) (standing c.args.st.now)) _
     c.answer_of.ensures c.give_up.ensures (Tagged-not_done _ c.in_default.not-Done)
 
-pub returns-then-bit-eq1 : goal.returns-then-bit-eq1
-returns-then-bit-eq1 c =
+pub returns-then-is_bound : goal.returns-then-is_bound
+returns-then-is_bound c =
     let is-variable : kind_of c.args.table.now c.args.p ≡ 18 =
     sym c.kind.ensures ∙ c.if-kind-eq-PVAR.true in
     root-bound c.requires.0 _ c.if-left-eq0.false c.if-deep-eq0.false is-variable
-    c.entry-v.ensures (sym c.bit.ensures ∙ c.if-bit-eq1.true) c.word_of.ensures _
+    c.entry-v.ensures (eqb-true _ 1 (sym c.is_bound.ensures ∙ c.if-is_bound.true)) c.word_of.ensures _
     (c.same-got.ensures _ (held c.args.st.now) (standing c.args.st.now)) _
     c.answer_of.ensures _ _ _ c.in-Done.is c.done.ensures
 
@@ -88,7 +88,7 @@ returns-then-kind-eq-PVAR c =
     let is-variable : kind_of c.args.table.now c.args.p ≡ 18 =
     sym c.kind.ensures ∙ c.if-kind-eq-PVAR.true in
     root-free c.requires.0 _ c.if-left-eq0.false c.if-deep-eq0.false is-variable c.entry-v.ensures
-    (λ e. c.if-bit-eq1.false (c.bit.ensures ∙ e)) c.bind.ensures
+    (eqb-false _ 1 (sym c.is_bound.ensures ∙ c.if-is_bound.false)) c.bind.ensures
 
 pub agree-requires : goal.agree-requires
 agree-requires c = (c.requires.0.inside, root-stored c.requires.0 c.args.deep)
