@@ -22,6 +22,7 @@ fn sizes_fit(store: &[u32], bindings: &[u32], work: &[u32], mark: u32) -> bool
 }
 
 // The lengths and the mark, then the nodes, then the subject and the bindings.
+// As it is: the lists stay parameters; the check reads all three and the passes write some, so a struct would be made anew for each.
 pub(crate) fn check_collection(
     store: &[u32],
     bindings: &[u32],

@@ -73,6 +73,7 @@ fn pass(table: &[u32], masks: &mut [u64]) -> bool
 
 // Passes until one adds nothing. A second that adds something met a CALL of a REC below it; then the masks are spread in the order of
 // the calls before the next.
+// As it is: table and masks stay two parameters; a struct with a `&mut` to the masks would have to prove its invariant at each write.
 pub fn settle(table: &[u32], masks: &mut [u64])
     requires { GoodTableBy ours table.now × ((rows table.now ≤ length masks.old) × BitsMeant ours table.now masks.old) }
     ensures { BitsMeant ours table.now masks.new × Settled ours table.now masks.new }
