@@ -5,7 +5,6 @@ use mathlib.Core.List.{List, [], ◌∷◌}
 use mathlib.Core.Logic.{⊎_elim}
 use mathlib.Core.Option.{Option, none, some}
 use Prim.Native.Nat.{ℕ, ◌+◌, ◌%◌, ◌≤◌, ◌<◌}
-use native.Mathlib.Nat.{sub-zero}
 use native.Mathlib.Omega.{arith}
 use lib.Dec.{ltb, leb, eqb}
 use lib.ListN.{length, get_or, set, drop, drop_of_length-le}
@@ -13,7 +12,6 @@ use borrow.Author.Tests.{lt-ltb, le-ltb, le-leb, eqb-true, leb-true, ltb-true, e
 use Rattle.checks.specs.Kinds.{variables}
 use Rattle.std.specs.Prelude.{if◌then◌else◌}
 use Rattle.words.proofs.Tests.{and-true, below-or-from}
-use Rattle.words.specs.Words.{cleared_from}
 use Rattle.text.specs.Text.{parts, up_to, eight}
 use Rattle.text.specs.Lines.{line_end}
 use Rattle.job.specs.Lines.{Line, Taken, name_of, job_fits, entry_fits, node_fits, binding_fits, fits, line_from, field_numbers, line_of_fields}
@@ -291,11 +289,6 @@ sound s at t z h = ⊎_elim long last (below-or-from (e s at) (length s))
 
     last : length s ≤ e s at → Sound s at t
     last m = let d : t.name ≡ 4 = ap (λ (u : Taken). u.name) (z ∙ taken-last s at m) in absurd (omega arith)
-
--- Words cleared from the first on are zeros.
-pub cleared-zeros : (w : List ℕ) (n : ℕ) → length w ≡ n → cleared_from w 0 ≡ zeros n
-unfolding cleared_from zeros
-cleared-zeros w n e = rw (sub-zero, e)
 
 -- More than 60,000 bytes.
 pub meant-long : (text : List ℕ) → 60000 < length text → meant text ≡ bad 0

@@ -86,6 +86,7 @@ fn put_line(buf: &mut [u8], five: [u32; 5]) -> usize
 }
 
 // The answer shows what is left.
+// As it is: an answer is a number, of a run, of a refusal, or 9: `answered`, which the contract of `answer` cites, takes it so.
 #[tactic(auto, unfolding(crate::specs::Answer::shown))]
 fn shows(a: u32) -> bool
     ensures { result ≡ shown a }

@@ -189,6 +189,7 @@ fn clear_all(table: &mut [u32], store: &mut [u32], bindings: &mut [u32])
     bindings.fill(0);
 }
 
+// As it is: slices, with their lengths in the contract, which docs/PROMISES.md names: array types would ask more of callers.
 // The job of a text: its numbers, and its words in the lent arrays, or its first bad line, and zeros.
 pub fn read(
     text: &[u8],

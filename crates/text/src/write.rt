@@ -1,5 +1,6 @@
 // Writing a text into a lent buffer: bytes, numbers, lines. Each function puts its text at a place and gives the place
 // after it.
+// As it is: a struct of buffer and place was tried on `put_byte`; a caller's proof, that the lent buffer holds what it leaves, did not close.
 ghost use Rattle.std.specs.Prelude.{[], ◌∷◌, ◌++◌, ◌+◌, ◌*◌, ◌≤◌, ◌<◌, length};
 ghost use Rattle.text.specs.Text.{decimal};
 ghost use Rattle.text.specs.Written.{numbers_text, Put};

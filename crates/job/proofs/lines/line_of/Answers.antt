@@ -1,29 +1,12 @@
 -- `job::lines::line_of` meets its contract: the name ends at the first tab, and the numbers fit it or do not. Assumes nothing.
-use Rattle.std.proofs.Common.{Option, true, false, ◌≡◌, ap, sym, ◌∙◌}
-use denote.Enum.Bare.{sameb}
-use lib.Dec.{eqb}
+use Rattle.std.proofs.Common.{Option, ap, sym, ◌∙◌}
 use borrow.Author.Tests.{eqb-false}
 use lib.Seq.{length-take-le}
 use Rattle.job.specs.Held.{line_taken, name_number}
-use Rattle.job.specs.contracts.Name.{the_type}
 use Rattle.job.specs.declared.Line.{Line}
-use Rattle.job.specs.declared.Name.{Name}
-use Rattle.job.specs.declared.Name.TheVariants.{Job, Entry, Node, Binding}
+use Rattle.job.proofs.Named.{entry-name, other-name}
 use Rattle.job.proofs.Shapes.{name-end, nameless, numberless, entry_whole, bad-line, good-line}
 use Rattle.job.proofs.lines.line_of.Goals as goal
-
--- A name is that of an `e` line, or another.
-entry-name : (k : Name) → true ≡ sameb the_type k Entry → name_number k ≡ 1
-entry-name Job e = cc
-entry-name Entry e = cc
-entry-name Node e = cc
-entry-name Binding e = cc
-
-other-name : (k : Name) → false ≡ sameb the_type k Entry → eqb (name_number k) 1 ≡ false
-other-name Job e = cc
-other-name Entry e = cc
-other-name Node e = cc
-other-name Binding e = cc
 
 pub slice_bounds-name-end : goal.slice_bounds-name-end
 slice_bounds-name-end c =

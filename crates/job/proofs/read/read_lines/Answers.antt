@@ -1,21 +1,14 @@
 -- A bad line, one that may not come next, a line taken in, and the end.
-use Rattle.std.proofs.Common.{arith, ◌≡◌, ◌≤◌, ℕ, true, false, Option, Some, None, ap, sym, ◌∙◌}
+use Rattle.std.proofs.Common.{arith, ◌≡◌, true, false, Option, Some, None, ap, sym}
 use Rattle.std.specs.Option.{is_some}
-use Rattle.job.specs.Lines.{Taken}
-use Rattle.job.specs.Held.{name_number, line_taken, section_of}
+use Rattle.job.specs.Held.{line_taken, section_of}
 use Rattle.job.specs.declared.Line.{Line}
 use Rattle.job.specs.declared.Name.{Name}
 use Rattle.job.specs.declared.Name.TheVariants.{Job, Entry, Node, Binding}
+use Rattle.job.proofs.Named.{name-most, found}
 use Rattle.job.proofs.Readings.{stopped, finished}
 use Rattle.job.proofs.Going.{goes_none, goes-all, goes-bad, goes-refused, line-sound, entry-asks, node-asks, binding-asks, heading-asks, goes_on}
 use Rattle.job.proofs.read.read_lines.Goals as goal
-
--- A name's number.
-name-most : (k : Name) → name_number k ≤ 3
-name-most Job = omega arith
-name-most Entry = omega arith
-name-most Node = omega arith
-name-most Binding = omega arith
 
 -- Before line 1 there is no last name, and after it there is one.
 none-section : (o : Option Name) → is_some o ≡ false → section_of o ≡ 0
@@ -31,10 +24,6 @@ some-section (Some Job) e z = omega arith
 some-section (Some Entry) e z = omega arith
 some-section (Some Node) e z = omega arith
 some-section (Some Binding) e z = omega arith
-
--- What is taken is the line that was found.
-found : {t : Taken} {o : Option Line} {x : Line} (next : ℕ) → o ≡ Some x → line_taken o next ≡ t → line_taken (Some x) next ≡ t
-found next e z = ap (λ (p : Option Line). line_taken p next) (sym e) ∙ z
 
 pub returns-in_default : goal.returns-in_default
 returns-in_default c =
