@@ -16,10 +16,7 @@ fn write_condition(table: &[u32], used: u32, first: u32, line: &mut [u8], from: 
     let passed = write_term(table, used, first + 4, line, from);
     let callee = word(table, passed.entry + 1, 2);
     if line.len() - from < 24 {
-        return Passed {
-            entry: passed.entry,
-            at: from,
-        };
+        return Passed { at: from, ..passed };
     }
     let at = write_number(line, from, callee);
     let start = write_term(table, used, first + 4, line, at);

@@ -47,21 +47,14 @@ pub fn three_numbers(r: Result<usize, WriteRefusal>) -> [u64; 3]
 fn at(words: &[u32], i: usize) -> u32
     ensures { result ≡ get_or words.now i 0 }
 {
-    if i < words.len() { words[i] } else { 0 }
+    words.get(i).copied().unwrap_or(0)
 }
 
 // Whether the words from one place to another are the same in both.
 fn same_words(a: &[u32], b: &[u32], from: usize, to: usize) -> bool
     ensures { SameWords a.now b.now from to result }
 {
-    let mut i = from;
-    while i < to {
-        if at(a, i) != at(b, i) {
-            return false;
-        }
-        i += 1;
-    }
-    true
+    (from..to).all(|i| at(a, i) == at(b, i))
 }
 
 // Whether the line is that of the rule whose entries begin at an entry in use.
@@ -71,8 +64,9 @@ fn is_rule(table: &[u32], used: u32, entry: u32, line: &[u8]) -> bool
 {
     let mut masks = [0u64; 4096];
     fill_masks(table, used, &mut masks);
-    let Ok(size) = check_line(line, table, &masks, used) else {
-        return false;
+    let size = match check_line(line, table, &masks, used) {
+        Ok(size) => size,
+        Err(_) => return false,
     };
     if ((used - entry) as usize) < size {
         return false;
@@ -88,12 +82,9 @@ fn copy_line(buffer: &mut [u8], line: &[u8])
     requires { length line.now < length buffer.old }
     ensures { buffer.new ≡ line.now ++ (10 ∷ drop (length line.now + 1) buffer.old) }
 {
-    let mut i: usize = 0;
-    while i < line.len() {
-        buffer[i] = line[i];
-        i += 1;
-    }
-    buffer[i] = 10;
+    let n = line.len();
+    buffer[..n].copy_from_slice(line);
+    buffer[n] = b'\n';
 }
 
 // What is answered to a line that was made from the entries: it is the rule's, or there is none.
@@ -123,7 +114,12 @@ fn write_out(
 }
 
 // The rule whose entries begin at an entry of a table, whose first `used` entries are in use, as a line in the buffer.
-pub fn write_rule(table: &[u32], used: u32, entry: u32, buffer: &mut [u8]) -> Result<usize, WriteRefusal>
+pub fn write_rule(
+    table: &[u32],
+    used: u32,
+    entry: u32,
+    buffer: &mut [u8],
+) -> Result<usize, WriteRefusal>
     ensures { RuleWritten table.now used entry buffer.old (written_of result) buffer.new }
 {
     check_used(table, used)?;

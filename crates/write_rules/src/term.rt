@@ -4,6 +4,7 @@ ghost use Rattle.text.specs.Text.{decimal};
 ghost use Rattle.write_rules.specs.Lines.{Wrote, entry_text, Leaves, WritesTerm};
 
 use checks::entries::{kind_of, operand_count};
+use checks::kinds::PVAR;
 use text::write::{put_byte, put_digits};
 use words::word;
 
@@ -20,7 +21,7 @@ pub(crate) fn write_number(line: &mut [u8], at: usize, n: u32) -> usize
     ensures { Wrote line.old at (decimal n ++ (9 ∷ [])) line.new result }
 {
     let end = put_digits(line, at, n);
-    put_byte(line, end, 9)
+    put_byte(line, end, b'\t')
 }
 
 // The fields of one entry of a term, each with a tab after it.
@@ -29,8 +30,8 @@ fn write_entry(table: &[u32], e: u32, line: &mut [u8], at: usize) -> usize
     ensures { Wrote line.old at (entry_text table.now e) line.new result }
 {
     let a = word(table, e, 1);
-    if kind_of(table, e) == 18 {
-        let name = put_byte(line, at, 118);
+    if kind_of(table, e) == PVAR {
+        let name = put_byte(line, at, b'v');
         return write_number(line, name, a);
     }
     let n = operand_count(table, e);
@@ -59,8 +60,7 @@ pub(crate) fn write_term(
         if line.len() - at < 24 {
             return Passed { entry, at };
         }
-        let k = kind_of(table, entry);
-        if k < 18 {
+        if kind_of(table, entry) < PVAR {
             return Passed { entry, at };
         }
         let n = operand_count(table, entry);

@@ -1,30 +1,37 @@
 -- `write_rules::rule::is_rule` meets its contract, test by test. Assumes nothing.
 use lib.ListN.{replicate}
-use Rattle.write_rules.proofs.Finding.{no_answer, no_size, made-fits, compared}
+use native.Mathlib.Omega.{arith}
 use mathlib.Core.Path.{refl}
 use borrow.Author.Rules.{rules}
+use Rattle.rules.specs.Text.{rule_of}
+use Rattle.check_rules.specs.Line.{Line, callable, line_of}
+use Rattle.check_rules.proofs.Checking.{refused-some}
+use Rattle.write_rules.proofs.Finding.{no_answer, no_size, made-fits, compared}
 use Rattle.write_rules.proofs.rule.is_rule.Goals as goal
 
-pub returns-then-got-ne0 : goal.returns-then-got-ne0
-returns-then-got-ne0 c =
-    no_answer c.args.table.now c.args.used c.args.entry c.args.line.now c.requires.0 _ c.fill_masks.ensures
-    c.check_line-got.result c.check_line-got.ensures c.if-got-ne0.true
+pub returns-in-Err : goal.returns-in-Err
+returns-in-Err c =
+    let x : Line = line_of (callable c.args.table.now c.fill_masks.new.masks c.args.used) (rule_of c.args.line.now) in
+    no_answer c.args.table.now c.args.used c.args.entry c.args.line.now c.requires.0 _ c.fill_masks.ensures x refl
+    (refused-some x _ (rw c.in-Err.is at c.check_line.ensures))
 
 pub returns-then-used-entry : goal.returns-then-used-entry
 returns-then-used-entry c =
-    no_size c.args.table.now c.args.used c.args.entry c.args.line.now c.requires.0 _ c.fill_masks.ensures
-    c.check_line-got.result c.check_line-got.ensures c.if-used-entry.true
+    let k = rw c.in-Ok.is at c.check_line.ensures in
+    no_size c.args.table.now c.args.used c.args.entry c.args.line.now c.requires.0 _ c.fill_masks.ensures _ refl
+    (omega (arith, c.if-used-entry.true, k.1))
 
 pub put_line-stop-requires : goal.put_line-stop-requires
-put_line-stop-requires c = (
-  made-fits c.args.table.now c.args.used c.args.entry c.args.line.now c.requires.0 _ c.fill_masks.ensures
-      c.check_line-got.result c.check_line-got.ensures c.if-got-ne0.false c.requires.1 c.if-used-entry.false (replicate 32768 0) refl,
-  search rules,
-  search rules,
-)
+put_line-stop-requires c =
+    let k = rw c.in-Ok.is at c.check_line.ensures in (
+      made-fits c.args.table.now c.args.used c.args.entry c.args.line.now c.requires.0 _ c.fill_masks.ensures _ refl k.0 c.requires.1
+          (omega (arith, c.if-used-entry.false, k.1)) (replicate 32768 0) refl,
+      search rules,
+      search rules,
+    )
 
 pub returns : goal.returns
 returns c =
-    compared c.args.table.now c.args.used c.args.entry c.args.line.now c.requires.0 _ c.fill_masks.ensures
-    c.check_line-got.result c.check_line-got.ensures c.if-got-ne0.false c.requires.1 c.if-used-entry.false _ refl _ _ c.put_line-stop.ensures
-    c.same_words.result c.same_words.ensures
+    let k = rw c.in-Ok.is at c.check_line.ensures in
+    compared c.args.table.now c.args.used c.args.entry c.args.line.now c.requires.0 _ c.fill_masks.ensures _ refl k.0 c.requires.1
+    (omega (arith, c.if-used-entry.false, k.1)) _ refl _ _ c.put_line-stop.ensures c.same_words.result c.same_words.ensures

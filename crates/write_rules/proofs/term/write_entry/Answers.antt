@@ -4,9 +4,9 @@ use Rattle.write_rules.proofs.Writing.{wrote-put, wrote-more}
 use native.Mathlib.Omega.{arith}
 use Rattle.write_rules.proofs.term.write_entry.Goals as goal
 
-pub returns-then-kind_of-eq18 : goal.returns-then-kind_of-eq18
-returns-then-kind_of-eq18 c =
-    wrote_as (variable-text c.args.table.now c.args.e c.word-a.ensures c.kind_of.ensures c.if-kind_of-eq18.true)
+pub returns-then-kind_of-eq-PVAR : goal.returns-then-kind_of-eq-PVAR
+returns-then-kind_of-eq-PVAR c =
+    wrote_as (variable-text c.args.table.now c.args.e c.word-a.ensures c.kind_of.ensures c.if-kind_of-eq-PVAR.true)
     (wrote-more (wrote-put (omega (arith, c.requires)) c.put_byte-name.ensures) c.write_number.ensures)
 
 pub write_number-requires-2 : goal.write_number-requires-2
@@ -15,5 +15,5 @@ write_number-requires-2 c =
 
 pub returns : goal.returns
 returns c =
-    wrote_as (constructor-text c.args.table.now c.args.e c.word-a.ensures c.kind_of.ensures c.if-kind_of-eq18.false
+    wrote_as (constructor-text c.args.table.now c.args.e c.word-a.ensures c.kind_of.ensures c.if-kind_of-eq-PVAR.false
     c.operand_count-n.ensures) (wrote-more c.write_number-next.ensures c.write_number-2.ensures)

@@ -26,13 +26,13 @@ pub returns-then-line-at-lt24 : goal.returns-then-line-at-lt24
 returns-then-line-at-lt24 c =
     (walks-leaves c.loop-wanted.invariant, stop-room c.loop-wanted.invariant c.loop-wanted-test.true c.if-line-at-lt24.true)
 
-pub shape_of-line-then-k-lt18 : goal.shape_of-line-then-k-lt18
-shape_of-line-then-k-lt18 c =
+pub shape_of-line-then-kind_of-lt-PVAR : goal.shape_of-line-then-kind_of-lt-PVAR
+shape_of-line-then-kind_of-lt-PVAR c =
     c.loop-wanted.invariant.same
 
-pub returns-then-k-lt18 : goal.returns-then-k-lt18
-returns-then-k-lt18 c =
-    (walks-leaves c.loop-wanted.invariant, stop-kind c.loop-wanted.invariant c.loop-wanted-test.true (omega (arith, c.kind_of-k.ensures, c.if-k-lt18.true)))
+pub returns-then-kind_of-lt-PVAR : goal.returns-then-kind_of-lt-PVAR
+returns-then-kind_of-lt-PVAR c =
+    (walks-leaves c.loop-wanted.invariant, stop-kind c.loop-wanted.invariant c.loop-wanted-test.true (omega (arith, c.kind_of.ensures, c.if-kind_of-lt-PVAR.true)))
 
 pub write_entry-at-requires : goal.write_entry-at-requires
 write_entry-at-requires c =
