@@ -10,8 +10,7 @@ use borrow.Author.Tests.{lt-ltb, le-ltb, eq-eqb, ne_eqb}
 use Rattle.checks.specs.Good.{kind_of}
 use Rattle.meaning.proofs.Tests.{impossible}
 use Rattle.rules.specs.Rule.{Condition, Rule}
-use Rattle.text.specs.Text.{parts}
-use Rattle.rules.specs.Text.{conditions_fields, PlainConditions, read, ReadRule, rule, bad_field, rule_of}
+use Rattle.rules.specs.Text.{conditions_fields, PlainConditions, ReadRule, rule, bad_field, rule_of}
 use Rattle.rules.specs.Scan.{fields_from}
 use Rattle.rules.specs.Condition.{after_it, ConditionAt}
 use Rattle.rules.specs.Shape.{shape_of}

@@ -3,13 +3,12 @@ use mathlib.Core.Path.{◌≡◌, refl, ap, sym, ◌∙◌, subst}
 use mathlib.Core.Logic.{◌⊎◌, inl, inr, ⊎_elim}
 use mathlib.Core.Bool.{Bool, true, false, not, ◌&&◌, ◌||◌}
 use mathlib.Core.List.{List, [], ◌∷◌, ◌++◌}
-use Prim.Native.Nat.{ℕ, zero, suc, ◌+◌, ◌-◌, ◌≤◌, ◌<◌}
+use Prim.Native.Nat.{ℕ, zero, suc, ◌+◌, ◌≤◌, ◌<◌}
 use native.Mathlib.Omega.{arith}
 use lib.Dec.{eqb, ltb}
-use lib.ListN.{length, take, drop, get_or, replicate}
+use lib.ListN.{length, get_or, replicate}
 use borrow.Author.Tests.{lt-ltb, le-ltb, eqb-true, eq-eqb}
 use Rattle.meaning.proofs.Tests.{impossible, decided}
-use Rattle.text.specs.Text.{up_to}
 use Rattle.rules.specs.Rule.{Pat, Condition, Rule, variables, member}
 use Rattle.rules.specs.Text.{Fields, pat_fields, conditions_fields, rule_fields, Plain, PlainConditions, Head, variable, constructor, neither, head_of, rule, rule_of}
 use Rattle.std.specs.Prelude.{if◌then◌else◌}

@@ -15,7 +15,7 @@ use Rattle.text.specs.Text.{parts, up_to, one_word, number_of}
 use Rattle.text.proofs.Parts.{parts_first, parts-on, parts-end, up_to-take, length-up_to, up_to-stops}
 use Rattle.rules.specs.Text.{Fields, variable, constructor, neither, variable_head, constructor_head, head_of, up_to_six}
 use Rattle.rules.specs.Walk.{begun}
-use Rattle.rules.specs.Scan.{fields_from, stopped, finished, by_own_count, scanned, scanned_count}
+use Rattle.rules.specs.Scan.{fields_from, stopped, finished, scanned, scanned_count}
 
 -- ---- what a field is
 

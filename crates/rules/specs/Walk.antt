@@ -1,5 +1,5 @@
 -- What the code tells of a line: its shape, and its conditions one after the other.
-use Rattle.std.specs.Prelude.{◌≡◌, ◌≤◌, List, [], ◌∷◌, ltb, if◌then◌else◌, ℕ, ◌+◌, ◌-◌, length, true, false, Option, Some, None, Result, Ok, Err}
+use Rattle.std.specs.Prelude.{◌≡◌, ◌≤◌, [], ◌∷◌, ltb, if◌then◌else◌, ℕ, ◌+◌, ◌-◌, length, true, false, Option, Some, None, Result, Ok, Err}
 use Rattle.std.specs.Iterator.{Count, at_most}
 use Rattle.rules.specs.Text.{Fields, bad, read}
 use Rattle.rules.specs.Scan.{fields_from}

@@ -1,6 +1,4 @@
 use mathlib.Core.Path.{ap, sym, ◌∙◌}
-use mathlib.Core.List.{List}
-use Prim.Native.Nat.{ℕ}
 use Rattle.rules.specs.Text.{Fields}
 use Rattle.rules.specs.Scan.{fields_from}
 use Rattle.rules.specs.Walk.{fields_left}

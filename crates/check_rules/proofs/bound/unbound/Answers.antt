@@ -1,12 +1,10 @@
 use Rattle.check_rules.proofs.Lines.{known, next-of, walk-ended}
 use Rattle.check_rules.proofs.Early.{binds-begin, binds-early, binds-on, binds-end}
 use native.Mathlib.Omega.{arith}
-use mathlib.Core.Path.{refl, ◌∙◌, ap, subst}
-use Prim.Native.Nat.{ℕ}
+use mathlib.Core.Path.{refl, ◌∙◌, ap}
 use Rattle.std.specs.Prelude.{Ok}
 use Rattle.rules.specs.Condition.{found_of}
 use Rattle.rules.specs.declared.condition.Conditions.{Conditions}
-use Rattle.check_rules.proofs.Early.{Binds}
 use Rattle.check_rules.proofs.bound.unbound.Goals as goal
 
 pub loop-c-init : goal.loop-c-init

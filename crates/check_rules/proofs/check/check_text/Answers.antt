@@ -1,14 +1,13 @@
 use mathlib.Core.Bool.{Bool}
 use mathlib.Core.List.{List}
 use mathlib.Core.Path.{refl, sym, ◌∙◌, ap}
-use Prim.Native.Nat.{ℕ, ◌+◌, ◌-◌}
+use Prim.Native.Nat.{ℕ, ◌-◌}
 use native.Mathlib.Omega.{arith}
 use lib.ListN.{take, drop}
 use Rattle.rules.specs.Text.{rule_of}
-use Rattle.words.specs.Words.{rows}
 use Rattle.check_rules.specs.Line.{Line, callable, line_of}
 use Rattle.check_rules.specs.Check.{told}
-use Rattle.check_rules.proofs.Checking.{Checks, checks-begin, bounds-within, checks-unfed, checks-refused, checks-full, checks-on, checks-further, checks-end}
+use Rattle.check_rules.proofs.Checking.{checks-begin, bounds-within, checks-unfed, checks-refused, checks-full, checks-on, checks-further, checks-end}
 use Rattle.check_rules.proofs.Checking.{shape-field, refused-told, refused-some}
 use Rattle.check_rules.proofs.check.check_text.Goals as goal
 
@@ -71,7 +70,7 @@ loop-at-preserved c =
     let l : List ℕ = take (c.line_from-b.result.end - c.loop-at.at) (drop c.loop-at.at c.args.text.now) in
     let x : Line = line_of f (rule_of l) in (
       rw (sym c.in-Ok.ensures.1)
-      (checks-on c.loop-at.invariant.0 c.loop-at-test.true c.line_from-b.result c.line_from-b.ensures x refl c.if-b.false c.in-Ok.ensures.0
+          (checks-on c.loop-at.invariant.0 c.loop-at-test.true c.line_from-b.result c.line_from-b.ensures x refl c.if-b.false c.in-Ok.ensures.0
           (omega (arith, c.if-room-e.false, c.loop-at.invariant.0.most, c.loop-at.invariant.1, c.in-Ok.ensures.1))),
       c.loop-at.invariant.1,
     )

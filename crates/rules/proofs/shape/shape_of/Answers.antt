@@ -4,7 +4,6 @@ use Rattle.rules.specs.Shape.{Shape, shape_of}
 use Rattle.rules.specs.Scan.{finished, stopped}
 use Rattle.rules.specs.Condition.{found_of}
 use Rattle.std.specs.Prelude.{Ok, Err}
-use Prim.Native.Nat.{◌+◌}
 use native.Mathlib.Omega.{arith}
 use mathlib.Core.Path.{refl, sym, ap}
 use Rattle.rules.proofs.shape.shape_of.Goals as goal

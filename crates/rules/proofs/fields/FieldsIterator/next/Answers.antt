@@ -1,11 +1,8 @@
 -- The next field of a line is the first of those that are left. Assumes nothing.
-use mathlib.Core.Path.{◌≡◌, ap}
-use mathlib.Core.List.{◌∷◌}
-use Prim.Native.Nat.{◌+◌, ◌-◌}
-use lib.ListN.{length, take, drop}
+use mathlib.Core.Path.{ap}
+use lib.ListN.{length}
 use native.Mathlib.Omega.{arith}
 use Rattle.rules.specs.Scan.{fields_from}
-use Rattle.rules.specs.Walk.{begun}
 use Rattle.rules.proofs.Scanning.{begun-end, begun-past, begun-here, end-within}
 use Rattle.rules.proofs.fields.FieldsIterator.next.Goals as goal
 use Rattle.rules.proofs.fields.FieldsIterator.next.Goals.{then-self-via-then-self, then-self-via-else-self+then-line-self, After-next_at-end}
