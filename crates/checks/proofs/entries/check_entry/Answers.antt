@@ -51,12 +51,6 @@ unfolding fault_by
 returns-then-not-count_fits c =
     rw (sym (count-is c.args.table.now c.args.e c.word-w.result c.word-w.ensures _ c.count_fits.ensures) ∙ c.if-not-count_fits.true)
 
-pub argument_fits-requires : goal.argument_fits-requires
-argument_fits-requires c = (
-  ap (λ w. w / 16) c.word-w.ensures,
-  known c.args.table.now c.args.e c.word-w.result c.word-w.ensures _ c.count_fits.ensures c.if-not-count_fits.false,
-)
-
 pub returns-then-not-argument_fits : goal.returns-then-not-argument_fits
 unfolding fault_by
 returns-then-not-argument_fits c =

@@ -1,13 +1,11 @@
-use mathlib.Core.Path.{◌≡◌, refl, ap, sym, ◌∙◌, subst}
+use mathlib.Core.Path.{◌≡◌, ap, sym, ◌∙◌, subst}
 use mathlib.Core.Bool.{Bool, true, false}
 use mathlib.Core.List.{List}
-use mathlib.Core.Logic.{inl, inr, ⊎_elim}
+use mathlib.Core.Logic.{inr, ⊎_elim}
 use Prim.Native.Nat.{ℕ, ◌+◌, ◌≤◌, ◌<◌}
-use native.Mathlib.Nat.{sub-zero}
-use native.Mathlib.Omega.{arith}
 use Rattle.std.specs.Prelude.{if◌then◌else◌}
 use Rattle.words.proofs.Tests.{every-turn, every-stop, every-end}
-use Rattle.checks.specs.Kinds.{ours, operands_from_by}
+use Rattle.checks.specs.Kinds.{ours}
 use Rattle.checks.specs.Good.{kind_of, operand_by, placed_for, sorted_for, operand_placed_by, operand_sorted_by, operands_fault_by}
 use Rattle.checks.specs.Numbers.{fault_of}
 use Rattle.checks.proofs.entries.check_operands.Goals as goal
@@ -46,20 +44,6 @@ sorted-is : (t : List ℕ) (e k o i : ℕ) → k ≡ kind_of t e → o ≡ opera
 unfolding operand_sorted_by
 sorted-is t e k o i p q = rw (p, q)
 
-pub takes-sort-requires : goal.takes-sort-requires
-takes-sort-requires c = c.requires.1.1.0
-
-pub loop-i-init : goal.loop-i-init
-loop-i-init c =
-    let n = c.requires.1.0 in
-    (rw (sub-zero, n), (inl refl, rw (sub-zero, n)))
-
-pub operand-o-requires : goal.operand-o-requires
-operand-o-requires c =
-    let pre = c.requires in
-    let from = c.operands_from-from.ensures in
-    (from ∙ ap (operands_from_by ours) pre.0, omega (arith, from, pre.1.1.1))
-
 pub returns-then-not-operand_placed : goal.returns-then-not-operand_placed
 unfolding operands_fault_by
 returns-then-not-operand_placed c =
@@ -68,9 +52,6 @@ returns-then-not-operand_placed c =
     c.loop-i.invariant.0
     c.loop-i-test.true
     (sym (placed-is _ _ _ _ _ pre.0 c.operand-o.ensures) ∙ sym c.operand_placed.ensures ∙ c.if-not-operand_placed.true))
-
-pub operand_sorted-requires : goal.operand_sorted-requires
-operand_sorted-requires c = c.takes-sort.ensures
 
 pub loop-i-preserved : goal.loop-i-preserved
 loop-i-preserved c =
