@@ -41,11 +41,7 @@ pub fn node(store: &mut [u32], st: &mut [u32; RECORD], made: [u32; 8], left: u32
 {
     let k = st[MARK];
     if st[ROOM] <= k {
-        // A fresh copy, so that the row itself stays in registers.
-        let row = [
-            made[0], made[1], made[2], made[3], made[4], made[5], made[6], made[7],
-        ];
-        return node_asked(store, st, row, left);
+        return node_asked(store, st, made, left);
     }
     put_row(store, k, made);
     st[MARK] = k + 1;

@@ -1,12 +1,6 @@
-use Rattle.leaves.proofs.Building.{eight-again, row_inside, plain-small, node_made}
-use Rattle.leaves.proofs.Building.{row_inside, node_made}
+use Rattle.leaves.proofs.Building.{row_inside, plain-small, node_made}
 use native.Mathlib.Omega.{arith}
-use borrow.Author.Rules.{rules}
 use Rattle.leaves.proofs.builder.node.Goals as goal
-
-pub returns-then-st-k : goal.returns-then-st-k
-returns-then-st-k c = rw (eight-again c.args.made (search rules)) at
-    c.node_asked.ensures
 
 pub put_row-requires : goal.put_row-requires
 put_row-requires c = row_inside c.args.made
