@@ -2,8 +2,6 @@
 #![tactic(auto)]
 
 ghost use Rattle.std.specs.Prelude.{◌≡◌, ℕ, ◌+◌, ◌*◌, ◌<◌, ◌≤◌, length, take, drop};
-ghost use Rattle.words.specs.Tests.{rejected};
-ghost use Rattle.checks.specs.Checked.{place_of};
 ghost use Rattle.calls.specs.Refused.{lent_signature};
 ghost use Rattle.calls.specs.Run.{input};
 ghost use Rattle.checks.specs.Numbers.{checked_of};
@@ -11,6 +9,7 @@ ghost use Rattle.tallying.specs.Added.{counted_at_return, counted_outcome};
 ghost use Rattle.counting.specs.Counted.{has_room, counts_checked, counted_of, indexed_counted_at_return, indexed_counted_of};
 
 use checks::refusal::Refusal;
+use checks::search::lowest;
 use indexed::refusing::{check_indexed_run, store_words};
 use refusals::check_run;
 use tallying::{RanCounted, run_on};
@@ -24,29 +23,12 @@ fn has_room(counts: &[u64], x: u32) -> bool
     requires { 4 * x + 3 < length counts.now }
     ensures { result ≡ has_room counts.now x }
 {
-    let mut j: usize = 0;
-    while j < 4 {
+    for j in 0..4 {
         if HIGHEST < counts[4 * (x as usize) + j] {
             return false;
         }
-        j += 1;
     }
     true
-}
-
-// The lowest of n entries with a count too high.
-fn lowest_full(counts: &[u64], n: u32) -> Option<u32>
-    requires { length counts.now ≡ 4 * n }
-    ensures { place_of result ≡ rejected (has_room counts.now) 0 n }
-{
-    let mut x: u32 = 0;
-    while x < n {
-        if !has_room(counts, x) {
-            return Some(x);
-        }
-        x += 1;
-    }
-    None
 }
 
 // No count is too high.
@@ -54,7 +36,7 @@ fn check_counts(counts: &[u64], n: u32) -> Result<(), Refusal>
     requires { length counts.now ≡ 4 * n }
     ensures { checked_of result ≡ counts_checked counts.now n }
 {
-    match lowest_full(counts, n) {
+    match lowest(n, |x| has_room(counts, x)) {
         Some(x) => Err(Refusal::Count(x)),
         None => Ok(()),
     }

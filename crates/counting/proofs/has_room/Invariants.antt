@@ -11,7 +11,3 @@ abbrev pub invariant-loop-j : goal.invariant-loop-j
 invariant-loop-j l =
     (l.j ≤ 4)
     × (every (λ j. leb (get_or l.counts (4 * l.x + j) 0) highest) l.j (4 - l.j) ≡ every (λ j. leb (get_or l.counts (4 * l.x + j) 0) highest) 0 4)
-
-abbrev pub decreases-loop-j : goal.decreases-loop-j
-decreases-loop-j l =
-    4 - l.j

@@ -1,91 +1,44 @@
--- `run_counted_lent` meets its contract. Assumes nothing.
-use mathlib.Core.Path.{◌≡◌, ap, sym, ◌∙◌}
-use mathlib.Core.List.{List}
-use mathlib.Core.Option.{Option}
-use lib.ListN.{length}
-use Rattle.words.specs.Words.{rows}
-use Rattle.meaning.specs.Store.{Input}
-use Prim.Native.Nat.{ℕ, ◌*◌}
+-- `run_counted` meets its contract. Assumes nothing.
+use mathlib.Core.Path.{refl, ap, sym, ◌∙◌}
 use native.Mathlib.Omega.{arith}
-use Rattle.checks.specs.Checked.{checked}
-use Rattle.checks.specs.Checked.{Checked}
-use Rattle.calls.specs.Refused.{lent_if}
+use Rattle.std.proofs.lemmas.Result.{err_from_is_err_and}
+use Rattle.checks.specs.Checked.{Checked, checked}
+use Rattle.checks.proofs.Numbers.{answer_ne0}
+use Rattle.calls.specs.Refused.{lent_signature}
 use Rattle.calls.specs.Run.{input}
-use Rattle.tallying.specs.Added.{counted_at_return}
-use Rattle.counting.specs.Counted.{counts_checked, refused_counting}
-use Rattle.counting.proofs.Refusing.{verdict, refused-length, refused-before, refused-counts, counted-refused, counted-run}
+use Rattle.counting.proofs.Refusing.{refused-length, before-counts, by-counts, not-refused, counted-refused, counted-run}
 use Rattle.counting.proofs.Refusing.{counted-accepted, counts-room, entries-few}
-use Rattle.counting.proofs.run_counted_lent.Goals as goal
+use Rattle.counting.proofs.run_counted.Goals as goal
 
--- ---- what is known of the input that is given, of the signature and of the counts
-module _ (signed : Option (List ℕ)) (given : Input) (counts : List ℕ) (c : Checked) (is : c ≡ verdict signed given counts) (z : c.answer ≡ 0) where
-  -- a run would not be refused
-  passed : (verdict signed given counts).answer ≡ 0
-  passed = sym (ap (λ (c : Checked). c.answer) is) ∙ z
-
-  -- the counts are checked, so this is the refusal
-  refusal_is : (d : Checked) → length counts ≡ 4 * rows given.table → d ≡ counts_checked counts (rows given.table)
-      → refused_counting (verdict signed given counts) given.table counts ≡ d
-  refusal_is d l e = refused-counts (verdict signed given counts) given.table counts l passed ∙ sym e
-
--- ---- the needs
 pub returns-then-counts-n : goal.returns-then-counts-n
-returns-then-counts-n c =
-    let given = input c.args.table.now c.args.store.now c.args.bindings.now c.args.mark c.args.start c.args.subject c.args.units in
-    let signed = lent_if c.args.signed c.args.signature.now in
-    let counts = c.args.counts.now in
-    ap (λ r. counted_at_return r c.args.store.now c.args.bindings.now counts) c.refused.ensures
-    ∙ counted-refused signed given counts (checked 2 0)
-    (refused-length (verdict signed given counts) given.table counts c.if-counts-n.true)
-    (λ e. omega arith)
+returns-then-counts-n c = counted-refused _ _ _ (checked 2 0) (refused-length _ _ _ c.if-counts-n.true) (λ e. omega arith)
 
-pub returns-then-c-ne0 : goal.returns-then-c-ne0
-returns-then-c-ne0 c =
-    let given = input c.args.table.now c.args.store.now c.args.bindings.now c.args.mark c.args.start c.args.subject c.args.units in
-    let signed = lent_if c.args.signed c.args.signature.now in
-    let counts = c.args.counts.now in
-    let is = c.refusal-c.ensures in
-    ap (λ r. counted_at_return r c.args.store.now c.args.bindings.now counts) c.refused-then-c-ne0.ensures
-    ∙ counted-refused signed given counts c.refusal-c.result
-    (refused-before (verdict signed given counts) given.table counts c.if-counts-n.false
-    (λ z. c.if-c-ne0.true (ap (λ (c : Checked). c.answer) is ∙ z)) ∙ sym is)
-    c.if-c-ne0.true
+pub returns-in_err-check_run : goal.returns-in_err-check_run
+returns-in_err-check_run c =
+    let p = err_from_is_err_and c.from_residual.result c.from_residual.ensures.1 in
+    rw (p.1, p.2) (counted-refused _ _ _ _ (before-counts c.if-counts-n.false c.in_err-check_run.ensures) (answer_ne0 _))
 
 pub overflow_cast-n : goal.overflow_cast-n
 overflow_cast-n c =
-    let given = input c.args.table.now c.args.store.now c.args.bindings.now c.args.mark c.args.start c.args.subject c.args.units in
-    let signed = lent_if c.args.signed c.args.signature.now in
-    let good = counted-accepted signed given c.args.counts.now c.refusal-c.result c.refusal-c.ensures c.if-c-ne0.false in
-    omega (arith, entries-few given good)
+    let a = c.args in
+    let i = input a.table.now a.store.now a.bindings.now a.mark a.start a.subject a.units in
+    omega (arith, entries-few i (counted-accepted (lent_signature a.signature) i a.counts.now (checked 0 0) c.in_ok-check_run.ensures refl))
 
-pub returns-then-d-ne0 : goal.returns-then-d-ne0
-returns-then-d-ne0 c =
-    let given = input c.args.table.now c.args.store.now c.args.bindings.now c.args.mark c.args.start c.args.subject c.args.units in
-    let signed = lent_if c.args.signed c.args.signature.now in
-    let counts = c.args.counts.now in
-    ap (λ r. counted_at_return r c.args.store.now c.args.bindings.now counts) c.refused-then-d-ne0.ensures
-    ∙ counted-refused signed given counts c.check_counts-d.result
-    (refusal_is signed given counts c.refusal-c.result c.refusal-c.ensures c.if-c-ne0.false c.check_counts-d.result c.if-counts-n.false
-    c.check_counts-d.ensures) c.if-d-ne0.true
+pub returns-in_err-check_counts : goal.returns-in_err-check_counts
+returns-in_err-check_counts c =
+    let p = err_from_is_err_and c.from_residual-2.result c.from_residual-2.ensures.1 in
+    rw (p.1, p.2)
+    (counted-refused _ _ _ _ (by-counts c.if-counts-n.false c.in_ok-check_run.ensures c.in_err-check_counts.ensures) (answer_ne0 _))
 
 pub run_on-requires : goal.run_on-requires
 run_on-requires c =
-    let given = input c.args.table.now c.args.store.now c.args.bindings.now c.args.mark c.args.start c.args.subject c.args.units in
-    let signed = lent_if c.args.signed c.args.signature.now in
-    let counts = c.args.counts.now in
-    let good = counted-accepted signed given counts c.refusal-c.result c.refusal-c.ensures c.if-c-ne0.false in (
-      good,
-      c.if-counts-n.false,
-      counts-room given counts good c.if-counts-n.false
-          (sym (ap (λ (c : Checked). c.answer) c.check_counts-d.ensures) ∙ c.if-d-ne0.false),
-    )
+    let a = c.args in
+    let i = input a.table.now a.store.now a.bindings.now a.mark a.start a.subject a.units in
+    let good = counted-accepted (lent_signature a.signature) i a.counts.now (checked 0 0) c.in_ok-check_run.ensures refl in
+    let fits = sym (ap (λ (c : Checked). c.answer) c.in_ok-check_counts.ensures) in
+    (good, c.if-counts-n.false, counts-room i a.counts.now good c.if-counts-n.false fits)
 
 pub returns : goal.returns
 returns c =
-    let given = input c.args.table.now c.args.store.now c.args.bindings.now c.args.mark c.args.start c.args.subject c.args.units in
-    let signed = lent_if c.args.signed c.args.signature.now in
-    let counts = c.args.counts.now in
     c.run_on.ensures
-    ∙ counted-run signed given counts
-    (ap (λ (c : Checked). c.answer) (refusal_is signed given counts c.refusal-c.result c.refusal-c.ensures c.if-c-ne0.false
-    c.check_counts-d.result c.if-counts-n.false c.check_counts-d.ensures) ∙ c.if-d-ne0.false)
+    ∙ counted-run _ _ _ (not-refused c.if-counts-n.false c.in_ok-check_run.ensures c.in_ok-check_counts.ensures)

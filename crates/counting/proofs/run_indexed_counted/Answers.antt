@@ -1,46 +1,48 @@
--- `run_indexed_counted_lent` meets its contract. Assumes nothing.
-use mathlib.Core.Path.{◌≡◌, ap, sym, ◌∙◌, subst}
+-- `run_indexed_counted` meets its contract. Assumes nothing.
+use mathlib.Core.Path.{◌≡◌, refl, ap, sym, ◌∙◌, subst}
 use mathlib.Core.Bool.{true}
 use mathlib.Core.List.{List}
 use mathlib.Core.Option.{Option}
-use Prim.Native.Nat.{ℕ, ◌-◌, ◌*◌, min}
+use Prim.Native.Nat.{ℕ, min}
 use native.Mathlib.Omega.{arith}
 use lib.ListN.{length, take, drop}
 use lib.Seq.{length-take-le}
-use Rattle.words.specs.Words.{rows, cleared_from}
-use Rattle.checks.specs.Checked.{checked}
-use Rattle.checks.specs.Checked.{Checked}
+use Rattle.std.proofs.lemmas.Result.{err_from_is_err_and}
+use Rattle.words.specs.Words.{cleared_from}
+use Rattle.checks.specs.Checked.{Checked, checked}
+use Rattle.checks.proofs.Numbers.{answer_ne0}
 use Rattle.meaning.specs.Store.{Input, Accepted}
-use Rattle.calls.specs.Refused.{lent_if}
+use Rattle.calls.specs.Refused.{lent_signature}
 use Rattle.calls.specs.Run.{input}
 use Rattle.calls.specs.Indexed.{indexed_refused}
 use Rattle.indexed.proofs.Whole.{refused-is, drop-size, accepted as accepted-by}
 use Rattle.tallying.specs.Added.{counted_end, ran_if}
-use Rattle.counting.specs.Counted.{counts_checked, refused_counting, indexed_counted_at_return}
-use Rattle.counting.proofs.Refusing.{refused-length, refused-before, refused-counts, indexed-counted-refused, indexed-counted-run}
+use Rattle.counting.proofs.Refusing.{refused-length, before-counts, by-counts, not-refused, indexed-counted-refused, indexed-counted-run}
 use Rattle.counting.proofs.Refusing.{counts-room, entries-few}
 use Rattle.counting.proofs.Sharing.{own-before, own-long, ended-with}
-use Rattle.counting.proofs.run_indexed_counted_lent.Goals as goal
+use Rattle.counting.proofs.run_indexed_counted.Goals as goal
+use Rattle.counting.proofs.run_indexed_counted.Goals.{In_ok-check_indexed_run}
 
--- ---- what is known of the input that is given, of the signature, of the words behind the store's and of the counts
-module _ (signed : Option (List ℕ)) (t w b : List ℕ) (mark start subject units words own : ℕ) (c : Checked) (own_is : own ≡ min words (length w)) where
-  -- the refusal is that of a run with an index
-  verdict-is :
-      ((x : List ℕ) (u : ℕ) → length x ≡ length w - own
-      → c ≡ indexed_refused signed (input t (take own w) b mark start subject u) x)
-      → c ≡ indexed_refused signed (input t (take words w) b mark start subject units) (drop words w)
-  verdict-is e =
-      refused-is signed t w b mark start subject units words own c own_is (e (drop words w) units (drop-size words own w own_is))
+-- ---- what is handed over, the signature and the index: not refused
 
-module _ (signed : Option (List ℕ)) (given : Input) (spare counts : List ℕ) (c : Checked) (is : c ≡ indexed_refused signed given spare) (z : c.answer ≡ 0) where
-  -- a run would not be refused
-  passed : (indexed_refused signed given spare).answer ≡ 0
-  passed = sym (ap (λ (c : Checked). c.answer) is) ∙ z
+abbrev given : In_ok-check_indexed_run → Input
+given c = let a = c.args in input a.table.now (take a.words a.lent.now) a.bindings.now a.mark a.start a.subject a.units
 
-  -- the counts are checked, so this is the refusal
-  refusal_is : (d : Checked) → length counts ≡ 4 * rows given.table → d ≡ counts_checked counts (rows given.table)
-      → refused_counting (indexed_refused signed given spare) given.table counts ≡ d
-  refusal_is d l e = refused-counts (indexed_refused signed given spare) given.table counts l passed ∙ sym e
+abbrev signed : In_ok-check_indexed_run → Option (List ℕ)
+signed c = lent_signature c.args.signature
+
+abbrev spare : In_ok-check_indexed_run → List ℕ
+spare c = drop c.args.words c.args.lent.now
+
+passed : (c : In_ok-check_indexed_run) → checked 0 0 ≡ indexed_refused (signed c) (given c) (spare c)
+passed c =
+    let a = c.args in
+    let cut = c.store_words-own.ensures in
+    refused-is (signed c) a.table.now a.lent.now a.bindings.now a.mark a.start a.subject a.units a.words c.store_words-own.result (checked 0 0) cut
+    (c.in_ok-check_indexed_run.ensures (spare c) a.units (drop-size a.words c.store_words-own.result a.lent.now cut))
+
+good : (c : In_ok-check_indexed_run) → Accepted (given c)
+good c = accepted-by (signed c) (given c) (spare c) (checked 0 0) (passed c) refl
 
 -- what is behind the store's words is cleared
 module _ (w v : List ℕ) (words own : ℕ) (own_is : own ≡ min words (length w)) (is : v ≡ cleared_from w own) where
@@ -53,59 +55,32 @@ module _ (w v : List ℕ) (words own : ℕ) (own_is : own ≡ min words (length 
 -- ---- the needs
 pub returns-then-counts-n : goal.returns-then-counts-n
 returns-then-counts-n c =
-    let store = take c.args.words c.args.lent.now in
-    let spare = drop c.args.words c.args.lent.now in
-    let given = input c.args.table.now store c.args.bindings.now c.args.mark c.args.start c.args.subject c.args.units in
-    let signed = lent_if c.args.signed c.args.signature.now in
-    let counts = c.args.counts.now in
-    ap (λ r. indexed_counted_at_return r store c.args.bindings.now counts spare) c.refused.ensures
-    ∙ indexed-counted-refused signed given spare counts (checked 2 0)
-    (refused-length (indexed_refused signed given spare) given.table counts c.if-counts-n.true)
-    (λ e. omega arith)
+    indexed-counted-refused _ _ _ _ (checked 2 0) (refused-length _ _ _ c.if-counts-n.true) (λ e. omega arith)
 
-pub slice_bounds-indexed_refusal-end-2 : goal.slice_bounds-indexed_refusal-end-2
-slice_bounds-indexed_refusal-end-2 c =
-    sym (length-take-le c.store_words-own.result c.args.lent.now
-    (omega (arith, c.store_words-own.ensures)))
+pub slice_bounds-check_indexed_run-end-2 : goal.slice_bounds-check_indexed_run-end-2
+slice_bounds-check_indexed_run-end-2 c =
+    sym (length-take-le c.store_words-own.result c.args.lent.now (omega (arith, c.store_words-own.ensures)))
 
-pub returns-then-c-ne0 : goal.returns-then-c-ne0
-returns-then-c-ne0 c =
-    let store = take c.args.words c.args.lent.now in
-    let spare = drop c.args.words c.args.lent.now in
-    let given = input c.args.table.now store c.args.bindings.now c.args.mark c.args.start c.args.subject c.args.units in
-    let signed = lent_if c.args.signed c.args.signature.now in
-    let counts = c.args.counts.now in
-    let is = verdict-is signed c.args.table.now c.args.lent.now c.args.bindings.now c.args.mark c.args.start c.args.subject c.args.units
-    c.args.words c.store_words-own.result c.indexed_refusal-c.result c.store_words-own.ensures c.indexed_refusal-c.ensures in
-    ap (λ r. indexed_counted_at_return r store c.args.bindings.now counts spare) c.refused-then-c-ne0.ensures
-    ∙ indexed-counted-refused signed given spare counts c.indexed_refusal-c.result
-    (refused-before (indexed_refused signed given spare) given.table counts c.if-counts-n.false
-    (λ z. c.if-c-ne0.true (ap (λ (c : Checked). c.answer) is ∙ z)) ∙ sym is)
-    c.if-c-ne0.true
+pub returns-in_err-check_indexed_run : goal.returns-in_err-check_indexed_run
+returns-in_err-check_indexed_run c =
+    let a = c.args in
+    let cut = c.store_words-own.ensures in
+    let spare = drop a.words a.lent.now in
+    let is = refused-is (lent_signature a.signature) a.table.now a.lent.now a.bindings.now a.mark a.start a.subject a.units a.words
+    c.store_words-own.result _ cut
+    (c.in_err-check_indexed_run.ensures spare a.units (drop-size a.words c.store_words-own.result a.lent.now cut)) in
+    let p = err_from_is_err_and c.from_residual.result c.from_residual.ensures.1 in
+    rw (p.1, p.2) (indexed-counted-refused _ _ _ _ _ (before-counts c.if-counts-n.false is) (answer_ne0 _))
 
 pub overflow_cast-n : goal.overflow_cast-n
-overflow_cast-n c =
-    let store = take c.args.words c.args.lent.now in
-    let spare = drop c.args.words c.args.lent.now in
-    let given = input c.args.table.now store c.args.bindings.now c.args.mark c.args.start c.args.subject c.args.units in
-    let signed = lent_if c.args.signed c.args.signature.now in
-    let is = verdict-is signed c.args.table.now c.args.lent.now c.args.bindings.now c.args.mark c.args.start c.args.subject c.args.units
-    c.args.words c.store_words-own.result c.indexed_refusal-c.result c.store_words-own.ensures c.indexed_refusal-c.ensures in
-    omega (arith, entries-few given (accepted-by signed given spare c.indexed_refusal-c.result is c.if-c-ne0.false))
+overflow_cast-n c = let k = (goal.at.overflow_cast-n c).In_ok-check_indexed_run in omega (arith, entries-few (given k) (good k))
 
-pub returns-then-d-ne0 : goal.returns-then-d-ne0
-returns-then-d-ne0 c =
-    let store = take c.args.words c.args.lent.now in
-    let spare = drop c.args.words c.args.lent.now in
-    let given = input c.args.table.now store c.args.bindings.now c.args.mark c.args.start c.args.subject c.args.units in
-    let signed = lent_if c.args.signed c.args.signature.now in
-    let counts = c.args.counts.now in
-    let is = verdict-is signed c.args.table.now c.args.lent.now c.args.bindings.now c.args.mark c.args.start c.args.subject c.args.units
-    c.args.words c.store_words-own.result c.indexed_refusal-c.result c.store_words-own.ensures c.indexed_refusal-c.ensures in
-    ap (λ r. indexed_counted_at_return r store c.args.bindings.now counts spare) c.refused-then-d-ne0.ensures
-    ∙ indexed-counted-refused signed given spare counts c.check_counts-d.result
-    (refusal_is signed given spare counts c.indexed_refusal-c.result is c.if-c-ne0.false c.check_counts-d.result c.if-counts-n.false
-    c.check_counts-d.ensures) c.if-d-ne0.true
+pub returns-in_err-check_counts : goal.returns-in_err-check_counts
+returns-in_err-check_counts c =
+    let k = (goal.at.returns-in_err-check_counts c).In_ok-check_indexed_run in
+    let p = err_from_is_err_and c.from_residual-2.result c.from_residual-2.ensures.1 in
+    rw (p.1, p.2)
+    (indexed-counted-refused _ _ _ _ _ (by-counts c.if-counts-n.false (passed k) c.in_err-check_counts.ensures) (answer_ne0 _))
 
 pub slice_bounds-run_on-end-2 : goal.slice_bounds-run_on-end-2
 slice_bounds-run_on-end-2 c =
@@ -113,40 +88,26 @@ slice_bounds-run_on-end-2 c =
 
 pub run_on-requires : goal.run_on-requires
 run_on-requires c =
-    let store = take c.args.words c.args.lent.now in
-    let spare = drop c.args.words c.args.lent.now in
-    let given = input c.args.table.now store c.args.bindings.now c.args.mark c.args.start c.args.subject c.args.units in
-    let signed = lent_if c.args.signed c.args.signature.now in
-    let counts = c.args.counts.now in
-    let is = verdict-is signed c.args.table.now c.args.lent.now c.args.bindings.now c.args.mark c.args.start c.args.subject c.args.units
-    c.args.words c.store_words-own.result c.indexed_refusal-c.result c.store_words-own.ensures c.indexed_refusal-c.ensures in
-    let good = accepted-by signed given spare c.indexed_refusal-c.result is c.if-c-ne0.false in
-    let here = own-words c.args.lent.now c.clear_from.new.words c.args.words c.store_words-own.result c.store_words-own.ensures c.clear_from.ensures in (
-      subst (λ w. Accepted (input c.args.table.now w c.args.bindings.now c.args.mark c.args.start c.args.subject c.args.units))
-          (sym here) good,
+    let k = (goal.at.run_on-requires c).In_ok-check_indexed_run in
+    let a = c.args in
+    let here = own-words a.lent.now c.clear_from.new.words a.words c.store_words-own.result c.store_words-own.ensures c.clear_from.ensures in
+    let fits = sym (ap (λ (c : Checked). c.answer) c.in_ok-check_counts.ensures) in (
+      subst (λ w. Accepted (input a.table.now w a.bindings.now a.mark a.start a.subject a.units)) (sym here) (good k),
       c.if-counts-n.false,
-      counts-room given counts good c.if-counts-n.false
-          (sym (ap (λ (c : Checked). c.answer) c.check_counts-d.ensures) ∙ c.if-d-ne0.false),
+      counts-room (given k) a.counts.now (good k) c.if-counts-n.false fits,
     )
 
 pub returns : goal.returns
 returns c =
-    let store = take c.args.words c.args.lent.now in
-    let spare = drop c.args.words c.args.lent.now in
-    let given = input c.args.table.now store c.args.bindings.now c.args.mark c.args.start c.args.subject c.args.units in
-    let signed = lent_if c.args.signed c.args.signature.now in
-    let counts = c.args.counts.now in
-    let is = verdict-is signed c.args.table.now c.args.lent.now c.args.bindings.now c.args.mark c.args.start c.args.subject c.args.units
-    c.args.words c.store_words-own.result c.indexed_refusal-c.result c.store_words-own.ensures c.indexed_refusal-c.ensures in
-    let w = c.args.lent.now in
+    let k = (goal.at.returns c).In_ok-check_indexed_run in
+    let a = c.args in
+    let w = a.lent.now in
     let v = c.clear_from.new.words in
     let own = c.store_words-own.result in
     let own_is = c.store_words-own.ensures in
-    let here = own-words w v c.args.words own own_is c.clear_from.ensures in
-    let over = λ (s : List ℕ). input c.args.table.now s c.args.bindings.now c.args.mark c.args.start c.args.subject c.args.units in
-    ended-with w c.args.words own own_is c.run_on.new.store
-    (c.run_on.auto.store ∙ own-length w v c.args.words own own_is c.clear_from.ensures) _ _ _ _ _
-    c.clear_from.ensures (c.run_on.ensures ∙ ap (λ w. counted_end (over w) (ran_if true (over w)) counts) here)
-    ∙ indexed-counted-run signed given spare counts
-    (ap (λ (c : Checked). c.answer) (refusal_is signed given spare counts c.indexed_refusal-c.result is c.if-c-ne0.false
-    c.check_counts-d.result c.if-counts-n.false c.check_counts-d.ensures) ∙ c.if-d-ne0.false)
+    let here = own-words w v a.words own own_is c.clear_from.ensures in
+    let over = λ (s : List ℕ). input a.table.now s a.bindings.now a.mark a.start a.subject a.units in
+    ended-with w a.words own own_is c.run_on.new.store
+    (c.run_on.auto.store ∙ own-length w v a.words own own_is c.clear_from.ensures) _ _ _ _ _
+    c.clear_from.ensures (c.run_on.ensures ∙ ap (λ w. counted_end (over w) (ran_if true (over w)) a.counts.now) here)
+    ∙ indexed-counted-run _ _ _ _ (not-refused c.if-counts-n.false (passed k) c.in_ok-check_counts.ensures)
