@@ -27,6 +27,7 @@ fn saves(what: u32) -> bool
 }
 
 // The words of the variables of the mask, from one place of the list to another. It ends with the last of them.
+// As it is: the loop stops at the mask's last bit, and a `for` over the 64 variables would look at every bit.
 pub(crate) fn copy_words(work: &mut [u32], to: usize, from: usize, mask: u64)
     requires { (to + 64 ≤ length work.old) × (from + 64 ≤ length work.old) × ((to + 64 ≤ from) ⊎ (from + 64 ≤ to)) }
     ensures { Copied work.old from to mask work.new }

@@ -31,6 +31,7 @@ const DEEPEST: u32 = 4095;
 
 // The machine between two turns: what is asked for or has ended, how many visits are in flight, the mark, where the last match gave up,
 // the units left, and the mask of the variables that are bound.
+// As it is: mode, x and y are words of the list, of which `machine_in` reads every value, so no enum has them all.
 #[derive(Clone, Copy)]
 pub struct Machine {
     pub x: u32,
