@@ -16,8 +16,8 @@ pub returns-then-m-lt-FULL : goal.returns-then-m-lt-FULL
 returns-then-m-lt-FULL c =
     c.end.ensures ∙ rest_ended _ _ c.args.m c.if-m-lt-SUCCEEDED.false c.if-m-lt-FULL.true
 
-pub fly-requires-2 : goal.fly-requires-2
-fly-requires-2 c = (
+pub fly-requires-else-m-lt-FULL : goal.fly-requires-else-m-lt-FULL
+fly-requires-else-m-lt-FULL c = (
   omega (
     arith,
     c.requires.1
@@ -26,6 +26,6 @@ fly-requires-2 c = (
   c.requires.2,
 )
 
-pub returns : goal.returns
-returns c =
-    c.fly-2.ensures ∙ rest-cut _ _ c.args.m c.if-m-lt-FULL.false
+pub returns-else-m-lt-FULL : goal.returns-else-m-lt-FULL
+returns-else-m-lt-FULL c =
+    c.fly-else-m-lt-FULL.ensures ∙ rest-cut _ _ c.args.m c.if-m-lt-FULL.false
