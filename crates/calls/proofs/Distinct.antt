@@ -2,7 +2,6 @@
 use mathlib.Core.Path.{◌≡◌, refl, ap, sym, ◌∙◌}
 use Prim.Native.Nat.{ℕ}
 use Rattle.std.specs.Prelude.{Result, Ok, Err, List, [], ◌∷◌, eqb, if◌then◌else◌}
-use Rattle.checks.specs.declared.refusal.Fault.{Fault}
 use Rattle.checks.specs.declared.refusal.Fault.TheVariants as fault
 use Rattle.checks.specs.declared.refusal.Refusal.{Refusal}
 use Rattle.checks.specs.declared.refusal.Refusal.TheVariants.{Sizes, Node, Start, EntryDisobeys, NodeDisobeys, Entry, Twin, Count, NoRun}
@@ -10,7 +9,7 @@ use Rattle.checks.specs.Numbers.{answer_of, place_of}
 use Rattle.calls.specs.declared.End.{End}
 use Rattle.calls.specs.declared.End.TheVariants.{Done, Failed, Units, Room, Nesting, Unbound, Unfinished}
 use Rattle.calls.specs.declared.Ran.{Ran}
-use Rattle.calls.specs.Outcome.{Outcome, end_number, end_place, ran_of, outcome_of, five_of}
+use Rattle.calls.specs.Outcome.{Outcome, end_number, end_place, ran_of, outcome_of}
 use Rattle.calls.specs.Distinct.{SameRan, SameRun, SameNumbers}
 
 -- the end with the number n and the place p

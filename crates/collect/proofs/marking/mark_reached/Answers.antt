@@ -1,10 +1,8 @@
-use Prim.Native.Nat.{ℕ, ◌-◌, ◌≤◌}
+use Prim.Native.Nat.{ℕ, ◌-◌}
 use native.Mathlib.Omega.{arith}
 use lib.ListN.{length}
-use Rattle.collect.specs.Reachable.{reached}
 use Rattle.collect.specs.Refused.{Lent}
 use Rattle.collect.specs.Collected.{lent}
-use Rattle.collect.specs.Passes.{Flags}
 use Rattle.collect.proofs.Flagging.{pass-begun, pass-marked, pass-passed, pass-ended}
 use Rattle.collect.proofs.Accepting.{mark-inside, few, below}
 use Rattle.collect.proofs.marking.mark_reached.Goals as goal

@@ -1,8 +1,7 @@
 use mathlib.Core.Path.{◌∙◌}
-use mathlib.Core.Logic.{⊎_elim}
 use Prim.Native.Nat.{◌-◌}
 use native.Mathlib.Omega.{arith}
-use Rattle.collect.proofs.Progress.{Packs, packs-none, packs-moved, packs-passed, packs-all, length-store, count_at, child-at, room_at, number_at}
+use Rattle.collect.proofs.Progress.{packs-none, packs-moved, packs-passed, packs-all, length-store, count_at, child-at, room_at, number_at}
 use Rattle.collect.proofs.moving.move_kept.Goals as goal
 use Rattle.collect.proofs.moving.move_kept.Goals.{else-work-k-ne0, then-work-k-ne0}
 
