@@ -3,7 +3,7 @@
 use mathlib.Core.Path.{◌≡◌, refl, ap, sym, ◌∙◌, subst}
 use mathlib.Core.Option.{Option, none}
 use mathlib.Core.List.{List}
-use Prim.Native.Nat.{ℕ, zero, suc, ◌+◌, ◌*◌, ◌/◌, ◌≤◌, ◌<◌, min}
+use Prim.Native.Nat.{ℕ, zero, suc, ◌+◌, ◌*◌, ◌≤◌, ◌<◌, min}
 use native.Mathlib.Omega.{arith}
 use lib.ListN.{length, get_or, take, drop}
 use lib.Seq.{paste}
@@ -12,7 +12,6 @@ use Rattle.checks.specs.Kinds.{ours}
 use Rattle.checks.specs.Checked.{Checked}
 use Rattle.meaning.specs.Store.{Input, Accepted}
 use Rattle.meaning.specs.Shared.{twin}
-use Rattle.index.specs.Lent.{built}
 use Rattle.index.specs.Run.{FitsRoom}
 use Rattle.index.proofs.Twinning.{distinct}
 use Rattle.state.specs.Answers.{packed}
@@ -23,7 +22,7 @@ use Rattle.calls.specs.Many.{Module, handed, single}
 use Rattle.calls.specs.Indexed.{indexed_many_refused}
 use Rattle.calls.specs.Outcome.{Outcome}
 use Rattle.calls.proofs.Turns.{words, Given, Stands, accepted-single}
-use Rattle.calls.proofs.IndexedTurns.{Apart, IndexedGoing, indexed-going-first, indexed-going-next}
+use Rattle.calls.proofs.IndexedTurns.{IndexedGoing, indexed-going-first, indexed-going-next}
 use Rattle.running.specs.Ends.{RanAccepted}
 use Rattle.running.proofs.Whole.{Begun, ready, ended-as, fits_after}
 use Rattle.indexed.proofs.Whole.{take_min}

@@ -5,12 +5,12 @@ use mathlib.Core.Bool.{Bool, true, false}
 use mathlib.Core.Logic.{⊎_elim}
 use mathlib.Core.Option.{Option, none, some}
 use mathlib.Core.List.{List}
-use Prim.Native.Nat.{ℕ, zero, suc, ◌+◌, ◌-◌, ◌*◌, ◌/◌, ◌%◌, ◌≤◌, ◌<◌, min}
+use Prim.Native.Nat.{ℕ, ◌+◌, ◌-◌, ◌*◌, ◌/◌, ◌≤◌, ◌<◌, min}
 use native.Mathlib.Omega.{arith}
-use lib.Dec.{eqb, leb}
+use lib.Dec.{leb}
 use lib.ListN.{length, get_or, take, drop, replicate, drop_of_length-le, length-take, length-drop, length-replicate, get_or-replicate}
-use lib.Seq.{ext_get_or, get_or-take, get_or-drop, take-take, take_all, length-take-le}
-use borrow.Author.Tests.{eq-eqb, ne_eqb, eqb-true, leb-true, le-leb, lt-leb}
+use lib.Seq.{ext_get_or, get_or-take, get_or-drop, take_all, length-take-le}
+use borrow.Author.Tests.{eq-eqb, ne_eqb, leb-true, le-leb, lt-leb}
 use Rattle.words.specs.Words.{rows, cleared_from}
 use Rattle.std.specs.Prelude.{if◌then◌else◌, Err}
 use Rattle.words.proofs.Tests.{below-or-from}
@@ -32,7 +32,7 @@ use Rattle.index.proofs.Lending.{held-cleared}
 use Rattle.index.proofs.Running.{begun, first-begun, held-begun, length-begun}
 use Rattle.calls.specs.Refused.{or_else, words_refused, start_fits, refused_with_by, refused_with}
 use Rattle.calls.specs.Run.{input, refusing}
-use Rattle.calls.specs.Indexed.{index_fits, indexed_words_refused_by, indexed_refused_by, indexed_refused, IndexedReturned, indexed_of_by, indexed_of}
+use Rattle.calls.specs.Indexed.{index_fits, indexed_words_refused_by, indexed_refused_by, indexed_refused, indexed_of_by, indexed_of}
 use Rattle.calls.proofs.Accepting.{accepted-with, zero-else, words-passed}
 
 -- ---- the words' refusal, by what is found

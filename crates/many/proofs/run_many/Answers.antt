@@ -1,7 +1,7 @@
-use mathlib.Core.Path.{◌≡◌, refl, ap, sym, ◌∙◌}
+use mathlib.Core.Path.{◌≡◌, refl, sym, ◌∙◌}
 use mathlib.Core.List.{List}
 use mathlib.Core.Option.{Option}
-use Prim.Native.Nat.{ℕ, ◌*◌}
+use Prim.Native.Nat.{ℕ}
 use native.Mathlib.Omega.{arith}
 use borrow.Author.Tests.{eqb-true, eqb-false}
 use lib.ListN.{length, get_or}
@@ -12,7 +12,7 @@ use Rattle.calls.specs.Refused.{lent_signature}
 use Rattle.meaning.specs.Store.{Accepted}
 use Rattle.calls.specs.Many.{Module, handed, single, many_at_return, many_refused}
 use Rattle.running.proofs.Whole.{ready-plain, ended-plain, store-small}
-use Rattle.calls.proofs.Turns.{Given, Stands, table-short, mark-short, accepted-single, going-first, going_next, going-last}
+use Rattle.calls.proofs.Turns.{Given, Stands, table-short, accepted-single, going-first, going_next, going-last}
 use Rattle.calls.proofs.Turns.{many-refused, many-ran, many-given, many-none}
 use Rattle.std.proofs.lemmas.Result.{err_from_is_err_and}
 use Rattle.many.proofs.run_many.Goals as goal

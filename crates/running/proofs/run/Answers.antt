@@ -1,5 +1,5 @@
 -- `run` meets its contract: refused, or the end of an accepted run with the store cleared and the bindings written.
-use mathlib.Core.Path.{◌≡◌, refl, ap, ◌∙◌}
+use mathlib.Core.Path.{refl, ap, ◌∙◌}
 use native.Mathlib.Omega.{arith}
 use Rattle.calls.specs.Outcome.{end_number, ran_of}
 use Rattle.calls.specs.Run.{at_return}

@@ -1,16 +1,14 @@
 -- `run_indexed` meets its contract: refused, or the end of an accepted run over the lent words with the index built, both cleared.
-use mathlib.Core.Path.{◌≡◌, refl, ap, sym, ◌∙◌}
+use mathlib.Core.Path.{◌≡◌, refl, ap, ◌∙◌}
 use mathlib.Core.List.{List}
 use mathlib.Core.Option.{Option}
 use Prim.Native.Nat.{ℕ, ◌/◌}
 use native.Mathlib.Omega.{arith}
 use lib.ListN.{length, take, drop, replicate}
-use lib.Seq.{length-take-le}
 use Rattle.checks.proofs.Numbers.{answer_ne0}
 use Rattle.checks.specs.Checked.{checked}
 use Rattle.words.specs.Words.{cleared_from}
-use Rattle.words.proofs.Rows.{length-cleared_from}
-use Rattle.meaning.specs.Store.{Input, Accepted}
+use Rattle.meaning.specs.Store.{Input}
 use Rattle.index.specs.Lent.{built}
 use Rattle.loading.specs.Loaded.{Opened}
 use Rattle.calls.specs.Outcome.{end_number, ran_of}
@@ -20,7 +18,7 @@ use Rattle.calls.specs.Indexed.{indexed_at_return, indexed_refused}
 use Rattle.std.proofs.lemmas.Result.{err_from_is_err_and}
 use Rattle.running.proofs.Whole.{Begun, ready, ended-as, fits_after, table_fits, is-done-end, bound-left, comes_back}
 use Rattle.indexed.proofs.Whole.{refused-is, drop-size, indexed-refused, indexed-ran, index-long, accepted}
-use Rattle.indexed.proofs.Whole.{Split, nodes-few, mark-inside, held-empty, fits-begun, own-begun, length-same, store-end, index-end}
+use Rattle.indexed.proofs.Whole.{Split, nodes-few, mark-inside, held-empty, fits-begun, own-begun, store-end, index-end}
 use Rattle.indexed.proofs.run.run_indexed.Goals as goal
 use Rattle.indexed.proofs.run.run_indexed.Goals.{In_ok-check_indexed_run, After-load}
 
@@ -70,9 +68,6 @@ begun c o =
     }
 
 -- ---- the needs
-
-pub slice_bounds-check_indexed_run-end-2 : goal.slice_bounds-check_indexed_run-end-2
-slice_bounds-check_indexed_run-end-2 c = sym (length-take-le c.store_words-own.result c.args.lent.now (omega (arith, c.store_words-own.ensures)))
 
 pub returns-in_err-check_indexed_run : goal.returns-in_err-check_indexed_run
 returns-in_err-check_indexed_run c =

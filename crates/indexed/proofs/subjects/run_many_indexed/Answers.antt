@@ -1,17 +1,15 @@
 use mathlib.Core.Path.{◌≡◌, refl, ap, sym, ◌∙◌, subst}
 use mathlib.Core.List.{List}
 use mathlib.Core.Option.{Option}
-use Prim.Native.Nat.{ℕ, ◌*◌, ◌/◌, ◌≤◌, ◌<◌}
+use Prim.Native.Nat.{ℕ, ◌*◌, ◌/◌, ◌≤◌}
 use native.Mathlib.Omega.{arith}
 use borrow.Author.Tests.{eqb-true, eqb-false}
 use lib.ListN.{length, take, drop}
-use lib.Seq.{length-take-le}
 use Rattle.words.specs.Words.{rows, cleared_from}
 use Rattle.checks.proofs.Numbers.{answer_ne0}
 use Rattle.checks.specs.Kinds.{ours}
 use Rattle.checks.specs.Checked.{checked}
 use Rattle.index.specs.Lent.{built}
-use Rattle.index.proofs.Running.{mark-small}
 use Rattle.calls.specs.Refused.{lent_signature}
 use Rattle.calls.specs.Many.{Module, handed}
 use Rattle.calls.specs.Indexed.{indexed_many_at_return, indexed_many_refused}
@@ -19,7 +17,7 @@ use Rattle.calls.proofs.Turns.{Given, Stands}
 use Rattle.calls.proofs.IndexedTurns.{indexed-going-last, indexed-many-refused, indexed-many-ran, indexed-many-size, indexed-many-given, indexed-many-twin, indexed-many-none}
 use Rattle.std.proofs.lemmas.Result.{err_from_is_err_and}
 use Rattle.running.proofs.Whole.{table_fits}
-use Rattle.indexed.proofs.Whole.{drop-size, Split, nodes-few, mark-inside, held-empty, fits-begun, own-begun, length-same, store-begun, index-begun, store-end, index-end}
+use Rattle.indexed.proofs.Whole.{drop-size, Split, nodes-few, mark-inside, held-empty, fits-begun, own-begun, store-begun, index-begun, store-end, index-end}
 use Rattle.indexed.proofs.Turning.{Turning, many-refused-is, at_store, from-store, turning-first, first_call, first-accepted, turn-ready, turning-next}
 use Rattle.indexed.proofs.subjects.run_many_indexed.Goals as goal
 use Rattle.indexed.proofs.subjects.run_many_indexed.Goals.{In_ok-check_indexed_many, Else-is_empty, After-load}
@@ -82,9 +80,6 @@ turning c w rs m t j G x e =
     (G x (e ∙ index-begun S c.build.new.lent (are c)))
 
 -- ---- the needs
-
-pub slice_bounds-check_indexed_many-end-2 : goal.slice_bounds-check_indexed_many-end-2
-slice_bounds-check_indexed_many-end-2 c = sym (length-take-le c.store_words-own.result c.args.lent.now (omega (arith, c.store_words-own.ensures)))
 
 pub returns-in_err-check_indexed_many : goal.returns-in_err-check_indexed_many
 returns-in_err-check_indexed_many c =
