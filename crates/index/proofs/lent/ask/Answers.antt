@@ -2,16 +2,8 @@
 use Rattle.std.proofs.Common.{◌≡◌, ◌+◌, ◌*◌, ◌≤◌, length, sym, refl, ap, ◌∙◌, subst, rules}
 use Rattle.checks.specs.Checked.{place_of}
 use Rattle.index.specs.Key.{home}
-use Rattle.index.proofs.Lending.{asked-stands, asked-full, asked-made, made-long}
+use Rattle.index.proofs.Lending.{asked-stands, asked-made, made-long}
 use Rattle.index.proofs.lent.ask.Goals as goal
-
-pub returns-then-n-mark : goal.returns-then-n-mark
-returns-then-n-mark c =
-    asked-full c.args.n c.args.mark
-    c.args.top c.args.r
-    c.args.lent.now
-    (sym (ap place_of c.in-None.is) ∙ c.find.ensures)
-    c.if-n-mark.true
 
 pub link-requires : goal.link-requires
 link-requires c =

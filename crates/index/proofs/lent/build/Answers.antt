@@ -7,9 +7,6 @@ use Rattle.index.proofs.lent.build.Goals as goal
 pub loop-k-init : goal.loop-k-init
 loop-k-init c = (refl, c.requires.0, ap (λ d. built c.args.n 0 d c.args.lent.now) (omega arith))
 
-pub link-requires : goal.link-requires
-link-requires c = (c.loop-k.invariant.1.long, omega (arith, c.loop-k-test.true, c.requires.1))
-
 pub loop-k-preserved : goal.loop-k-preserved
 loop-k-preserved c =
     let e : c.link.new.index ≡ joined c.args.n c.loop-k.k c.loop-k.lent = joined-so c.args.n
@@ -41,9 +38,6 @@ loop-k-preserved c =
           c.loop-k-test.true)
           ∙ c.loop-k.invariant.2,
     )
-
-pub shape_of-lent : goal.shape_of-lent
-shape_of-lent c = c.loop-k.invariant.0
 
 pub returns : goal.returns
 unfolding built

@@ -7,9 +7,6 @@ use Rattle.index.proofs.lent.forget.Goals as goal
 pub loop-k-init : goal.loop-k-init
 loop-k-init c = (c.requires.1, refl, c.requires.0, refl)
 
-pub unlink-requires : goal.unlink-requires
-unlink-requires c = (c.loop-k.invariant.2.long, omega (arith, c.loop-k-test.true, c.loop-k.invariant.2.fits))
-
 pub loop-k-preserved : goal.loop-k-preserved
 loop-k-preserved c =
     let e : c.unlink.new.index ≡ parted
@@ -47,9 +44,6 @@ loop-k-preserved c =
           c.loop-k-test.true)
           ∙ c.loop-k.invariant.3,
     )
-
-pub shape_of-lent : goal.shape_of-lent
-shape_of-lent c = c.loop-k.invariant.1
 
 pub returns : goal.returns
 unfolding forgotten

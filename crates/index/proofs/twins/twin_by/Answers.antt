@@ -1,8 +1,6 @@
-use Rattle.meaning.specs.Shared.{absent}
 use Rattle.std.proofs.Common.{◌≡◌, ◌+◌, false, true, not, length, sym, refl, ap, ◌∙◌, subst, add-one, arith}
 use native.Mathlib.Nat.{sub-zero}
 use Rattle.words.proofs.Tests.{rejected-turn, rejected-stop, rejected-end}
-use Rattle.checks.specs.Checked.{place_of}
 use Rattle.index.specs.Key.{home, place}
 use Rattle.index.specs.Chains.{Indexed, linked}
 use Rattle.index.proofs.Chaining.{indexed-linked, length-linked}
@@ -12,18 +10,12 @@ use Rattle.index.proofs.twins.twin_by.Goals as goal
 pub loop-k-init : goal.loop-k-init
 loop-k-init c = (refl, c.requires.0, rw sub-zero)
 
-pub find-requires : goal.find-requires
-find-requires c = (c.loop-k.invariant.1, omega arith)
-
 pub returns-then-is_some : goal.returns-then-is_some
 returns-then-is_some c =
     rejected-stop _ _ _ _ c.loop-k.invariant.2 c.loop-k-test.true
     (fresh-by _ c.row-r.result c.loop-k.k
     c.find.result false c.find.ensures c.row-r.ensures
     (absent-some c.find.result ∙ ap not (sym c.is_some.ensures ∙ c.if-is_some.true)))
-
-pub link-requires : goal.link-requires
-link-requires c = (c.loop-k.invariant.1.long, omega (arith, c.loop-k-test.true, c.requires.1))
 
 pub loop-k-preserved : goal.loop-k-preserved
 loop-k-preserved c =
@@ -50,9 +42,6 @@ loop-k-preserved c =
           c.row-r.ensures
           (absent-some c.find.result ∙ ap not (sym c.is_some.ensures ∙ c.if-is_some.false))),
     )
-
-pub shape_of-index : goal.shape_of-index
-shape_of-index c = c.loop-k.invariant.0
 
 pub returns : goal.returns
 returns c = rejected-end _ _ _ _ c.loop-k.invariant.2 c.loop-k-test.false

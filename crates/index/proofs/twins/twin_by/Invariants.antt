@@ -1,7 +1,7 @@
 -- `twins::twin_by` meets its contract. The loop's invariant: the nodes below k are in the chains, and those from k on decide.
 -- Assumes nothing.
 use Rattle.meaning.specs.Shared.{fresh, twin}
-use Rattle.std.proofs.Common.{◌≡◌, ◌-◌, ◌≤◌, length}
+use Rattle.std.proofs.Common.{◌≡◌, ◌-◌, length}
 use Rattle.words.specs.Tests.{rejected}
 use Rattle.index.specs.Chains.{Indexed}
 use Rattle.index.proofs.twins.twin_by.Given as goal

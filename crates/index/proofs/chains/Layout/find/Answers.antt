@@ -1,11 +1,8 @@
-use Rattle.std.proofs.Common.{◌+◌, get_or, sym, ◌∙◌, subst, arith}
+use Rattle.std.proofs.Common.{◌+◌, get_or, sym, ◌∙◌, subst}
 use Rattle.index.proofs.Keying.{above_zero}
 use Rattle.index.proofs.Chaining.{Follows, follows-head, follows-less, follows-past, follows_next, follows-found, follows-end}
 use Rattle.index.proofs.chains.Layout.find.Goals as goal
 use Rattle.index.proofs.chains.Layout.find.Goals.{else-k-m-via-else-k-m, else-k-m-via-then-k-m+else-has}
-
-pub overflow_add-nexts : goal.overflow_add-nexts
-overflow_add-nexts c = omega (arith, c.requires.0.long)
 
 pub loop-x-init : goal.loop-x-init
 loop-x-init c =
@@ -15,9 +12,6 @@ loop-x-init c =
     (c.args.self.at + p) 0)) (sym c.home_of.ensures.is)
     (follows-head c.requires.0 c.args.r c.args.m c.requires.1)
 
-pub overflow_sub-k : goal.overflow_sub-k
-overflow_sub-k c = omega (arith, above_zero c.loop-x-test.true)
-
 pub returns-then-has : goal.returns-then-has
 returns-then-has c =
     follows-found c.requires.0
@@ -25,39 +19,6 @@ returns-then-has c =
     c.args.m c.loop-x.x
     (above_zero c.loop-x-test.true) c.loop-x.invariant
     c.if-k-m.true (sym c.has.ensures ∙ c.if-has.true)
-
-pub overflow_add-x-in-loop-x : goal.overflow_add-x-in-loop-x
-overflow_add-x-in-loop-x c =
-    omega (
-      arith,
-      c.requires.0.long,
-      c.requires.0.fits,
-      c.loop-x.invariant.below,
-      above_zero
-          c.loop-x-test.true,
-    )
-
-pub offset_bounds-index-nexts : goal.offset_bounds-index-nexts
-offset_bounds-index-nexts c =
-    omega (
-      arith,
-      c.requires.0.long,
-      c.requires.0.fits,
-      c.loop-x.invariant.below,
-      above_zero
-          c.loop-x-test.true,
-    )
-
-pub bounds-index-nexts : goal.bounds-index-nexts
-bounds-index-nexts c =
-    omega (
-      arith,
-      c.requires.0.long,
-      c.requires.0.fits,
-      c.loop-x.invariant.below,
-      above_zero
-          c.loop-x-test.true,
-    )
 
 pub loop-x-smaller : goal.loop-x-smaller
 loop-x-smaller c =
