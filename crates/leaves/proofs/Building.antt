@@ -43,12 +43,6 @@ use Rattle.state.proofs.Holding.{framed-topped, standing-topped, held-some, held
 use Rattle.leaves.proofs.Children.{part-next, part_end, filled, filled_next, filled_row, one_more}
 use Rattle.leaves.proofs.Walking.{walk_end, walk-on, walk-stop, returned}
 
--- a copy of eight words, one by one
-pub eight-again : (r : List ℕ) → length r ≡ 8 → get_or r 0 0 ∷ get_or r 1 0 ∷ get_or r 2 0 ∷ get_or r 3 0 ∷ get_or r 4 0 ∷ get_or r 5 0 ∷ get_or r
-    6 0 ∷ get_or r 7 0 ∷ [] ≡ r
-eight-again r l = ext_get_or 0 _ r (sym l) (each_of (λ i. get_or (get_or r 0 0 ∷ get_or r 1 0 ∷ get_or r 2 0 ∷ get_or r 3 0 ∷ get_or r 4 0 ∷ get_or r
-    5 0 ∷ get_or r 6 0 ∷ get_or r 7 0 ∷ []) i 0 ≡ get_or r i 0) refl refl refl refl refl refl refl refl)
-
 -- what asking comes to is one of three
 stands_same : {j k : ℕ} → Stands j ≡ Stands k → j ≡ k
 stands_same e = cc

@@ -103,7 +103,7 @@ fn match_in_place(
     let mut left = (s % HALF) as u32;
     let mut d = deep;
     let mut n = operands(table, x);
-    // No count over a range: at a pattern in the last place it begins anew.
+    // As it is: it is no count over a range. At a pattern in the last place it begins anew.
     let mut i: u32 = 0;
     while i < n {
         let q = entry(table, x, 2 + i);

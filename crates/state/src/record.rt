@@ -153,7 +153,8 @@ pub fn unbind(st: &mut [u32; RECORD], mask: u64)
     put_mask(st, mask_of(st) & (18446744073709551615 - mask));
 }
 
-// Copies the words of the variables of the mask, from the place `start` on to the place `at` on. It ends with the last of them.
+// Copies the words of the variables of the mask, from the place `start` on to the place `at` on.
+// As it is: it is no count over a range. It ends with the last bit of the mask, of which most masks have few.
 fn copy_words(to: &mut [u32], at: usize, from: &[u32], start: usize, mask: u64)
     requires { (at + variables ≤ length to.old) × (start + variables ≤ length from.now) }
     ensures { to.new ≡ copied variables mask from.now start to.old at }
