@@ -47,7 +47,9 @@ pub fn marshtrundle_run_counted(
     ensures { counted_at_return (seven numbers.new) store.new bindings.new counts.new
         ≡ counted_of none (input table.now store.old bindings.old mark start subject units) counts.old }
 {
-    let r = run_counted(table, store, bindings, mark, start, subject, units, counts, None);
+    let r = run_counted(
+        table, store, bindings, mark, start, subject, units, counts, None,
+    );
     *numbers = seven_numbers(r, subject, mark);
 }
 
@@ -68,7 +70,16 @@ pub fn marshtrundle_run_counted_signed(
         ≡ counted_of (some signature.now) (input table.now store.old bindings.old mark start subject units) counts.old }
 {
     let r = run_counted(
-        table, store, bindings, mark, start, subject, units, counts, Some(signature));
+        table,
+        store,
+        bindings,
+        mark,
+        start,
+        subject,
+        units,
+        counts,
+        Some(signature),
+    );
     *numbers = seven_numbers(r, subject, mark);
 }
 
@@ -98,7 +109,9 @@ pub fn marshtrundle_run_indexed_counted(
         start,
         subject,
         units,
-        counts, None);
+        counts,
+        None,
+    );
     *numbers = seven_numbers(r, subject, mark);
 }
 
@@ -130,6 +143,7 @@ pub fn marshtrundle_run_indexed_counted_signed(
         subject,
         units,
         counts,
-        Some(signature));
+        Some(signature),
+    );
     *numbers = seven_numbers(r, subject, mark);
 }

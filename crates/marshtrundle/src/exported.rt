@@ -12,7 +12,6 @@ ghost use Rattle.write_rules.specs.Written.{RuleWritten};
 ghost use Rattle.marshtrundle.specs.Exported.{two, three, four, five, translation, writing};
 
 use calls::five_numbers;
-use check_rules::check::four_numbers as translation_numbers;
 use checks::entries::check_table;
 use checks::nodes::check_store;
 use checks::refusal::numbers_of;
@@ -21,7 +20,7 @@ use free::{free_variables, three_numbers};
 use many::run_many;
 use running::run;
 use translate::translate::translate;
-use write_rules::rule::{three_numbers as writing_numbers, write_rule};
+use write_rules::rule::write_rule;
 
 // The run: answer, place, subject, mark and units used.
 pub fn marshtrundle_run(
@@ -37,9 +36,7 @@ pub fn marshtrundle_run(
     ensures { at_return (five numbers.new) store.new bindings.new
         ≡ run_of (input table.now store.old bindings.old mark start subject units) }
 {
-    let r = run(
-        table, store, bindings, mark, start, subject, units, None,
-    );
+    let r = run(table, store, bindings, mark, start, subject, units, None);
     *numbers = five_numbers(r, subject, mark);
 }
 
@@ -171,7 +168,7 @@ pub fn marshtrundle_translate_rules(
 )
     ensures { Translating table.old used text.now (translation numbers.new) table.new }
 {
-    *numbers = translation_numbers(translate(table, used, text), used);
+    *numbers = check_rules::check::four_numbers(translate(table, used, text), used);
 }
 
 // A rule of a table as a line of text: answer, place and length, as numbers of 64 bits.
@@ -184,5 +181,5 @@ pub fn marshtrundle_write_rule(
 )
     ensures { RuleWritten table.now used entry buffer.old (writing numbers.new) buffer.new }
 {
-    *numbers = writing_numbers(write_rule(table, used, entry, buffer));
+    *numbers = write_rules::rule::three_numbers(write_rule(table, used, entry, buffer));
 }

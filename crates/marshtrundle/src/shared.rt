@@ -34,7 +34,9 @@ pub fn marshtrundle_run_indexed(
         mark,
         start,
         subject,
-        units, None);
+        units,
+        None,
+    );
     *numbers = five_numbers(r, subject, mark);
 }
 
@@ -63,7 +65,8 @@ pub fn marshtrundle_run_indexed_signed(
         start,
         subject,
         units,
-        Some(signature));
+        Some(signature),
+    );
     *numbers = five_numbers(r, subject, mark);
 }
 
@@ -93,7 +96,9 @@ pub fn marshtrundle_run_many_indexed(
         start,
         subjects,
         units,
-        results, None);
+        results,
+        None,
+    );
     *numbers = numbers_of(r);
 }
 
@@ -125,6 +130,7 @@ pub fn marshtrundle_run_many_indexed_signed(
         subjects,
         units,
         results,
-        Some(signature));
+        Some(signature),
+    );
     *numbers = numbers_of(r);
 }

@@ -23,7 +23,9 @@ pub fn marshtrundle_start(
     ensures { Starts none (input table.now store.now bindings.now mark start subject units)
         work.old (five numbers.new) work.new }
 {
-    let r = start_run(table, store, bindings, work, mark, start, subject, units, None);
+    let r = start_run(
+        table, store, bindings, work, mark, start, subject, units, None,
+    );
     *numbers = five_numbers(r, subject, mark);
 }
 
@@ -45,7 +47,16 @@ pub fn marshtrundle_start_signed(
         (five numbers.new) work.new }
 {
     let r = start_run(
-        table, store, bindings, work, mark, start, subject, units, Some(signature));
+        table,
+        store,
+        bindings,
+        work,
+        mark,
+        start,
+        subject,
+        units,
+        Some(signature),
+    );
     *numbers = five_numbers(r, subject, mark);
 }
 

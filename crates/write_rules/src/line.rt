@@ -9,6 +9,8 @@ use words::word;
 
 // The fields of one condition. Its number stands before its starting term in the line and after it in the entries, so that the term
 // is passed once before it is written in its place.
+// As it is: a place in the line is an argument and no cursor's state, for a condition and a rule are each written twice from one place, and
+// a cursor would have to be set back.
 fn write_condition(table: &[u32], used: u32, first: u32, line: &mut [u8], from: usize) -> Passed
     requires { (used ≤ 4096) × (first ≤ 4096) × (from ≤ length line.old) }
     ensures { Leaves (first + 4) (first + 7 + 2 * used) line.new result × WritesCondition table.now used first line.old from line.new result }

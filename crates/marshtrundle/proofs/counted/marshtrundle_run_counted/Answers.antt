@@ -3,4 +3,4 @@ use Rattle.marshtrundle.proofs.Numbers.{as-numbers}
 use Rattle.marshtrundle.proofs.counted.marshtrundle_run_counted.Goals as goal
 
 pub returns : goal.returns
-returns c = as-numbers c.numbers_of.ensures c.run_counted-r.ensures
+returns c = as-numbers c.seven_numbers.ensures c.run_counted-r.ensures

@@ -1,6 +1,6 @@
--- `marshtrundle::counted::marshtrundle_run_counted_signed` meets its contract: the seven numbers are those of `run_counted_signed`. Assumes nothing.
+-- `marshtrundle::counted::marshtrundle_run_counted_signed` meets its contract: the seven numbers are those of `run_counted`. Assumes nothing.
 use Rattle.marshtrundle.proofs.Numbers.{as-numbers}
 use Rattle.marshtrundle.proofs.counted.marshtrundle_run_counted_signed.Goals as goal
 
 pub returns : goal.returns
-returns c = as-numbers c.numbers_of.ensures c.run_counted_signed-r.ensures
+returns c = as-numbers c.seven_numbers.ensures c.run_counted-r.ensures

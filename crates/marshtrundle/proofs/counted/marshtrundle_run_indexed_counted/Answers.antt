@@ -3,4 +3,4 @@ use Rattle.marshtrundle.proofs.Numbers.{as-numbers-indexed}
 use Rattle.marshtrundle.proofs.counted.marshtrundle_run_indexed_counted.Goals as goal
 
 pub returns : goal.returns
-returns c = as-numbers-indexed c.numbers_of.ensures c.run_indexed_counted-r.ensures
+returns c = as-numbers-indexed c.seven_numbers.ensures c.run_indexed_counted-r.ensures

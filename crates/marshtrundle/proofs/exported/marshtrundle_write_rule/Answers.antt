@@ -1,6 +1,5 @@
--- `marshtrundle::exported::marshtrundle_write_rule` meets its contract: the three numbers are those of `write_rule`, of the entry that the caller names. Assumes nothing.
+-- `marshtrundle::exported::marshtrundle_write_rule` meets its contract: the numbers are those of `write_rule`, each at its place. Assumes nothing.
 use Rattle.marshtrundle.proofs.exported.marshtrundle_write_rule.Goals as goal
 
 pub returns : goal.returns
-returns c =
-    c.write_rule-r.ensures
+returns c = rw c.three_numbers.ensures c.write_rule.ensures

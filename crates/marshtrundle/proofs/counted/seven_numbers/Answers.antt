@@ -1,6 +1,0 @@
--- `numbers_of` meets its contract. Assumes nothing.
-use mathlib.Core.Path.{refl}
-use Rattle.marshtrundle.proofs.counted.numbers_of.Goals as goal
-
-pub returns : goal.returns
-returns c = refl
