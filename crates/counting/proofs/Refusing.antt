@@ -14,9 +14,6 @@ use Rattle.words.proofs.Tests.{below-or-from, every_true, rejected-none, Holds}
 use Rattle.checks.specs.Kinds.{ours}
 use Rattle.checks.specs.Checked.{checked, found}
 use Rattle.checks.specs.Checked.{Checked}
-use Rattle.checks.specs.Numbers.{answer_of, place_of}
-use Rattle.checks.specs.declared.refusal.Refusal.{Refusal}
-use Rattle.checks.proofs.Numbers.{answer_ne0}
 use Rattle.checks.proofs.Promises.{table_passes}
 use Rattle.meaning.specs.Store.{Input, Accepted}
 use Rattle.calls.specs.Refused.{refused_with}
@@ -44,16 +41,15 @@ module _ (c : Checked) (t cs : List ℕ) where
   refused-counts e z = rw (eq-eqb (length cs) (4 * rows t) e, eq-eqb c.answer 0 z) refl
 
 -- the same by the refusals of the code: one that is found before the counts, and what the counts come to
-module _ {V : Checked} {t cs : List ℕ} (l : length cs ≡ 4 * rows t) where
-  pub before-counts : {e : Refusal} → checked (answer_of e) (place_of e) ≡ V → refused_counting V t cs ≡ checked (answer_of e) (place_of e)
-  before-counts {e} is =
-      refused-before V t cs l (λ z. answer_ne0 e (ap (λ (c : Checked). c.answer) is ∙ z)) ∙ sym is
+module _ {V : Checked} (t cs : List ℕ) (l : length cs ≡ 4 * rows t) where
+  pub before-counts : {c : Checked} → c ≡ V → (c.answer ≡ 0 → ⊥) → refused_counting V t cs ≡ c
+  before-counts is n = refused-before V t cs l (λ z. n (ap (λ (c : Checked). c.answer) is ∙ z)) ∙ sym is
 
   pub by-counts : {d : Checked} → checked 0 0 ≡ V → d ≡ counts_checked cs (rows t) → refused_counting V t cs ≡ d
   by-counts is e = refused-counts V t cs l (sym (ap (λ (c : Checked). c.answer) is)) ∙ sym e
 
   pub not-refused : checked 0 0 ≡ V → checked 0 0 ≡ counts_checked cs (rows t) → (refused_counting V t cs).answer ≡ 0
-  not-refused is e = ap (λ (c : Checked). c.answer) (by-counts is e)
+  not-refused is e = ap (λ (c : Checked). c.answer) (by-counts {d = checked 0 0} is e)
 
 -- ---- what comes back
 

@@ -16,7 +16,7 @@ returns-then-counts-n c = counted-refused _ _ _ (checked 2 0) (refused-length _ 
 pub returns-in_err-check_run : goal.returns-in_err-check_run
 returns-in_err-check_run c =
     let p = err_from_is_err_and c.from_residual.result c.from_residual.ensures.1 in
-    rw (p.1, p.2) (counted-refused _ _ _ _ (before-counts c.if-counts-n.false c.in_err-check_run.ensures) (answer_ne0 _))
+    rw (p.1, p.2) (counted-refused _ _ _ _ (before-counts _ _ c.if-counts-n.false c.in_err-check_run.ensures (answer_ne0 _)) (answer_ne0 _))
 
 pub overflow_cast-n : goal.overflow_cast-n
 overflow_cast-n c =
@@ -26,9 +26,9 @@ overflow_cast-n c =
 
 pub returns-in_err-check_counts : goal.returns-in_err-check_counts
 returns-in_err-check_counts c =
-    let p = err_from_is_err_and c.from_residual-2.result c.from_residual-2.ensures.1 in
+    let p = err_from_is_err_and c.from_residual-in_err-check_counts.result c.from_residual-in_err-check_counts.ensures.1 in
     rw (p.1, p.2)
-    (counted-refused _ _ _ _ (by-counts c.if-counts-n.false c.in_ok-check_run.ensures c.in_err-check_counts.ensures) (answer_ne0 _))
+    (counted-refused _ _ _ _ (by-counts _ _ c.if-counts-n.false c.in_ok-check_run.ensures c.in_err-check_counts.ensures) (answer_ne0 _))
 
 pub run_on-requires : goal.run_on-requires
 run_on-requires c =
@@ -41,4 +41,4 @@ run_on-requires c =
 pub returns : goal.returns
 returns c =
     c.run_on.ensures
-    ∙ counted-run _ _ _ (not-refused c.if-counts-n.false c.in_ok-check_run.ensures c.in_ok-check_counts.ensures)
+    ∙ counted-run _ _ _ (not-refused _ _ c.if-counts-n.false c.in_ok-check_run.ensures c.in_ok-check_counts.ensures)

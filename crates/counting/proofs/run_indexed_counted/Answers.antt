@@ -70,7 +70,7 @@ returns-in_err-check_indexed_run c =
     c.store_words-own.result _ cut
     (c.in_err-check_indexed_run.ensures spare a.units (drop-size a.words c.store_words-own.result a.lent.now cut)) in
     let p = err_from_is_err_and c.from_residual.result c.from_residual.ensures.1 in
-    rw (p.1, p.2) (indexed-counted-refused _ _ _ _ _ (before-counts c.if-counts-n.false is) (answer_ne0 _))
+    rw (p.1, p.2) (indexed-counted-refused _ _ _ _ _ (before-counts _ _ c.if-counts-n.false is (answer_ne0 _)) (answer_ne0 _))
 
 pub overflow_cast-n : goal.overflow_cast-n
 overflow_cast-n c = let k = (goal.at.overflow_cast-n c).In_ok-check_indexed_run in omega (arith, entries-few (given k) (good k))
@@ -78,9 +78,9 @@ overflow_cast-n c = let k = (goal.at.overflow_cast-n c).In_ok-check_indexed_run 
 pub returns-in_err-check_counts : goal.returns-in_err-check_counts
 returns-in_err-check_counts c =
     let k = (goal.at.returns-in_err-check_counts c).In_ok-check_indexed_run in
-    let p = err_from_is_err_and c.from_residual-2.result c.from_residual-2.ensures.1 in
+    let p = err_from_is_err_and c.from_residual-in_err-check_counts.result c.from_residual-in_err-check_counts.ensures.1 in
     rw (p.1, p.2)
-    (indexed-counted-refused _ _ _ _ _ (by-counts c.if-counts-n.false (passed k) c.in_err-check_counts.ensures) (answer_ne0 _))
+    (indexed-counted-refused _ _ _ _ _ (by-counts _ _ c.if-counts-n.false (passed k) c.in_err-check_counts.ensures) (answer_ne0 _))
 
 pub slice_bounds-run_on-end-2 : goal.slice_bounds-run_on-end-2
 slice_bounds-run_on-end-2 c =
@@ -110,4 +110,4 @@ returns c =
     ended-with w a.words own own_is c.run_on.new.store
     (c.run_on.auto.store ∙ own-length w v a.words own own_is c.clear_from.ensures) _ _ _ _ _
     c.clear_from.ensures (c.run_on.ensures ∙ ap (λ w. counted_end (over w) (ran_if true (over w)) a.counts.now) here)
-    ∙ indexed-counted-run _ _ _ _ (not-refused c.if-counts-n.false (passed k) c.in_ok-check_counts.ensures)
+    ∙ indexed-counted-run _ _ _ _ (not-refused _ _ c.if-counts-n.false (passed k) c.in_ok-check_counts.ensures)
