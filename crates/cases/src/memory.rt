@@ -43,14 +43,6 @@ pub struct Given {
     pub patches: u32,
 }
 
-// The three slices that a case lends.
-#[derive(Drop)]
-pub struct Memory<'a> {
-    pub table: &'a mut [u32],
-    pub store: &'a mut [u32],
-    pub bindings: &'a mut [u32],
-}
-
 // What FILL asks for.
 const PAST: u32 = 1;
 
@@ -216,32 +208,37 @@ fn make_table(given: &Given, table: &mut [u32]) {
     }
 }
 
-impl Memory<'_> {
-    // Sets each word that the text names.
-    fn patch(&mut self, numbers: &mut Numbers, count: u32) {
-        for _ in 0..count {
-            let slice = numbers.number();
-            let k = numbers.number();
-            let value = numbers.number();
-            match slice {
-                0 => set(self.table, k, value),
-                1 => set(self.store, k, value),
-                _ => set(self.bindings, k, value),
-            }
+// Sets each word that the text names.
+// As it is: table, store and bindings stay three parameters here and in every call of a case; a struct of the three was tried, and the
+// borrow checker's part of the proof does not cover a field that is lent while another of the same struct is.
+fn patch(
+    numbers: &mut Numbers,
+    count: u32,
+    table: &mut [u32],
+    store: &mut [u32],
+    bindings: &mut [u32],
+) {
+    for _ in 0..count {
+        let slice = numbers.number();
+        let k = numbers.number();
+        let value = numbers.number();
+        match slice {
+            0 => set(table, k, value),
+            1 => set(store, k, value),
+            _ => set(bindings, k, value),
         }
     }
+}
 
-    // Makes the words of a case.
-    pub fn make(&mut self, given: &Given, numbers: &mut Numbers) {
-        make_store(given, self.store);
-        make_table(given, self.table);
-        self.patch(numbers, given.patches);
-    }
-
-    // Clears them.
-    pub fn clear(&mut self) {
-        self.table.fill(0);
-        self.store.fill(0);
-        self.bindings.fill(0);
-    }
+// Makes the words of a case.
+pub fn make(
+    given: &Given,
+    numbers: &mut Numbers,
+    table: &mut [u32],
+    store: &mut [u32],
+    bindings: &mut [u32],
+) {
+    make_store(given, store);
+    make_table(given, table);
+    patch(numbers, given.patches, table, store, bindings);
 }

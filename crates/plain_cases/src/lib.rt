@@ -1,7 +1,7 @@
 // The cases of every call but a run in steps and a run with counts.
 #![tactic(auto)]
 
-use cases::memory::{Given, Memory};
+use cases::memory::Given;
 use cases::numbers::Numbers;
 use rule::{call_translate, call_write};
 use single::{call_collect, call_question, call_run};
@@ -21,20 +21,22 @@ pub fn answer_plain(
     tag: u8,
     numbers: &mut Numbers,
     given: &Given,
-    memory: &mut Memory,
+    table: &mut [u32],
+    store: &mut [u32],
+    bindings: &mut [u32],
 ) -> io::Result<bool> {
     if let b'm' | b'n' | b'k' = tag {
-        return call_many(out, tag, numbers, given, memory);
+        return call_many(out, tag, numbers, given, table, store, bindings);
     }
     if tag == b'a' {
-        return call_translate(out, numbers.rest, given, memory.table);
+        return call_translate(out, numbers.rest, given, table);
     }
     out.write_all(numbers.rest)?;
     match tag {
-        b'w' => call_write(out, given, memory),
-        b'c' => call_collect(out, given, memory),
-        b't' | b's' | b'f' => call_question(out, tag, given, memory),
-        b'r' | b'g' | b'i' => call_run(out, tag, given, memory),
+        b'w' => call_write(out, given, table, store),
+        b'c' => call_collect(out, given, table, store, bindings),
+        b't' | b's' | b'f' => call_question(out, tag, given, table, store),
+        b'r' | b'g' | b'i' => call_run(out, tag, given, table, store, bindings),
         _ => Ok(false),
     }
 }

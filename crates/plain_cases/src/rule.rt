@@ -1,5 +1,5 @@
 // The translator of rules and the writer of one.
-use cases::memory::{Given, Memory, put_bytes, put_words};
+use cases::memory::{Given, put_bytes, put_words};
 use cases::show::{show_numbers, show_slice};
 use check_rules::check::four_numbers;
 use std::io;
@@ -30,27 +30,29 @@ pub(crate) fn call_translate(
 fn write_bytes(
     out: &mut impl Write,
     given: &Given,
-    memory: &mut Memory,
+    table: &[u32],
+    store: &mut [u32],
     buffer: &mut [u8],
 ) -> io::Result<()> {
-    put_bytes(buffer, memory.store);
-    let r = write_rule(memory.table, given.subject, given.start, buffer);
-    put_words(memory.store, buffer);
+    put_bytes(buffer, store);
+    let r = write_rule(table, given.subject, given.start, buffer);
+    put_words(store, buffer);
     show_numbers(out, &three_numbers(r))?;
-    show_slice(out, memory.store)
+    show_slice(out, store)
 }
 
 // The same with a buffer of its own: whether it is as long as the store.
 pub(crate) fn call_write(
     out: &mut impl Write,
     given: &Given,
-    memory: &mut Memory,
+    table: &[u32],
+    store: &mut [u32],
 ) -> io::Result<bool> {
     let mut buffer = [0u8; 65536];
-    let k = memory.store.len();
+    let k = store.len();
     if buffer.len() < k {
         return Ok(false);
     }
-    write_bytes(out, given, memory, &mut buffer[..k])?;
+    write_bytes(out, given, table, store, &mut buffer[..k])?;
     Ok(true)
 }

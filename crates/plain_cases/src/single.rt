@@ -1,6 +1,6 @@
 // The checks, the question of free variables, a run and a collection.
 use calls::five_numbers;
-use cases::memory::{Given, Memory};
+use cases::memory::Given;
 use cases::show::{show_memory, show_numbers, show_set};
 use checks::entries::check_table;
 use checks::nodes::check_store;
@@ -18,9 +18,11 @@ pub(crate) fn call_run(
     out: &mut impl Write,
     tag: u8,
     given: &Given,
-    memory: &mut Memory,
+    table: &mut [u32],
+    store: &mut [u32],
+    bindings: &mut [u32],
 ) -> io::Result<bool> {
-    let Some((table, signature)) = given.table_of(memory.table, tag == b'g') else {
+    let Some((table, signature)) = given.table_of(table, tag == b'g') else {
         return Ok(false);
     };
     let Given {
@@ -31,11 +33,6 @@ pub(crate) fn call_run(
         argument,
         ..
     } = *given;
-    let Memory {
-        store,
-        bindings,
-        ..
-    } = memory;
     let r = if tag == b'i' {
         run_indexed(
             table,
@@ -62,13 +59,10 @@ pub(crate) fn call_run(
 pub(crate) fn call_collect(
     out: &mut impl Write,
     given: &Given,
-    memory: &mut Memory,
+    work: &mut [u32],
+    store: &mut [u32],
+    bindings: &mut [u32],
 ) -> io::Result<bool> {
-    let Memory {
-        table: work,
-        store,
-        bindings,
-    } = memory;
     let r = collect(store, bindings, work, given.mark, given.subject);
     show_numbers(out, &four_numbers(r, given.subject, given.mark))?;
     show_memory(out, store, bindings)?;
@@ -82,15 +76,13 @@ pub(crate) fn call_question(
     out: &mut impl Write,
     tag: u8,
     given: &Given,
-    memory: &Memory,
+    table: &[u32],
+    store: &[u32],
 ) -> io::Result<bool> {
     match tag {
-        b't' => show_numbers(out, &numbers_of(check_table(memory.table)))?,
-        b's' => show_numbers(out, &numbers_of(check_store(memory.store, given.mark)))?,
-        b'f' => show_numbers(
-            out,
-            &three_numbers(free_variables(memory.table, given.start)),
-        )?,
+        b't' => show_numbers(out, &numbers_of(check_table(table)))?,
+        b's' => show_numbers(out, &numbers_of(check_store(store, given.mark)))?,
+        b'f' => show_numbers(out, &three_numbers(free_variables(table, given.start)))?,
         _ => return Ok(false),
     }
     Ok(true)

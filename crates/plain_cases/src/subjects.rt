@@ -1,5 +1,5 @@
 // A call over many subjects.
-use cases::memory::{Given, Memory};
+use cases::memory::Given;
 use cases::numbers::Numbers;
 use cases::show::{show_memory, show_numbers};
 use checks::refusal::numbers_of;
@@ -13,11 +13,13 @@ use std::io::Write;
 fn run_subjects(
     tag: u8,
     given: &Given,
-    memory: &mut Memory,
+    table: &mut [u32],
+    store: &mut [u32],
+    bindings: &mut [u32],
     subjects: &[u32],
     results: &mut [u32],
 ) -> [u32; 2] {
-    let Some((table, signature)) = given.table_of(memory.table, tag == b'n') else {
+    let Some((table, signature)) = given.table_of(table, tag == b'n') else {
         return [4294967295, 0];
     };
     let Given {
@@ -27,11 +29,6 @@ fn run_subjects(
         argument,
         ..
     } = *given;
-    let Memory {
-        store,
-        bindings,
-        ..
-    } = memory;
     let r = if tag == b'k' {
         run_many_indexed(
             table,
@@ -60,15 +57,20 @@ fn call_lists(
     tag: u8,
     numbers: &mut Numbers,
     given: &Given,
-    memory: &mut Memory,
+    table: &mut [u32],
+    store: &mut [u32],
+    bindings: &mut [u32],
     subjects: &mut [u32],
     results: &mut [u32],
 ) -> io::Result<()> {
     numbers.read(subjects);
     out.write_all(numbers.rest)?;
-    show_numbers(out, &run_subjects(tag, given, memory, subjects, results))?;
+    show_numbers(
+        out,
+        &run_subjects(tag, given, table, store, bindings, subjects, results),
+    )?;
     show_numbers(out, results)?;
-    show_memory(out, memory.store, memory.bindings)
+    show_memory(out, store, bindings)
 }
 
 // The same with lists of its own, of which the case asks for a part: room for 1,024 subjects, and for the results of one more. Whether it
@@ -78,7 +80,9 @@ pub(crate) fn call_many(
     tag: u8,
     numbers: &mut Numbers,
     given: &Given,
-    memory: &mut Memory,
+    table: &mut [u32],
+    store: &mut [u32],
+    bindings: &mut [u32],
 ) -> io::Result<bool> {
     let mut subjects = [0u32; 1024];
     let mut results = [4294967295u32; 5128];
@@ -92,7 +96,9 @@ pub(crate) fn call_many(
         tag,
         numbers,
         given,
-        memory,
+        table,
+        store,
+        bindings,
         &mut subjects[..k],
         &mut results[..r],
     )?;

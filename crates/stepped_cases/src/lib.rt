@@ -2,22 +2,13 @@
 #![tactic(auto)]
 
 use calls::{End, Ran, five_numbers};
-use cases::memory::{Given, Memory};
+use cases::memory::Given;
 use cases::numbers::Numbers;
 use cases::show::{show_lists, show_numbers};
 use checks::refusal::Refusal;
 use std::io;
 use std::io::Write;
 use stepping::{start_run, step_run};
-
-// What the calls of a run are lent, each the same.
-#[derive(Drop)]
-struct Aside<'a> {
-    table: &'a [u32],
-    store: &'a mut [u32],
-    bindings: &'a mut [u32],
-    work: &'a mut [u32],
-}
 
 // Whether a call left a run that goes on.
 fn goes_on(r: Result<Ran, Refusal>) -> bool {
@@ -27,63 +18,57 @@ fn goes_on(r: Result<Ran, Refusal>) -> bool {
     }
 }
 
-impl Aside<'_> {
-    // Makes the start call and prints its numbers: whether the run goes on.
-    fn start(
-        &mut self,
-        out: &mut impl Write,
-        given: &Given,
-        signature: Option<&[u32]>,
-    ) -> io::Result<bool> {
-        let r = start_run(
-            self.table,
-            self.store,
-            self.bindings,
-            self.work,
-            given.mark,
-            given.start,
-            given.subject,
-            given.units,
-            signature,
-        );
-        show_numbers(out, &five_numbers(r, given.subject, given.mark))?;
-        Ok(goes_on(r))
-    }
+// Makes a step and prints ` /` and its numbers: whether the run goes on.
+fn step(
+    out: &mut impl Write,
+    table: &[u32],
+    store: &mut [u32],
+    bindings: &mut [u32],
+    work: &mut [u32],
+    visits: u32,
+) -> io::Result<bool> {
+    let r = step_run(table, store, bindings, work, visits);
+    out.write_all(b" /")?;
+    show_numbers(out, &five_numbers(r, 0, 0))?;
+    Ok(goes_on(r))
+}
 
-    // Makes a step and prints ` /` and its numbers: whether the run goes on.
-    fn step(&mut self, out: &mut impl Write, visits: u32) -> io::Result<bool> {
-        let r = step_run(self.table, self.store, self.bindings, self.work, visits);
-        out.write_all(b" /")?;
-        show_numbers(out, &five_numbers(r, 0, 0))?;
-        Ok(goes_on(r))
-    }
-
-    // Whether the work list is empty or begins with 0, as one of no run does.
-    fn is_clear(&self) -> bool {
-        matches!(self.work.first(), None | Some(0))
-    }
-
-    // The start and the steps of a list until the run has ended, a step of one visit more where the work list is of no run then, and the
-    // memory that they leave.
-    fn run(
-        &mut self,
-        out: &mut impl Write,
-        given: &Given,
-        signature: Option<&[u32]>,
-        steps: &[u32],
-    ) -> io::Result<()> {
-        let mut on = self.start(out, given, signature)?;
-        for visits in steps {
-            if !on {
-                break;
-            }
-            on = self.step(out, *visits)?;
+// The start and the steps of a list until the run has ended, a step of one visit more where the work list is of no run then, and the
+// memory that they leave.
+fn run_steps(
+    out: &mut impl Write,
+    given: &Given,
+    table: &[u32],
+    store: &mut [u32],
+    bindings: &mut [u32],
+    work: &mut [u32],
+    signature: Option<&[u32]>,
+    steps: &[u32],
+) -> io::Result<()> {
+    let r = start_run(
+        table,
+        store,
+        bindings,
+        work,
+        given.mark,
+        given.start,
+        given.subject,
+        given.units,
+        signature,
+    );
+    show_numbers(out, &five_numbers(r, given.subject, given.mark))?;
+    let mut on = goes_on(r);
+    for visits in steps {
+        if !on {
+            break;
         }
-        if self.is_clear() {
-            self.step(out, 1)?;
-        }
-        show_lists(out, self.store, self.bindings, self.work)
+        on = step(out, table, store, bindings, work, *visits)?;
     }
+    // The work list is empty or begins with 0, as one of no run does.
+    if matches!(work.first(), None | Some(0)) {
+        step(out, table, store, bindings, work, 1)?;
+    }
+    show_lists(out, store, bindings, work)
 }
 
 // A run in the parts of two lists that the case asks for: whether it asks for no more than there is. Behind the steps of the case stand
@@ -92,7 +77,9 @@ fn call_parts(
     out: &mut impl Write,
     numbers: &mut Numbers,
     given: &Given,
-    memory: &mut Memory,
+    table: &[u32],
+    store: &mut [u32],
+    bindings: &mut [u32],
     work: &mut [u32],
     steps: &mut [u32; 128],
     signed: bool,
@@ -107,16 +94,19 @@ fn call_parts(
     out.write_all(numbers.rest)?;
     let work = &mut work[..k];
     work.fill(first);
-    let Some((table, signature)) = given.table_of(memory.table, signed) else {
+    let Some((table, signature)) = given.table_of(table, signed) else {
         return Ok(false);
     };
-    let mut aside = Aside {
+    run_steps(
+        out,
+        given,
         table,
-        store: memory.store,
-        bindings: memory.bindings,
+        store,
+        bindings,
         work,
-    };
-    aside.run(out, given, signature, &steps[..c + 2])?;
+        signature,
+        &steps[..c + 2],
+    )?;
     Ok(true)
 }
 
@@ -125,10 +115,14 @@ pub fn call_steps(
     out: &mut impl Write,
     numbers: &mut Numbers,
     given: &Given,
-    memory: &mut Memory,
+    table: &[u32],
+    store: &mut [u32],
+    bindings: &mut [u32],
     signed: bool,
 ) -> io::Result<bool> {
     let mut work = [0u32; 327780];
     let mut steps = [4294967295u32; 128];
-    call_parts(out, numbers, given, memory, &mut work, &mut steps, signed)
+    call_parts(
+        out, numbers, given, table, store, bindings, &mut work, &mut steps, signed,
+    )
 }

@@ -1,7 +1,7 @@
 // A run with counts.
 use calls::five_numbers;
 use cases::counts::make_counts;
-use cases::memory::{Given, Memory};
+use cases::memory::Given;
 use cases::numbers::Numbers;
 use cases::show::{show_lists, show_numbers};
 use checks::refusal::Refusal;
@@ -31,11 +31,13 @@ fn run_tag(
     tag: u8,
     given: &Given,
     own: usize,
-    memory: &mut Memory,
+    table: &mut [u32],
+    store: &mut [u32],
+    bindings: &mut [u32],
     counts: &mut [u64],
 ) -> io::Result<bool> {
     let signed = matches!(tag, b'x' | b'z');
-    let Some((table, signature)) = given.table_of(memory.table, signed) else {
+    let Some((table, signature)) = given.table_of(table, signed) else {
         return Ok(false);
     };
     let Given {
@@ -45,11 +47,6 @@ fn run_tag(
         units,
         ..
     } = *given;
-    let Memory {
-        store,
-        bindings,
-        ..
-    } = memory;
     let r = if let b'y' | b'z' = tag {
         run_indexed_counted(
             table, store, own, bindings, mark, start, subject, units, counts, signature,
@@ -71,7 +68,9 @@ pub(crate) fn call_counted(
     tag: u8,
     numbers: &mut Numbers,
     given: &Given,
-    memory: &mut Memory,
+    table: &mut [u32],
+    store: &mut [u32],
+    bindings: &mut [u32],
 ) -> io::Result<bool> {
     let mut counts = [0u64; 16400];
     let own = numbers.number() as usize;
@@ -82,5 +81,5 @@ pub(crate) fn call_counted(
     let counts = &mut counts[..k];
     make_counts(numbers, counts);
     out.write_all(numbers.rest)?;
-    run_tag(out, tag, given, own, memory, counts)
+    run_tag(out, tag, given, own, table, store, bindings, counts)
 }

@@ -11,7 +11,6 @@
 #![tactic(auto)]
 
 use cases::input::{next_byte, read_line};
-use cases::memory::Memory;
 use cases::numbers::Numbers;
 use requests::answer_case;
 use std::io;
@@ -26,7 +25,9 @@ fn read_case(
     out: &mut impl Write,
     line: &[u8; 16],
     text: &mut [u8],
-    memory: &mut Memory,
+    table: &mut [u32],
+    store: &mut [u32],
+    bindings: &mut [u32],
 ) -> io::Result<bool> {
     let n = Numbers { rest: &line[2..] }.number() as usize;
     if text.len() < n {
@@ -36,7 +37,7 @@ fn read_case(
     if reader.read_exact(text).is_err() || next_byte(reader) != Some(b'\n') {
         return Ok(false);
     }
-    answer_case(out, line[0], text, memory)
+    answer_case(out, line[0], text, table, store, bindings)
 }
 
 // Executes the next case, and says whether to go on.
@@ -44,13 +45,15 @@ fn next_case(
     reader: &mut impl Read,
     out: &mut impl Write,
     text: &mut [u8],
-    memory: &mut Memory,
+    table: &mut [u32],
+    store: &mut [u32],
+    bindings: &mut [u32],
 ) -> io::Result<bool> {
     let mut line = [0u8; 16];
     if read_line(reader, &mut line) == 0 {
         return Ok(false);
     }
-    let known = read_case(reader, out, &line, text, memory)?;
+    let known = read_case(reader, out, &line, text, table, store, bindings)?;
     if !known {
         out.write_all(b"# broken\n")?;
     }
@@ -62,10 +65,12 @@ fn answer_all(
     reader: &mut impl Read,
     out: &mut impl Write,
     text: &mut [u8],
-    memory: &mut Memory,
+    table: &mut [u32],
+    store: &mut [u32],
+    bindings: &mut [u32],
 ) -> io::Result<()> {
     for _ in 0..u64::MAX {
-        if !next_case(reader, out, text, memory)? {
+        if !next_case(reader, out, text, table, store, bindings)? {
             break;
         }
     }
@@ -79,15 +84,12 @@ fn main(rt: HostRuntime) -> io::Result<()> {
     // Four megabytes, on the heap: beside them the deep runs pass the stack of a program that Rattle's own compiler made.
     let mut store = vec![in rt.alloc(); 0u32; 1048584]?;
     let mut bindings = [0u32; 80];
-    let mut memory = Memory {
-        table: &mut table,
-        store: &mut store,
-        bindings: &mut bindings,
-    };
     answer_all(
         &mut rt.reader(),
         &mut io::writer(&rt),
         &mut text,
-        &mut memory,
+        &mut table,
+        &mut store,
+        &mut bindings,
     )
 }

@@ -1,6 +1,6 @@
 // The call of each tag.
 use crate::counted::call_counted;
-use cases::memory::{Given, Memory};
+use cases::memory::{Given, make};
 use cases::numbers::Numbers;
 use plain_cases::{answer_plain, answer_text};
 use std::io;
@@ -14,12 +14,14 @@ fn answer_made(
     tag: u8,
     numbers: &mut Numbers,
     given: &Given,
-    memory: &mut Memory,
+    table: &mut [u32],
+    store: &mut [u32],
+    bindings: &mut [u32],
 ) -> io::Result<bool> {
     match tag {
-        b'p' | b'q' => call_steps(out, numbers, given, memory, tag == b'q'),
-        b'v' | b'x' | b'y' | b'z' => call_counted(out, tag, numbers, given, memory),
-        _ => answer_plain(out, tag, numbers, given, memory),
+        b'p' | b'q' => call_steps(out, numbers, given, table, store, bindings, tag == b'q'),
+        b'v' | b'x' | b'y' | b'z' => call_counted(out, tag, numbers, given, table, store, bindings),
+        _ => answer_plain(out, tag, numbers, given, table, store, bindings),
     }
 }
 
@@ -29,12 +31,16 @@ fn answer_words(
     tag: u8,
     numbers: &mut Numbers,
     given: &Given,
-    memory: &mut Memory,
+    table: &mut [u32],
+    store: &mut [u32],
+    bindings: &mut [u32],
 ) -> io::Result<bool> {
-    memory.make(given, numbers);
-    let known = answer_made(out, tag, numbers, given, memory)?;
+    make(given, numbers, table, store, bindings);
+    let known = answer_made(out, tag, numbers, given, table, store, bindings)?;
     out.write_all(b"\n")?;
-    memory.clear();
+    table.fill(0);
+    store.fill(0);
+    bindings.fill(0);
     Ok(known)
 }
 
@@ -43,22 +49,24 @@ fn answer_lent(
     out: &mut impl Write,
     tag: u8,
     text: &[u8],
-    memory: &mut Memory,
+    table: &mut [u32],
+    store: &mut [u32],
+    bindings: &mut [u32],
 ) -> io::Result<bool> {
     let mut numbers = Numbers { rest: text };
     let given = Given::read(&mut numbers);
-    if memory.table.len() < given.table
-        || memory.store.len() < given.store
-        || memory.bindings.len() < given.bindings
-    {
+    if table.len() < given.table || store.len() < given.store || bindings.len() < given.bindings {
         return Ok(false);
     }
-    let mut part = Memory {
-        table: &mut memory.table[..given.table],
-        store: &mut memory.store[..given.store],
-        bindings: &mut memory.bindings[..given.bindings],
-    };
-    answer_words(out, tag, &mut numbers, &given, &mut part)
+    answer_words(
+        out,
+        tag,
+        &mut numbers,
+        &given,
+        &mut table[..given.table],
+        &mut store[..given.store],
+        &mut bindings[..given.bindings],
+    )
 }
 
 // Executes a case: whether it is one.
@@ -66,11 +74,13 @@ pub(crate) fn answer_case(
     out: &mut impl Write,
     tag: u8,
     text: &[u8],
-    memory: &mut Memory,
+    table: &mut [u32],
+    store: &mut [u32],
+    bindings: &mut [u32],
 ) -> io::Result<bool> {
     if tag == b'j' {
         answer_text(out, text)
     } else {
-        answer_lent(out, tag, text, memory)
+        answer_lent(out, tag, text, table, store, bindings)
     }
 }
