@@ -25,7 +25,7 @@ pub fn put_line(table: &mut [u32], ends: &mut [u32], line: &[u8], first: u32) ->
 }
 
 // The entries of all lines, after those in use.
-pub(crate) fn put_lines(table: &mut [u32], ends: &mut [u32], used: u32, text: &[u8])
+fn put_lines(table: &mut [u32], ends: &mut [u32], used: u32, text: &[u8])
     requires { Accepted table.old used text.now × (length table.old ≤ 32768) × (4096 ≤ length ends.old) }
     ensures { table.new ≡ with_rules (meant text.now) table.old used }
 {
@@ -37,4 +37,14 @@ pub(crate) fn put_lines(table: &mut [u32], ends: &mut [u32], used: u32, text: &[
         e = put_line(table, ends, &text[at..end], e);
         at = b.next;
     }
+}
+
+// The same, with the ends in a frame of its own: they do not stand in the frame of what checks the text.
+#[inline(never)]
+pub(crate) fn put_text(table: &mut [u32], used: u32, text: &[u8])
+    requires { Accepted table.old used text.now × (length table.old ≤ 32768) }
+    ensures { table.new ≡ with_rules (meant text.now) table.old used }
+{
+    let mut ends = [0u32; 4096];
+    put_lines(table, &mut ends, used, text);
 }

@@ -3,7 +3,7 @@ ghost use Rattle.std.specs.Prelude.{◌≡◌};
 ghost use Rattle.check_rules.specs.Check.{told_of};
 ghost use Rattle.translate.specs.Added.{Translating};
 
-use crate::lines::put_lines;
+use crate::lines::put_text;
 use check_rules::answer::check_rules;
 use check_rules::check::RulesRefusal;
 
@@ -12,7 +12,6 @@ pub fn translate(table: &mut [u32], used: u32, text: &[u8]) -> Result<u32, Rules
     ensures { Translating table.old used text.now (told_of result used) table.new }
 {
     let all = check_rules(table, used, text)?;
-    let mut ends = [0u32; 4096];
-    put_lines(table, &mut ends, used, text);
+    put_text(table, used, text);
     Ok(all)
 }

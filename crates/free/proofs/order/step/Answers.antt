@@ -3,6 +3,7 @@ use native.Mathlib.Omega.{arith}
 use Rattle.checks.specs.Kinds.{ours}
 use Rattle.free.proofs.Entries.{entry_of}
 use Rattle.free.proofs.Masks.{spread-turn}
+use borrow.Author.Rules.{rules}
 use Rattle.free.proofs.order.step.Goals as goal
 
 pub grow-requires : goal.grow-requires

@@ -15,10 +15,10 @@ returns-in_err-all c =
     rw (p.1, p.2)
     record { numbers = c.in_err-all.ensures; refused = λ n. refl; added = λ z. absurd (told_ne0 _ _ z) }
 
-pub put_lines-requires : goal.put_lines-requires
-put_lines-requires c =
+pub put_text-requires : goal.put_text-requires
+put_text-requires c =
     let a = (accepts c.args.table.now c.args.used c.args.text.now _ c.in_ok-all.ensures).0 refl in
-    (a.1, (used-sizes c.args.table.now c.args.used a.0).0, search rules)
+    (a.1, (used-sizes c.args.table.now c.args.used a.0).0)
 
 pub returns : goal.returns
-returns c = record { numbers = c.in_ok-all.ensures; refused = λ n. absurd (n refl); added = λ z. c.put_lines.ensures }
+returns c = record { numbers = c.in_ok-all.ensures; refused = λ n. absurd (n refl); added = λ z. c.put_text.ensures }
