@@ -124,6 +124,9 @@ def long_lists(lines):
 def main():
     words = [w for w in sys.argv[1:] if w != "-l"]
     listed = "-l" in sys.argv
+    if len(words) > 1 or any(w.startswith("-") for w in words):
+        print("usage: tools/places.py [COMMIT] [-l]\n" + __doc__.strip(), file=sys.stderr)
+        sys.exit(2)
     commit = words[0] if words else None
     every = list(files(commit))
     for point, what, pattern in POINTS:
