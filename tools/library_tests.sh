@@ -128,6 +128,12 @@ if [ "${1-}" = stack ]; then
     exit 0
 fi
 
+# The archive needs memcpy and memset of the C library and nothing else, as include/marshtrundle.h says.
+if [ "$machine" = x86_64 ] && command -v nm >/dev/null; then
+    needs=$(nm -u "$MARSHTRUNDLE_LIB/libmarshtrundle.a" | awk '$1 == "U" { print $2 }' | sort -u | tr '\n' ' ')
+    [ "$needs" = "memcpy memset " ] || { echo "library_tests: the archive needs $needs" >&2; exit 1; }
+fi
+
 # shellcheck disable=SC2086  # the flags are words
 "$cc" -std=c99 -pedantic -O2 -Wall -Wextra -Werror -I"$root/include" $c_flags "$root/c/marshtrundle_test.c" \
     "$MARSHTRUNDLE_LIB/libmarshtrundle.a" -o "$work/marshtrundle_test" || exit 1

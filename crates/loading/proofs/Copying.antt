@@ -4,12 +4,11 @@ use mathlib.Core.Path.{◌≡◌, refl, ap, sym, ◌∙◌, subst, fun_ext}
 use mathlib.Core.Bool.{true≢false}
 use mathlib.Core.Option.{none, some}
 use mathlib.Core.Logic.{◌⊎◌, inl, inr, ⊎_elim}
-use mathlib.Core.List.{List, ◌++◌}
+use mathlib.Core.List.{List}
 use Prim.Native.Nat.{ℕ, zero, suc, ◌+◌, ◌-◌, ◌*◌, ◌≤◌, ◌<◌}
 use native.Mathlib.Omega.{arith}
-use lib.ListN.{length, get_or, set, drop, replicate, length-set, length-append, length-replicate, get_or-replicate, get_or-eq_default, get_or-append}
-use Rattle.std.proofs.lemmas.List.{drop-replicate}
-use lib.Seq.{get_or-set_same, get_or-set_other, get_or-append_right, ext_get_or}
+use lib.ListN.{length, get_or, set, replicate, length-set, length-replicate, get_or-replicate, get_or-eq_default}
+use lib.Seq.{get_or-set_same, get_or-set_other, ext_get_or}
 use borrow.Author.Tests.{eq-eqb, ne_eqb}
 use Rattle.checks.specs.Kinds.{variables}
 use Rattle.checks.specs.Good.{number}
@@ -34,20 +33,37 @@ zeros n j =
 
 -- ---- the table
 
--- The table's words, and what is left of the zeros after them.
-pub copied-table : (t c : List ℕ) → c ≡ replicate 32768 0 → length t ≤ 32768 → Loaded t (t ++ drop (length t) c)
-copied-table t c e l = record {
-  long = rw e (length-append t (drop (length t) (replicate 32768 0)) ∙ rw (drop-replicate, length-replicate) (omega arith));
+-- the first i words of t are in the n words c, and zeros after them
+pub record Copied (t : List ℕ) (n : ℕ) (c : List ℕ) (i : ℕ) : Type 0 where
+  pub long : length c ≡ n
+  pub before : (j : ℕ) → j < i → get_or c j 0 ≡ get_or t j 0
+  pub after : (j : ℕ) → i ≤ j → get_or c j 0 ≡ 0
+
+-- At first all are zeros.
+pub copied_none : (t : List ℕ) (n : ℕ) → Copied t n (replicate n 0) 0
+copied_none t n = record { long = length-replicate n 0; before = λ j l. absurd (omega arith); after = λ j l. zeros n j }
+
+-- One more word.
+pub copied_more : (t : List ℕ) (n : ℕ) (c : List ℕ) (i : ℕ) → Copied t n c i → i < n → Copied t n (set c i (get_or t i 0)) (i + 1)
+copied_more t n c i p l = record {
+  long = length-set c i (get_or t i 0) ∙ p.long;
+  before =
+      with-next (λ j. get_or (set c i (get_or t i 0)) j 0 ≡ get_or t j 0) i
+      (λ j m. get_or-set_other c i j (get_or t i 0) 0 (λ e. omega arith) ∙ p.before j m)
+      (get_or-set_same c i (get_or t i 0) 0 (omega (arith, p.long)));
+  after = λ j m. get_or-set_other c i j (get_or t i 0) 0 (λ e. omega arith) ∙ p.after j (omega arith);
+}
+
+-- Past the table's last word its words are zero too.
+pub copied_all : (t c : List ℕ) (i : ℕ) → Copied t 32768 c i → length t ≤ i → Loaded t c
+copied_all t c i p l = record {
+  long = p.long;
   same = λ e j m n. all (8 * e + j);
   hints = λ e. given (all (8 * e + 4)) (all (8 * e + 5));
 }
   where
-    all : (j : ℕ) → get_or (t ++ drop (length t) c) j 0 ≡ get_or t j 0
-    all j =
-        ⊎_elim (λ z. get_or-append t (drop (length t) c) 0 j z)
-        (λ z. get_or-append_right t (drop (length t) c) j 0 z
-        ∙ rw (e, drop-replicate) (zeros (32768 - length t) (j - length t)) ∙ sym (get_or-eq_default t 0 z))
-        (below-or-from j (length t))
+    all : (j : ℕ) → get_or c j 0 ≡ get_or t j 0
+    all j = ⊎_elim (p.before j) (λ z. p.after j z ∙ sym (get_or-eq_default t 0 (omega arith))) (below-or-from j i)
 
 -- What is known of entry e, written into its words 4 and 5.
 module _ (t c : List ℕ) (e x n : ℕ) (l : Loaded t c) (m : 8 * e < 32768) where

@@ -19,7 +19,10 @@ pub fn load(code: &mut [u32; 32768], table: &[u32])
     requires { (length table.now ≤ 32768) × (code.old ≡ replicate 32768 0) }
     ensures { Loaded table.now code.new }
 {
-    code[..table.len()].copy_from_slice(table);
+    // As it is: word by word. By `copy_from_slice` the archive would ask its linker for memmove, and it needs memcpy and memset alone.
+    for (i, word) in table.iter().enumerate() {
+        code[i] = *word;
+    }
     for e in 0..(table.len() / 8) as u32 {
         if let Some(hint) = hint_for(table, e) {
             let k = 8 * (e as usize);

@@ -1,10 +1,16 @@
-use Rattle.loading.proofs.Copying.{copied-table, loaded-hints}
+use Rattle.loading.proofs.Copying.{copied_none, copied_more, copied_all, loaded-hints}
 use native.Mathlib.Omega.{arith}
 use Rattle.loading.proofs.load.Goals as goal
 use Rattle.loading.proofs.load.Goals.{in-Some, in_default}
 
+pub loop-i-init : goal.loop-i-init
+loop-i-init c = rw c.requires.1 (copied_none c.args.table.now 32768)
+
+pub loop-i-preserved : goal.loop-i-preserved
+loop-i-preserved c = copied_more _ 32768 _ _ c.loop-i.invariant (omega (arith, c.requires))
+
 pub loop-e-init : goal.loop-e-init
-loop-e-init c = rw c.copy_from_slice.ensures.after (copied-table c.args.table.now c.args.code.now c.requires.1 c.requires.0)
+loop-e-init c = copied_all _ _ _ c.loop-i.invariant (omega arith)
 
 pub loop-e-preserved : goal.loop-e-preserved
 loop-e-preserved c =
