@@ -1,7 +1,7 @@
 -- The node that a row asks for, by whether nodes are shared: it stands, or it is made as where none is shared. Assumes nothing.
 use mathlib.Core.Path.{◌≡◌, refl, ap, sym, ◌∙◌}
 use mathlib.Core.Bool.{Bool, true, false}
-use mathlib.Core.Option.{none, some}
+use mathlib.Core.Option.{Option, none, some}
 use mathlib.Core.List.{List}
 use Prim.Native.Nat.{ℕ}
 use lib.ListN.{get_or}
@@ -14,6 +14,16 @@ use Rattle.machine.specs.declared.Machine.{Machine}
 use Rattle.machine.specs.Machine.{standing_for, Node}
 
 module _ (sh : Bool) (w : List ℕ) (i : ℕ) (m : Machine) (r : List ℕ) where
+  -- nodes are not shared: none stands
+  pub none-shared : sh ≡ false → standing_for sh w m r ≡ none
+  unfolding standing
+  none-shared e = ap (λ sh. standing_for sh w m r) e
+
+  -- they are: it is the one below the mark with the words
+  pub found-shared : {o : Option ℕ} → sh ≡ true → o ≡ node_with w (row (get_or r 0 0) (kids r)) m.mark → standing_for sh w m r ≡ o
+  unfolding standing
+  found-shared e z = ap (λ sh. standing_for sh w m r) e ∙ sym z
+
   pub node-found : (y : ℕ) {m' : Machine} → standing_for sh w m r ≡ some y
       → m' ≡ record { x = 0; mode = 4; y = y; level = i; mark = m.mark; place = m.place; fuel = m.fuel; mask = m.mask }
       → Node sh w i m r m' w

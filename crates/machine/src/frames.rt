@@ -6,11 +6,12 @@ ghost use Rattle.turns.specs.Ways.{record_from, held_at, opened, next_of, saves 
 ghost use Rattle.machine.specs.Stack.{row_at, frame_at, mask_at, present};
 ghost use Rattle.machine.specs.Machine.{head_of, Lent, Copied, Keeps, GivenBack, Fills, Opened, Restored, Taken};
 
+use crate::nodes::row_at;
 use crate::{Machine, SUCCEEDED};
 use turns::begin::begin;
 use turns::resume::{Head, Seen, failed, skipped, succeeded, walked};
 use turns::turn::{Asked, LEFTMOST, MAKING, PAIRS, RECORD, STEP, TRIED, Turn, few};
-use words::{put_row, row, word};
+use words::{put_row, word};
 
 // What a frame gets back before it goes on.
 #[derive(Clone, Copy)]
@@ -96,9 +97,9 @@ pub(crate) fn open(table: &[u32], store: &[u32], work: &mut [u32], r: u32, m: Ma
         put_row(work, r + 1, [word(table, m.x, 1), count, 0, 0, 0, 0, 0, 0]);
         return;
     }
-    put_row(work, r + 1, row(store, m.y));
+    put_row(work, r + 1, row_at(store, m.y));
     if a.what == PAIRS {
-        put_row(work, r + 2, row(store, m.x));
+        put_row(work, r + 2, row_at(store, m.x));
     }
 }
 

@@ -7,9 +7,8 @@ ghost use Rattle.std.specs.Int.Bits.{bit_and};
 ghost use Rattle.machine.specs.Machine.{Lent, Carried, Halts, Comes, Turned, Gone};
 
 use crate::frames::{copy_words, kept_mask, move_on, open, restore, take_turn};
-use crate::nodes::put_node;
+use crate::nodes::{put_leaf, put_made};
 use turns::turn::{Asked, RECORD, Turn};
-use words::row;
 
 mod frames;
 mod nodes;
@@ -97,8 +96,8 @@ fn act(
                 ..state(m, i, SUCCEEDED, 0, node)
             }
         }
-        Turn::Leaf(c) => put_node(store, m, i, [c, 0, 0, 0, 0, 0, 0, 0], shares),
-        Turn::Made => put_node(store, m, i, row(work, 10 * i + 1), shares),
+        Turn::Leaf(c) => put_leaf(store, m, i, c, shares),
+        Turn::Made => put_made(store, work, m, i, 10 * i + 1, shares),
         Turn::Ask(a) => {
             if i < DEEPEST {
                 open(table, store, work, 10 * i, m, a);

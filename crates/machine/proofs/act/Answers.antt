@@ -47,13 +47,11 @@ returns-in-Bound c =
 
 pub returns-in-Leaf : goal.returns-in-Leaf
 unfolding plan_of
-returns-in-Leaf c = carried-made _ _ _ _ _ _ _ c.requires.1 c.in-Leaf.is refl refl refl c.put_node.ensures
+returns-in-Leaf c = carried-made _ _ _ _ _ _ _ c.requires.1 c.in-Leaf.is refl refl refl c.put_leaf.ensures
 
 pub returns-in-Made : goal.returns-in-Made
 unfolding plan_of
-returns-in-Made c =
-    let is = c.row.ensures in
-    carried-made _ _ _ _ _ _ _ c.requires.1 c.in-Made.is refl (ap (λ r. get_or r 0 0) is) (ap kids is) c.put_node-in-Made.ensures
+returns-in-Made c = carried-made _ _ _ _ _ _ _ c.requires.1 c.in-Made.is refl refl refl c.put_made.ensures
 
 pub shape_of-work-after-i-lt-DEEPEST : goal.shape_of-work-after-i-lt-DEEPEST
 shape_of-work-after-i-lt-DEEPEST c = elim c.if-i-lt-DEEPEST.branch [ then-i-lt-DEEPEST w ↦ ap length w.work-is ∙ w.«open».ensures.long | else-i-lt-DEEPEST w ↦ ap length w.work-is ]

@@ -53,7 +53,7 @@ put_row-requires-then-a-eq-PAIRS c = omega (
 
 pub returns-then-a-eq-PAIRS : goal.returns-then-a-eq-PAIRS
 returns-then-a-eq-PAIRS c = opened-pair c.args.table.now c.args.store.now _ _
-    _ _ _ _ _ _ c.args.a c.requires.0 c.requires.1.frames refl c.put_head.ensures _ _ (search rules) c.put_row-2.ensures (search rules) c.put_row-then-a-eq-PAIRS.ensures c.if-a-eq-PAIRS.true (node_row c.args.table.now c.args.store.now _ c.args.m.x c.args.m.y c.args.a c.if-a-eq-MAKING.false c.row.ensures) c.row-then-a-eq-PAIRS.ensures
+    _ _ _ _ _ _ c.args.a c.requires.0 c.requires.1.frames refl c.put_head.ensures _ _ (search rules) c.put_row-2.ensures (search rules) c.put_row-then-a-eq-PAIRS.ensures c.if-a-eq-PAIRS.true (node_row c.args.table.now c.args.store.now _ c.args.m.x c.args.m.y c.args.a c.if-a-eq-MAKING.false c.row_at.ensures) c.row_at-then-a-eq-PAIRS.ensures
 
 pub returns-else-a-eq-PAIRS : goal.returns-else-a-eq-PAIRS
-returns-else-a-eq-PAIRS c = opened-row c.args.table.now c.args.store.now _ _ _ _ _ _ _ _ c.args.a c.requires.0 c.requires.1.frames refl c.put_head.ensures _ _ (search rules) c.put_row-2.ensures c.if-a-eq-PAIRS.false (node_row c.args.table.now c.args.store.now _ c.args.m.x c.args.m.y c.args.a c.if-a-eq-MAKING.false c.row.ensures)
+returns-else-a-eq-PAIRS c = opened-row c.args.table.now c.args.store.now _ _ _ _ _ _ _ _ c.args.a c.requires.0 c.requires.1.frames refl c.put_head.ensures _ _ (search rules) c.put_row-2.ensures c.if-a-eq-PAIRS.false (node_row c.args.table.now c.args.store.now _ c.args.m.x c.args.m.y c.args.a c.if-a-eq-MAKING.false c.row_at.ensures)

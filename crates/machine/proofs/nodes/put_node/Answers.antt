@@ -1,7 +1,6 @@
 -- `nodes::put_node` meets its contract. Assumes nothing.
-use mathlib.Core.Path.{◌≡◌, refl, ap, sym, ◌∙◌}
-use mathlib.Core.Bool.{Bool, false}
-use mathlib.Core.Option.{Option}
+use mathlib.Core.Path.{◌≡◌, refl, ap, ◌∙◌}
+use mathlib.Core.Bool.{false}
 use mathlib.Core.List.{List}
 use Prim.Native.Nat.{ℕ, ◌+◌, ◌*◌, ◌<◌, ◌≤◌}
 use native.Mathlib.Omega.{arith}
@@ -15,7 +14,6 @@ use Rattle.turns.specs.Ways.{kids}
 use Rattle.machine.specs.declared.Machine.{Machine}
 use Rattle.machine.specs.Machine.{Node}
 use Rattle.machine.proofs.Padding.{row-length}
-use Rattle.machine.proofs.Standing.{node-found, node-none}
 use borrow.Author.Rules.{rules}
 use Rattle.machine.proofs.nodes.put_node.Goals as goal
 
@@ -42,24 +40,11 @@ module _ (w : List ℕ) (i : ℕ) (m : Machine) (r : List ℕ) where
     fits = λ g j. (refl, put);
   }
 
--- the node that stands, by the words that were looked for
-stands : (r : List ℕ) {ps : List ℕ} → ps ≡ row (get_or r 0 0) (kids r) → (sh : Bool) (w : List ℕ) (m : ℕ) {o : Option ℕ}
-    → o ≡ standing sh w ps m → standing sh w (row (get_or r 0 0) (kids r)) m ≡ o
-stands r e sh w m h = ap (λ r. standing sh w r m) (sym e) ∙ sym h
-
-pub returns-in-Some : goal.returns-in-Some
-returns-in-Some c =
-    node-found _ _ _ _ _ _ (stands c.args.row c.padded-words.ensures c.args.shares c.args.store.now c.args.m.mark c.in-Some.ensures)
-    c.state.ensures
-
 pub returns-then-store-k : goal.returns-then-store-k
-returns-then-store-k c =
-    node-none _ _ _ _ _ (stands c.args.row c.padded-words.ensures c.args.shares c.args.store.now c.args.m.mark c.in_default.ensures)
-    (rw c.state-then-store-k.ensures (node-full _ _ _ _ c.if-store-k.true))
+returns-then-store-k c = rw c.state.ensures (node-full _ _ _ _ c.if-store-k.true)
 
 pub returns : goal.returns
 returns c =
-    node-none _ _ _ _ _ (stands c.args.row c.padded-words.ensures c.args.shares c.args.store.now c.args.m.mark c.in_default.ensures)
-    (rw c.state-2.ensures
+    rw c.state-2.ensures
     (node_made _ _ _ _ c.if-store-k.false (search rules)
-    (c.put_row.ensures ∙ ap (put_row c.args.store.now c.args.m.mark) c.padded-words.ensures)))
+    (c.put_row.ensures ∙ ap (put_row c.args.store.now c.args.m.mark) c.padded.ensures))
