@@ -199,6 +199,9 @@ module _ (l : List ℕ) (f : ℕ → Bool) where
         let a : (line_of f (rule_of l)).answer ≡ line_fault_number v = ap (λ (x : Line). x.answer) (sym z) in
         (a, λ h. absurd (not-eighteen (good-rule l s e refl).0 (sym (rw (good-rule l s e refl).1 at k) ∙ sym a ∙ h)))
 
+    pub made-variables : (v : LineFault) → answers_variables (rule_of l) (line_fault_number v) → record { answer = line_fault_number v; field = r.field; size = r.size } ≡ line_of f (rule_of l)
+    made-variables v k = line-variables l (shape_told (Ok r)) e refl f (line_fault_number v) k (fault-some v)
+
     pub told-calls : answers_variables (rule_of l) 0 → (b : Bool) → CallsIn (rule_of l) f b → b ≡ true → line_told (line_of f (rule_of l)) (Ok r.size)
     told-calls k b c t =
         let z = line-calls l (shape_told (Ok r)) e refl f 0 k refl b c t in

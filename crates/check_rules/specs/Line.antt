@@ -7,6 +7,8 @@ use Rattle.rules.specs.Shape.{rule_size}
 use Rattle.check_rules.specs.Bound.{variables_answer}
 use Rattle.std.specs.Prelude.{Result, Ok, Err}
 use Rattle.check_rules.specs.declared.line.LineFault.{LineFault}
+use Rattle.check_rules.specs.declared.line.Measure.{Measure}
+use Rattle.check_rules.specs.declared.line.Unfit.{Unfit}
 use Rattle.check_rules.specs.declared.line.LineFault.TheVariants.{Shape, Unbound, Range, Callee, Room}
 
 -- what a line comes to: its answer; its first bad field from 1, one past the last where none is bad; its rule's entries
@@ -35,6 +37,16 @@ fault_field Unbound = 0
 fault_field Range = 0
 fault_field Callee = 0
 fault_field Room = 0
+
+-- of what is returned for a line, its rule's entries or what is wrong with it
+abbrev pub verdict_of : Result Measure Unfit → Result ℕ LineFault
+verdict_of (Ok m) = Ok m.size
+verdict_of (Err u) = Err u.fault
+
+-- the line that it stands for
+abbrev pub line_made : Result Measure Unfit → Line
+line_made (Ok m) = record { answer = 0; field = m.field; size = m.size }
+line_made (Err u) = record { answer = line_fault_number u.fault; field = u.measure.field; size = u.measure.size }
 
 -- what the code tells of a line: the entries where nothing is wrong, else the fault, with its field where it has one
 abbrev pub line_told : Line → Result ℕ LineFault → Type 0

@@ -75,8 +75,8 @@ pub(crate) fn check_text(
             return Err(RulesRefusal::Line(n, LineFault::Shape(first_bad_field(line))));
         }
         let size = match check_line(line, table, masks, used) {
-            Ok(size) => size,
-            Err(fault) => return Err(RulesRefusal::Line(n, fault)),
+            Ok(measure) => measure.size,
+            Err(unfit) => return Err(RulesRefusal::Line(n, unfit.fault)),
         };
         if room - e < size {
             return Err(RulesRefusal::Line(n, LineFault::Room));

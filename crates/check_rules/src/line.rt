@@ -1,7 +1,7 @@
 // A line of the text: is it a rule's, and one that may be taken? Nothing is written.
 ghost use Rattle.std.specs.Prelude.{◌≡◌};
 ghost use Rattle.rules.specs.Text.{rule_of};
-ghost use Rattle.check_rules.specs.Line.{line_fault_number, fault_field, callable as callableBy, CallsIn, line_told, line_of};
+ghost use Rattle.check_rules.specs.Line.{line_fault_number, fault_field, callable as callableBy, CallsIn, verdict_of, line_told, line_made, line_of};
 
 use crate::variables::check_variables;
 use checks::entries::kind_of;
@@ -49,6 +49,20 @@ impl LineFault {
     }
 }
 
+// What was measured of a line: its first bad field from 1, one past the last where none is bad; its rule's entries, 0 where it is no rule's text.
+#[derive(Clone, Copy, PartialEq, Eq)]
+pub struct Measure {
+    pub field: usize,
+    pub size: usize,
+}
+
+// A line that may not be taken: what is wrong with it, and what was measured of it.
+#[derive(Clone, Copy, PartialEq, Eq)]
+pub struct Unfit {
+    pub fault: LineFault,
+    pub measure: Measure,
+}
+
 // Entry x of those in use is a REC without free variables.
 #[tactic(auto, unfolding(crate::specs::Line::callable))]
 fn callable(table: &[u32], masks: &[u64], used: u32, x: u32) -> bool
@@ -69,17 +83,32 @@ fn calls(rule: &RuleText<'_>, table: &[u32], masks: &[u64], used: u32) -> bool
     true
 }
 
-// How many entries the rule of a line takes, or what is wrong with the line, which is without its line feed.
-pub fn check_line(line: &[u8], table: &[u32], masks: &[u64], used: u32) -> Result<usize, LineFault>
-    ensures { line_told (line_of (callableBy table.now masks.now used) (rule_of line.now)) result }
+// What a line without its line feed measures where it may be taken, or what is wrong with it.
+pub fn check_line(line: &[u8], table: &[u32], masks: &[u64], used: u32) -> Result<Measure, Unfit>
+    ensures told { line_told (line_of (callableBy table.now masks.now used) (rule_of line.now)) (verdict_of result) }
+    ensures made { line_made result ≡ line_of (callableBy table.now masks.now used) (rule_of line.now) }
 {
     let rule = match shape_of(line) {
         Ok(rule) => rule,
-        Err(field) => return Err(LineFault::Shape(field)),
+        Err(field) => {
+            return Err(Unfit {
+                fault: LineFault::Shape(field),
+                measure: Measure { field, size: 0 },
+            });
+        }
     };
-    check_variables(&rule)?;
-    if !calls(&rule, table, masks, used) {
-        return Err(LineFault::Callee);
+    let measure = Measure {
+        field: rule.field,
+        size: rule.size,
+    };
+    if let Err(fault) = check_variables(&rule) {
+        return Err(Unfit { fault, measure });
     }
-    Ok(rule.size)
+    if !calls(&rule, table, masks, used) {
+        return Err(Unfit {
+            fault: LineFault::Callee,
+            measure,
+        });
+    }
+    Ok(measure)
 }

@@ -17,7 +17,7 @@ pub struct Condition {
 }
 
 // The condition whose number begins at `from`, or how many of its fields were good.
-pub(crate) fn condition_at(line: &[u8], from: usize) -> Result<Condition, usize>
+pub fn condition_at(line: &[u8], from: usize) -> Result<Condition, usize>
     requires { from ≤ length line.now }
     ensures { ConditionAt line.now from (found_of result) }
 {

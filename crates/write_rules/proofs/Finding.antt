@@ -29,6 +29,13 @@ use Rattle.translate.proofs.Written.{put-rows}
 use Rattle.translate.proofs.Preorder.{rows_same}
 use Rattle.translate.proofs.Promises.{rule-eights}
 use Rattle.write_rules.specs.Lines.{SameWords, same, differ, IsRule, yes, no}
+use Rattle.std.specs.Prelude.{Result, Ok, Err, Some, None}
+use Rattle.check_rules.specs.declared.line.LineFault.{LineFault}
+use Rattle.check_rules.specs.declared.line.Measure.{Measure}
+use Rattle.check_rules.specs.declared.line.Unfit.{Unfit}
+use Rattle.check_rules.specs.Line.{verdict_of, line_told}
+use Rattle.check_rules.proofs.Checking.{refused-some}
+use Rattle.write_rules.specs.Lines.{taken_of}
 
 pub length-rule : (e : ℕ) (r : Rule) → length (rule_entries e r) ≡ rule_size r
 unfolding rule_entries
@@ -48,6 +55,16 @@ rows-equal a b (y ∷ xs) e (h, hs) (k, ks) x j l m n =
   where
     after : (x e : ℕ) → e ≤ x → (x ≡ e → ⊥) → suc e ≤ x
     after x e l n = ⊎_elim (λ i. i) (λ i. absurd (n (omega arith))) (below-or-from e x)
+
+-- ---- what is taken of a line
+
+pub taken-none : (x : Line) (r : Result Measure Unfit) → line_told x (verdict_of r) → taken_of r ≡ None → x.answer ≡ 0 → ⊥
+taken-none x (Ok m) t e = absurd cc
+taken-none x (Err u) t e = refused-some x u.fault t
+
+pub taken-some : (x : Line) (r : Result Measure Unfit) (n : ℕ) → line_told x (verdict_of r) → taken_of r ≡ Some n → (x.answer ≡ 0) × (x.size ≡ n)
+taken-some x (Ok m) n t e = (t.0, let s : m.size ≡ n = cc in t.1 ∙ s)
+taken-some x (Err u) n t e = absurd cc
 
 -- ---- what the line gives
 

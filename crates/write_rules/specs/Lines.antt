@@ -10,6 +10,14 @@ use Rattle.rules.specs.Entries.{pat_entries, size, conditions_code, code_size, c
 use Rattle.rules.specs.Scan.{width}
 use Rattle.write_rules.specs.declared.term.Passed.{Passed}
 use Rattle.write_rules.specs.Written.{RuleAt}
+use Rattle.std.specs.Prelude.{Result, Ok, Err, Option, Some, None}
+use Rattle.check_rules.specs.declared.line.Measure.{Measure}
+use Rattle.check_rules.specs.declared.line.Unfit.{Unfit}
+
+-- how many entries a line takes, where it may be taken
+abbrev pub taken_of : Result Measure Unfit → Option ℕ
+taken_of (Ok m) = Some m.size
+taken_of (Err u) = None
 
 -- each field with a tab after it
 unfoldable pub ended : Fields → List ℕ

@@ -4,11 +4,11 @@ ghost use Rattle.std.specs.Prelude.{◌≡◌, ◌∷◌, ◌++◌, ◌+◌, ◌
 ghost use Rattle.check_rules.specs.Answer.{used_checked};
 ghost use Rattle.write_rules.specs.Written.{RuleWritten, written_of, three_of};
 ghost use Rattle.write_rules.specs.declared.rule.WriteRefusal.TheVariants.{Table};
-ghost use Rattle.write_rules.specs.Lines.{HasLine, SameWords, IsRule};
+ghost use Rattle.write_rules.specs.Lines.{taken_of, HasLine, SameWords, IsRule};
 
 use crate::line::write_line;
 use check_rules::answer::{check_used, fill_masks};
-use check_rules::line::check_line;
+use check_rules::line::{Measure, Unfit, check_line};
 use checks::refusal::Refusal;
 use translate::lines::put_line;
 
@@ -57,6 +57,16 @@ fn same_words(a: &[u32], b: &[u32], from: usize, to: usize) -> bool
     (from..to).all(|i| at(a, i) == at(b, i))
 }
 
+// How many entries a line takes, where it may be taken.
+fn taken(line: Result<Measure, Unfit>) -> Option<usize>
+    ensures { result ≡ taken_of line }
+{
+    match line {
+        Ok(measure) => Some(measure.size),
+        Err(_) => None,
+    }
+}
+
 // Whether the line is that of the rule whose entries begin at an entry in use.
 fn is_rule(table: &[u32], used: u32, entry: u32, line: &[u8]) -> bool
     requires { ((used_checked table.now used).answer ≡ 0) × (entry < used) }
@@ -64,9 +74,8 @@ fn is_rule(table: &[u32], used: u32, entry: u32, line: &[u8]) -> bool
 {
     let mut masks = [0u64; 4096];
     fill_masks(table, used, &mut masks);
-    let size = match check_line(line, table, &masks, used) {
-        Ok(size) => size,
-        Err(_) => return false,
+    let Some(size) = taken(check_line(line, table, &masks, used)) else {
+        return false;
     };
     if ((used - entry) as usize) < size {
         return false;

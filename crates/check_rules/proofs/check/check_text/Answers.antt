@@ -41,16 +41,16 @@ returns-in-Err c =
     let f : ℕ → Bool = callable c.args.table.now c.args.masks.now c.args.used in
     let l : List ℕ = take (c.line_from-b.result.end - c.loop-at.at) (drop c.loop-at.at c.args.text.now) in
     let x : Line = line_of f (rule_of l) in
-    refused-told c.args.used c.loop-at.n x c.in-Err.fault c.in-Err.ensures
+    refused-told c.args.used c.loop-at.n x c.in-Err.unfit.fault c.in-Err.ensures.told
     ∙ checks-refused c.loop-at.invariant.0 c.loop-at-test.true c.line_from-b.result c.line_from-b.ensures x refl c.if-b.false
-    (refused-some x c.in-Err.fault c.in-Err.ensures)
+    (refused-some x c.in-Err.unfit.fault c.in-Err.ensures.told)
 
 pub returns-then-room-e : goal.returns-then-room-e
 returns-then-room-e c =
     let f : ℕ → Bool = callable c.args.table.now c.args.masks.now c.args.used in
     let l : List ℕ = take (c.line_from-b.result.end - c.loop-at.at) (drop c.loop-at.at c.args.text.now) in
     checks-full c.loop-at.invariant.0 c.loop-at-test.true c.line_from-b.result c.line_from-b.ensures (line_of f (rule_of l)) refl c.if-b.false
-    c.in-Ok.ensures.0 (omega (arith, c.if-room-e.true, c.loop-at.invariant.1, c.in-Ok.ensures.1))
+    c.in-Ok.ensures.told.0 (omega (arith, c.if-room-e.true, c.loop-at.invariant.1, c.in-Ok.ensures.told.1))
 
 pub loop-at-smaller : goal.loop-at-smaller
 loop-at-smaller c =
@@ -60,8 +60,8 @@ loop-at-smaller c =
     omega (
       arith,
       checks-further c.loop-at.invariant.0 c.loop-at-test.true c.line_from-b.result c.line_from-b.ensures x refl c.if-b.false,
-      (checks-on c.loop-at.invariant.0 c.loop-at-test.true c.line_from-b.result c.line_from-b.ensures x refl c.if-b.false c.in-Ok.ensures.0
-          (omega (arith, c.if-room-e.false, c.loop-at.invariant.0.most, c.loop-at.invariant.1, c.in-Ok.ensures.1))).inside,
+      (checks-on c.loop-at.invariant.0 c.loop-at-test.true c.line_from-b.result c.line_from-b.ensures x refl c.if-b.false c.in-Ok.ensures.told.0
+          (omega (arith, c.if-room-e.false, c.loop-at.invariant.0.most, c.loop-at.invariant.1, c.in-Ok.ensures.told.1))).inside,
     )
 
 pub loop-at-preserved : goal.loop-at-preserved
@@ -69,9 +69,9 @@ loop-at-preserved c =
     let f : ℕ → Bool = callable c.args.table.now c.args.masks.now c.args.used in
     let l : List ℕ = take (c.line_from-b.result.end - c.loop-at.at) (drop c.loop-at.at c.args.text.now) in
     let x : Line = line_of f (rule_of l) in (
-      rw (sym c.in-Ok.ensures.1)
-          (checks-on c.loop-at.invariant.0 c.loop-at-test.true c.line_from-b.result c.line_from-b.ensures x refl c.if-b.false c.in-Ok.ensures.0
-          (omega (arith, c.if-room-e.false, c.loop-at.invariant.0.most, c.loop-at.invariant.1, c.in-Ok.ensures.1))),
+      rw (sym c.in-Ok.ensures.told.1)
+          (checks-on c.loop-at.invariant.0 c.loop-at-test.true c.line_from-b.result c.line_from-b.ensures x refl c.if-b.false c.in-Ok.ensures.told.0
+          (omega (arith, c.if-room-e.false, c.loop-at.invariant.0.most, c.loop-at.invariant.1, c.in-Ok.ensures.told.1))),
       c.loop-at.invariant.1,
     )
 
