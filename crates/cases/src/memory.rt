@@ -153,7 +153,7 @@ fn fill_six(store: &mut [u32], n: u32)
 }
 
 // Sets every word from `from` on.
-fn spoil(words: &mut [u32], from: usize, word: u32) {
+pub fn spoil(words: &mut [u32], from: usize, word: u32) {
     if from <= words.len() {
         words[from..].fill(word);
     }

@@ -1,4 +1,5 @@
 // The numbers of a case, read one after the other.
+ghost use Rattle.std.specs.Prelude.{◌≤◌, IfSome};
 
 // What is left of the text of a case.
 #[derive(Clone, Copy)]
@@ -7,7 +8,9 @@ pub struct Numbers<'a> {
 }
 
 // The digit that a byte is, if it is one.
-fn digit(b: u8) -> Option<u32> {
+fn digit(b: u8) -> Option<u32>
+    ensures { IfSome result (λ d. d ≤ 9) }
+{
     match b {
         b'0'..=b'9' => Some((b - b'0') as u32),
         _ => None,

@@ -43,9 +43,9 @@ pub(crate) fn move_bindings(bindings: &mut [u32], work: &[u32])
     requires { (v k : ℕ) → get_or bindings.old v 0 ≡ suc k → (k < length work.now) × (get_or work.now k 0 < 131072) }
     ensures { bindings.new ≡ map (rebound (λ k. get_or work.now k 0)) bindings.old }
 {
-    for bound in bindings.iter_mut() {
-        if *bound != 0 {
-            *bound = work[*bound as usize - 1] + 1;
+    for v in 0..bindings.len() {
+        if bindings[v] != 0 {
+            bindings[v] = work[bindings[v] as usize - 1] + 1;
         }
     }
 }

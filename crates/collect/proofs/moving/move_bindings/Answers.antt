@@ -1,39 +1,38 @@
 use Prim.Native.Nat.{ℕ, ◌+◌, ◌-◌}
 use native.Mathlib.Omega.{arith}
 use lib.ListN.{get_or}
-use lib.Seq.{set-get_or}
 use Rattle.collect.proofs.Rebinding.{rebinds-set, rebinds-zero, rebinds-all}
 use Rattle.collect.proofs.moving.move_bindings.Goals as goal
-use Rattle.collect.proofs.moving.move_bindings.Goals.{else-bound-ne0, then-bound-ne0}
+use Rattle.collect.proofs.moving.move_bindings.Goals.{else-bindings-v-ne0, then-bindings-v-ne0}
 
-pub bounds-work-bound : goal.bounds-work-bound
-bounds-work-bound c =
-    let v : ℕ = c.loop-bound.bound-index in
-    let w : ℕ = get_or c.loop-bound.bindings v 0 in
-    omega (arith, (c.requires v (w - 1) (omega (arith, c.loop-bound.invariant.left v (omega arith), c.if-bound-ne0.true))).0)
+pub bounds-work-bindings : goal.bounds-work-bindings
+bounds-work-bindings c =
+    let v : ℕ = c.loop-v.v in
+    let w : ℕ = get_or c.loop-v.bindings v 0 in
+    omega (arith, (c.requires v (w - 1) (omega (arith, c.loop-v.invariant.left v (omega arith), c.if-bindings-v-ne0.true))).0)
 
-pub overflow_add-bound : goal.overflow_add-bound
-overflow_add-bound c =
-    let v : ℕ = c.loop-bound.bound-index in
-    let w : ℕ = get_or c.loop-bound.bindings v 0 in
-    omega (arith, (c.requires v (w - 1) (omega (arith, c.loop-bound.invariant.left v (omega arith), c.if-bound-ne0.true))).1)
+pub overflow_add-bindings : goal.overflow_add-bindings
+overflow_add-bindings c =
+    let v : ℕ = c.loop-v.v in
+    let w : ℕ = get_or c.loop-v.bindings v 0 in
+    omega (arith, (c.requires v (w - 1) (omega (arith, c.loop-v.invariant.left v (omega arith), c.if-bindings-v-ne0.true))).1)
 
-pub loop-bound-preserved : goal.loop-bound-preserved
-loop-bound-preserved c =
+pub loop-v-preserved : goal.loop-v-preserved
+loop-v-preserved c =
     let a = c.args in
-    let v : ℕ = c.loop-bound.bound-index in
-    let b = c.loop-bound.bindings in
-    let r = c.loop-bound.invariant in
+    let v : ℕ = c.loop-v.v in
+    let b = c.loop-v.bindings in
+    let r = c.loop-v.invariant in
     let f : ℕ → ℕ = λ k. get_or a.work.now k 0 in
-    elim c.if-bound-ne0.branch [
-      | then-bound-ne0 w ↦
+    elim c.if-bindings-v-ne0.branch [
+      | then-bindings-v-ne0 w ↦
           let k : ℕ = get_or b v 0 - 1 in
-          rw w.bindings-is (rebinds-set f a.bindings.now v b r k (f k + 1) (omega (arith, r.left v (omega arith), w.if-bound-ne0.true)) (omega arith) (omega (arith, r.long)))
-      | else-bound-ne0 w ↦
-          rw (w.bindings-is, set-get_or b v 0) (rebinds-zero f a.bindings.now v b r (omega (arith, r.left v (omega arith), w.if-bound-ne0.false)))
+          rw w.bindings-is (rebinds-set f a.bindings.now v b r k (f k + 1) (omega (arith, r.left v (omega arith), w.if-bindings-v-ne0.true)) (omega arith) (omega (arith, r.long)))
+      | else-bindings-v-ne0 w ↦
+          rw w.bindings-is (rebinds-zero f a.bindings.now v b r (omega (arith, r.left v (omega arith), w.if-bindings-v-ne0.false)))
     ]
 
 pub returns : goal.returns
 returns c =
     let a = c.args in
-    rebinds-all (λ (k : ℕ). get_or a.work.now k 0) a.bindings.now c.loop-bound.bound-index c.loop-bound.bindings (omega arith) c.loop-bound.invariant
+    rebinds-all (λ (k : ℕ). get_or a.work.now k 0) a.bindings.now c.loop-v.v c.loop-v.bindings (omega arith) c.loop-v.invariant

@@ -4,5 +4,5 @@ use lib.ListN.{get_or}
 use Rattle.collect.proofs.Rebinding.{Rebinds}
 use Rattle.collect.proofs.moving.move_bindings.Given as goal
 
-abbrev pub invariant-loop-bound : goal.invariant-loop-bound
-invariant-loop-bound l = Rebinds (λ k. get_or l.work k 0) l.initial.bindings l.bound-index l.bindings
+abbrev pub invariant-loop-v : goal.invariant-loop-v
+invariant-loop-v l = Rebinds (λ k. get_or l.work k 0) l.initial.bindings l.v l.bindings
