@@ -36,8 +36,8 @@ pub fn marshtrundle_run(
     ensures { at_return (five numbers.new) store.new bindings.new
         ≡ run_of (input table.now store.old bindings.old mark start subject units) }
 {
-    let r = run(table, store, bindings, mark, start, subject, units, None);
-    *numbers = five_numbers(r, subject, mark);
+    let ran = run(table, store, bindings, mark, start, subject, units, None);
+    *numbers = five_numbers(ran, subject, mark);
 }
 
 // The run with a signature: the same five numbers.

@@ -2,4 +2,4 @@
 use Rattle.marshtrundle.proofs.exported.marshtrundle_run.Goals as goal
 
 pub returns : goal.returns
-returns c = rw c.five_numbers.ensures c.run-r.ensures
+returns c = rw c.five_numbers.ensures c.run-ran.ensures
