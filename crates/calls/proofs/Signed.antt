@@ -1,4 +1,4 @@
--- The promises of the contract of `run_signed`, proved: where the signature is obeyed it is the run without one.
+-- The promises of the contract of `run` where a signature is lent, proved: where the signature is obeyed it is the run without one.
 use mathlib.Core.Path.{◌≡◌, refl, ap, sym, ◌∙◌, subst}
 use mathlib.Core.Bool.{Bool, true, false, true≢false}
 use mathlib.Core.Option.{Option, none, some}

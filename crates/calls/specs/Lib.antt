@@ -1,5 +1,6 @@
--- What the calls that run refuse and return, for every input, and what is promised of it in the reader's words: `run_of` is the contract
--- of `run`, `run_with` of `run_signed`, `many_of` of `run_many`, `indexed_of` and `indexed_many_of` of those with an index.
+-- What the calls that run refuse and return, for every input, and what is promised of it in the reader's words: `run_with` is the contract
+-- of `run`, and `run_of` is that where no signature is lent; `many_of` is that of `run_many`, `indexed_of` and `indexed_many_of` are those of the
+-- calls with an index.
 pub mod Outcome
 pub mod Distinct
 pub mod Refused

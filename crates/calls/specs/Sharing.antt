@@ -1,5 +1,5 @@
--- What the contracts of the calls with an index promise of their refusals, in the reader's words: of `run_indexed` and
--- `run_indexed_signed` first, then of `run_many_indexed` and `run_many_indexed_signed`. Each statement holds of everything that meets the
+-- What the contracts of the calls with an index promise of their refusals, in the reader's words: of `run_indexed`
+-- first, then of `run_many_indexed`, with a signature and without. Each statement holds of everything that meets the
 -- contract, and is proved in proofs/Sharing.antt under its name. What a run with an index does is said in meaning/specs/Shared.
 use Rattle.std.specs.Prelude.{◌≡◌, ◌≢◌, ◌↔◌, List, ℕ, ◌*◌, ◌≤◌, ◌<◌, length, replicate}
 use Rattle.std.proofs.Math.Option.{Option, some}

@@ -1,4 +1,4 @@
--- What the contract of `run_signed` promises, in the reader's words: a run that is lent a signature. Each statement holds of
+-- What the contract of `run` promises of a run that is lent a signature, in the reader's words. Each statement holds of
 -- everything that meets the contract, and is proved in proofs/Signed.antt under its name.
 use Rattle.std.specs.Prelude.{◌≡◌, ◌≢◌, ◌↔◌, List, ℕ, ◌≤◌, ◌<◌}
 use Rattle.std.proofs.Math.Option.{some}

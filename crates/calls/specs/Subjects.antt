@@ -1,4 +1,4 @@
--- What the contract of `run_many` and `run_many_signed` promises, in the reader's words. Each statement holds of everything that meets
+-- What the contract of `run_many` promises, with a signature and without, in the reader's words. Each statement holds of everything that meets
 -- the contract, and is proved in proofs/Subjects.antt under its name.
 use Rattle.std.specs.Prelude.{◌≡◌, ◌↔◌, List, [], ◌∷◌, ℕ, zero, suc, ◌*◌, ◌≤◌, ◌<◌, length, get_or, take, drop}
 use Rattle.std.proofs.Math.Option.{Option, none, some}
